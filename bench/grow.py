@@ -118,7 +118,7 @@ def into_table(copy, of_set, name, lines):
 
 def into_definitions(copy, old, new):
     """Spelling, normal form, what is plain, that a normal form is its own, and that without tables no name is another, by the row of the type that is copied."""
-    for name, start in ((MODEL + "Spell.antt", "spell"), (MODEL + "Normal.antt", "normal"), (MODEL + "Plain.antt", "is_plain_row"),
+    for name, start in ((MODEL + "Spell.antt", "spell"), (MODEL + "Normal.antt", "normal"), (MODEL + "Plain.antt", "is_formed"),
                         (LAWS + "Normals.antt", "normal_again"), (LAWS + "Unrenamed.antt", "unrenamed")):
         copy.copy_clause(name, f"{start} (tree.{old})", (f"(tree.{old})", f"(tree.{new})"))
 

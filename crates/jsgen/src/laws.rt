@@ -1,12 +1,14 @@
 // Laws over the definitions, each the contract of a function with an empty body.
-ghost use Rattle.jsgen_model.specs.Plain.{IsPlain};
+ghost use Rattle.jsgen_model.specs.Plain.{IsPlain, is_plain_by_type};
 ghost use Rattle.jsgen_rows.specs.Job.{job_plain};
+ghost use Rattle.jsgen_tree.specs.Everywhere.{Everywhere};
 
 use jsgen_rows::Job;
 
-/// The tree of each job that the reader gives is plain so far, so that a reading is promised of its text.
-pub fn jobs_are_plain(job: &Job)
-    ensures { IsPlain (job_plain job.now).program }
+/// The tree of a job that the reader gives is plain, so that a reading is promised of its text, where each node is of a type of
+/// which one is promised and has no flag set of which none is.
+pub fn jobs_plain_by_types(job: &Job)
+    ensures { Everywhere is_plain_by_type (job_plain job.now).program → IsPlain (job_plain job.now).program }
 {
     let _ = job;
 }

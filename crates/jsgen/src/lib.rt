@@ -13,7 +13,7 @@ pub use gens::{Gen, GenExpr};
 pub use jobs::{Library, check_job, print_job};
 pub use jsgen_fields::{At, InputFault};
 pub use jsgen_jobs::{JobFault, PrintJobs};
-pub use jsgen_model::{TreeFault, programs_are_plain};
+pub use jsgen_model::{TreeFault, plain_by_types};
 pub use jsgen_printer::{Context, Operator};
 pub use jsgen_rows::{Job, job_faults_are_told, read_job};
 pub use jsgen_syntax::{
@@ -22,4 +22,4 @@ pub use jsgen_syntax::{
 };
 pub use jsgen_tree as tree;
 pub use jsgen_tree::{CodegenOptions, CommentOptions, LegalComment, PrivateMappings, Scoping};
-pub use laws::jobs_are_plain;
+pub use laws::jobs_plain_by_types;

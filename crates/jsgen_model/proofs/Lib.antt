@@ -1,4 +1,4 @@
-pub mod PlainRows
+pub mod FormedRows
 pub mod Programs
 pub mod PlainPrograms
 pub mod NumberKinds

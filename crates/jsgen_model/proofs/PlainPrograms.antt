@@ -1,19 +1,53 @@
--- The plain data of every program is plain.
-use Rattle.std.proofs.Common.{refl, sym, subst}
+-- A program of which each node is plain by its type and flags is plain.
+use Rattle.std.proofs.Common.{◌≡◌, Bool, true, ◌&&◌, refl, sym, subst}
 use Rattle.std.proofs.lemmas.Bool.{and_from}
-use Rattle.jsgen_tree.specs.Tree.{Tree}
-use Rattle.jsgen_tree.specs.Plain.{node_plain, layer}
-use Rattle.jsgen_tree.specs.Rows.{program_row}
+use Rattle.jsgen_tree.specs.Tree.{Tree, node, Slots, no_slots, one, maybe, many, maybe_many, Maybe, absent, given, Trees, no_trees, more, hole, MaybeTrees, no_list, listed}
+use Rattle.jsgen_tree.specs.Everywhere.{Everywhere, EverywhereInSlots, EverywhereIfGiven, EverywhereInTrees, EverywhereIfListed}
+use Rattle.jsgen_tree.specs.Plain.{node_plain, program_plain, layer}
 use Rattle.jsgen_tree.specs.declared.nodes.Node.{Node, map-Node}
 use Rattle.jsgen_tree.specs.declared.nodes.Node.TheFolds.{ind-Node, fold-roll-Node}
 use Rattle.jsgen_tree.specs.declared.statements.Program.{Program}
-use Rattle.jsgen_model.specs.Plain.{IsPlain}
-use Rattle.jsgen_model.proofs.PlainRows.{no_hole, all_plain, module_kind}
-use Rattle.jsgen_model.proofs.Programs.{layer_is_plain}
+use Rattle.jsgen_model.specs.Plain.{IsPlain, is_plain_by_type, is_formed}
+use Rattle.jsgen_model.proofs.FormedRows.{IsFormed, no_hole, all_formed, module_kind}
+use Rattle.jsgen_model.proofs.Programs.{layer_is_formed}
 
-pub node_is_plain : (n : Node) → IsPlain (node_plain n)
+-- ---- the plain data of every program is formed
+
+node_is_formed : (n : Node) → IsFormed (node_plain n)
 unfolding node_plain
-node_is_plain = ind-Node (λ n. IsPlain (node_plain n)) (λ x y is. subst IsPlain (sym (fold-roll-Node Tree layer x)) (subst (λ z. IsPlain (layer (map-Node Node Tree node_plain z))) is (layer_is_plain (λ e. e.0) (λ e. e.1) y)))
+node_is_formed = ind-Node (λ n. IsFormed (node_plain n)) (λ x y is. subst IsFormed (sym (fold-roll-Node Tree layer x)) (subst (λ z. IsFormed (layer (map-Node Node Tree node_plain z))) is (layer_is_formed (λ e. e.0) (λ e. e.1) y)))
 
-pub program_is_plain : (p : Program Node) → IsPlain (program_row node_plain p)
-program_is_plain p = (and_from _ _ (and_from _ _ (module_kind p.kind) (no_hole _ p.directives.items)) (no_hole _ p.body.items), (all_plain _ (λ c. (refl, tt)) p.comments.items, (all_plain _ (λ d. (refl, tt)) p.directives.items, (all_plain _ (λ s. node_is_plain s.node) p.body.items, tt))))
+program_is_formed : (p : Program Node) → IsFormed (program_plain p)
+program_is_formed p = (and_from _ _ (and_from _ _ (module_kind p.kind) (no_hole _ p.directives.items)) (no_hole _ p.body.items), (all_formed _ (λ c. (refl, tt)) p.comments.items, (all_formed _ (λ d. (refl, tt)) p.directives.items, (all_formed _ (λ s. node_is_formed s.node) p.body.items, tt))))
+
+-- ---- what two tests say of each node, both say of it
+
+module _ (f g : Tree → Bool) where
+  mutual
+    pub both_everywhere : (t : Tree) → Everywhere f t → Everywhere g t → Everywhere (λ u. f u && g u) t
+    both_everywhere (node type a slots) p q = (and_from (f (node type a slots)) (g (node type a slots)) p.0 q.0, both_in_slots slots p.1 q.1)
+
+    both_in_slots : (slots : Slots) → EverywhereInSlots f slots → EverywhereInSlots g slots → EverywhereInSlots (λ u. f u && g u) slots
+    both_in_slots no_slots p q = tt
+    both_in_slots (one t slots) p q = (both_everywhere t p.0 q.0, both_in_slots slots p.1 q.1)
+    both_in_slots (maybe m slots) p q = (both_if_given m p.0 q.0, both_in_slots slots p.1 q.1)
+    both_in_slots (many ts slots) p q = (both_in_trees ts p.0 q.0, both_in_slots slots p.1 q.1)
+    both_in_slots (maybe_many ts slots) p q = (both_if_listed ts p.0 q.0, both_in_slots slots p.1 q.1)
+
+    both_if_given : (m : Maybe) → EverywhereIfGiven f m → EverywhereIfGiven g m → EverywhereIfGiven (λ u. f u && g u) m
+    both_if_given absent p q = tt
+    both_if_given (given t) p q = both_everywhere t p q
+
+    both_in_trees : (ts : Trees) → EverywhereInTrees f ts → EverywhereInTrees g ts → EverywhereInTrees (λ u. f u && g u) ts
+    both_in_trees no_trees p q = tt
+    both_in_trees (more t ts) p q = (both_everywhere t p.0 q.0, both_in_trees ts p.1 q.1)
+    both_in_trees (hole ts) p q = both_in_trees ts p q
+
+    both_if_listed : (ts : MaybeTrees) → EverywhereIfListed f ts → EverywhereIfListed g ts → EverywhereIfListed (λ u. f u && g u) ts
+    both_if_listed no_list p q = tt
+    both_if_listed (listed ts) p q = both_in_trees ts p q
+
+-- ---- the whole
+
+pub plain_by_types : (p : Program Node) → Everywhere is_plain_by_type (program_plain p) → IsPlain (program_plain p)
+plain_by_types p h = both_everywhere is_plain_by_type is_formed (program_plain p) h (program_is_formed p)

@@ -1,5 +1,5 @@
 -- Generated from tools/nodes/table.txt; edit that and run tools/nodes/generate.
--- A node of Rust is plain where its children are.
+-- A node of Rust is formed where its children are.
 use Rattle.std.proofs.Common.{refl}
 use Rattle.std.proofs.lemmas.Bool.{and_from}
 use Rattle.jsgen_tree.specs.Plain.{node_plain, layer}
@@ -11,72 +11,71 @@ use Rattle.jsgen_tree.specs.declared.sets.Declaration.{Declaration}
 use Rattle.jsgen_tree.specs.declared.sets.Statement.{Statement}
 use Rattle.jsgen_tree.specs.declared.sets.BindingPattern.{BindingPattern}
 use Rattle.jsgen_tree.proofs.Layers.{with_hole}
-use Rattle.jsgen_model.specs.Plain.{IsPlain}
-use Rattle.jsgen_model.proofs.PlainRows.{no_hole, all_plain, no_hole_changed, all_changed, all_changed_or_holes, if_given_plain, number_is_plain, string_is_plain}
+use Rattle.jsgen_model.proofs.FormedRows.{IsFormed, no_hole, all_formed, no_hole_changed, all_changed, all_changed_or_holes, if_given_formed, number_is_formed, string_is_formed}
 use Rattle.jsgen_tree.specs.declared.nodes.Node.TheOpen as opened
 use Rattle.jsgen_tree.specs.declared.sets.Expression.TheVariants as expressions
 use Rattle.jsgen_tree.specs.declared.sets.Declaration.TheVariants as declarations
 use Rattle.jsgen_tree.specs.declared.sets.Statement.TheVariants as statements
 use Rattle.jsgen_tree.specs.declared.sets.BindingPattern.TheVariants as binding_patterns
 
-module _ {A : Type 0} (f : A → Node) (h : (a : A) → IsPlain (node_plain (f a))) where
-  expression_is_plain : (n : Expression A) → IsPlain (layer (map-Node Node Tree node_plain (map-Node A Node f (opened.Expression n))))
-  expression_is_plain (expressions.IdentifierReference b) = (refl, tt)
-  expression_is_plain (expressions.ThisExpression b) = (refl, tt)
-  expression_is_plain (expressions.NullLiteral b) = (refl, tt)
-  expression_is_plain (expressions.BooleanLiteral b) = (refl, tt)
-  expression_is_plain (expressions.NumericLiteral b) = (number_is_plain b.value.span b.value.value b.value.fits, tt)
-  expression_is_plain (expressions.BigIntLiteral b) = (refl, tt)
-  expression_is_plain (expressions.StringLiteral b) = (string_is_plain b.value.value, tt)
-  expression_is_plain (expressions.BinaryExpression b) = (refl, (h b.value.left.node, (h b.value.right.node, tt)))
-  expression_is_plain (expressions.LogicalExpression b) = (refl, (h b.value.left.node, (h b.value.right.node, tt)))
-  expression_is_plain (expressions.ParenthesizedExpression b) = (refl, (h b.value.expression.node, tt))
-  expression_is_plain (expressions.StaticMemberExpression b) = (refl, (h b.value.object.node, ((refl, tt), tt)))
-  expression_is_plain (expressions.ComputedMemberExpression b) = (refl, (h b.value.object.node, (h b.value.expression.node, tt)))
-  expression_is_plain (expressions.CallExpression b) = (no_hole_changed _ _ _ b.value.arguments.items, (h b.value.callee.node, (all_changed _ _ _ (with_argument _ (λ b. (refl, (h b.value.argument.node, tt))) (λ b. h b.value.node)) b.value.arguments.items, tt)))
-  expression_is_plain (expressions.ChainExpression b) = (chain_expression_by_expression (λ n. IsPlain (layer (map-Node Node Tree node_plain (map-Node A Node f (opened.Expression (expressions.ChainExpression (record b { value = n }))))))) (λ n_expression. (λ n. (refl, ((refl, (h n_expression.value.object.node, ((refl, tt), tt))), tt)))) (λ n_expression. (λ n. (refl, ((refl, (h n_expression.value.object.node, (h n_expression.value.expression.node, tt))), tt)))) (λ n_expression. (λ n. (refl, ((no_hole_changed _ _ _ n_expression.value.arguments.items, (h n_expression.value.callee.node, (all_changed _ _ _ (with_argument _ (λ b. (refl, (h b.value.argument.node, tt))) (λ b. h b.value.node)) n_expression.value.arguments.items, tt))), tt))))) b.value
-  expression_is_plain (expressions.ArrayExpression b) = (refl, (all_changed_or_holes _ _ _ (with_hole _ tt (with_array_expression_element _ (λ b. (refl, (h b.value.argument.node, tt))) (λ b. h b.value.node))) b.value.elements.items, tt))
-  expression_is_plain (expressions.ObjectExpression b) = (no_hole_changed _ _ _ b.value.properties.items, (all_changed _ _ _ (with_object_property_kind _ (boxed_object_property_by_key _ (λ n_key. (λ n. (refl, ((refl, tt), (h n.value.value.node, tt))))) (λ n_key. (λ n. (refl, (h n_key.value.node, (h n.value.value.node, tt)))))) (λ b. (refl, (h b.value.argument.node, tt)))) b.value.properties.items, tt))
-  expression_is_plain (expressions.UnaryExpression b) = (refl, (h b.value.argument.node, tt))
-  expression_is_plain (expressions.UpdateExpression b) = (update_expression_by_argument (λ n. IsPlain (layer (map-Node Node Tree node_plain (map-Node A Node f (opened.Expression (expressions.UpdateExpression (record b { value = n }))))))) (λ n_argument. (λ n. (refl, ((refl, tt), tt)))) (λ n_argument. (λ n. (refl, ((refl, (h n_argument.value.object.node, ((refl, tt), tt))), tt)))) (λ n_argument. (λ n. (refl, ((refl, (h n_argument.value.object.node, (h n_argument.value.expression.node, tt))), tt))))) b.value
-  expression_is_plain (expressions.NewExpression b) = (no_hole_changed _ _ _ b.value.arguments.items, (h b.value.callee.node, (all_changed _ _ _ (with_argument _ (λ b. (refl, (h b.value.argument.node, tt))) (λ b. h b.value.node)) b.value.arguments.items, tt)))
-  expression_is_plain (expressions.NewTarget b) = (refl, tt)
-  expression_is_plain (expressions.Super b) = (refl, tt)
-  expression_is_plain (expressions.ConditionalExpression b) = (refl, (h b.value.test.node, (h b.value.consequent.node, (h b.value.alternate.node, tt))))
-  expression_is_plain (expressions.SequenceExpression b) = (no_hole_changed _ _ _ b.value.expressions.items, (all_changed _ _ _ (λ n. h n.node) b.value.expressions.items, tt))
-  expression_is_plain (expressions.AssignmentExpression b) = (assignment_expression_by_left (λ n. IsPlain (layer (map-Node Node Tree node_plain (map-Node A Node f (opened.Expression (expressions.AssignmentExpression (record b { value = n }))))))) (λ n_left. (λ n. (refl, ((refl, tt), (h n.right.node, tt))))) (λ n_left. (λ n. (refl, ((refl, (h n_left.value.object.node, ((refl, tt), tt))), (h n.right.node, tt))))) (λ n_left. (λ n. (refl, ((refl, (h n_left.value.object.node, (h n_left.value.expression.node, tt))), (h n.right.node, tt)))))) b.value
-  expression_is_plain (expressions.Function b) = (function_by_params (λ n. IsPlain (layer (map-Node Node Tree node_plain (map-Node A Node f (opened.Expression (expressions.Function (record b { value = n }))))))) (boxed_formal_parameters_by_rest _ (λ n_params. (function_by_body _ (λ n. (refl, (if_given_plain _ (λ b. (refl, tt)) n.id, ((no_hole_changed _ _ _ n_params.value.items.items, (all_changed _ _ _ (formal_parameter_by_initializer _ (λ n. (refl, (h n.pattern.node, (tt, tt)))) (λ n_initializer. (λ n. (refl, (h n.pattern.node, (h n_initializer.node, tt)))))) n_params.value.items.items, (tt, tt))), (tt, tt))))) (λ n_body. (λ n. (refl, (if_given_plain _ (λ b. (refl, tt)) n.id, ((no_hole_changed _ _ _ n_params.value.items.items, (all_changed _ _ _ (formal_parameter_by_initializer _ (λ n. (refl, (h n.pattern.node, (tt, tt)))) (λ n_initializer. (λ n. (refl, (h n.pattern.node, (h n_initializer.node, tt)))))) n_params.value.items.items, (tt, tt))), ((and_from _ _ (no_hole _ n_body.value.directives.items) (no_hole_changed _ _ _ n_body.value.statements.items), (all_plain _ (λ d. (refl, tt)) n_body.value.directives.items, (all_changed _ _ _ (λ n. h n.node) n_body.value.statements.items, tt))), tt)))))))) (λ n_params_rest. (λ n_params. (function_by_body _ (λ n. (refl, (if_given_plain _ (λ b. (refl, tt)) n.id, ((no_hole_changed _ _ _ n_params.value.items.items, (all_changed _ _ _ (formal_parameter_by_initializer _ (λ n. (refl, (h n.pattern.node, (tt, tt)))) (λ n_initializer. (λ n. (refl, (h n.pattern.node, (h n_initializer.node, tt)))))) n_params.value.items.items, ((refl, (h n_params_rest.value.argument.node, tt)), tt))), (tt, tt))))) (λ n_body. (λ n. (refl, (if_given_plain _ (λ b. (refl, tt)) n.id, ((no_hole_changed _ _ _ n_params.value.items.items, (all_changed _ _ _ (formal_parameter_by_initializer _ (λ n. (refl, (h n.pattern.node, (tt, tt)))) (λ n_initializer. (λ n. (refl, (h n.pattern.node, (h n_initializer.node, tt)))))) n_params.value.items.items, ((refl, (h n_params_rest.value.argument.node, tt)), tt))), ((and_from _ _ (no_hole _ n_body.value.directives.items) (no_hole_changed _ _ _ n_body.value.statements.items), (all_plain _ (λ d. (refl, tt)) n_body.value.directives.items, (all_changed _ _ _ (λ n. h n.node) n_body.value.statements.items, tt))), tt))))))))))) b.value
-  expression_is_plain (expressions.ArrowFunctionExpression b) = (arrow_function_expression_by_params (λ n. IsPlain (layer (map-Node Node Tree node_plain (map-Node A Node f (opened.Expression (expressions.ArrowFunctionExpression (record b { value = n }))))))) (boxed_formal_parameters_by_rest _ (λ n_params. (arrow_function_expression_by_body _ (λ n_body. (λ n. (refl, ((no_hole_changed _ _ _ n_params.value.items.items, (all_changed _ _ _ (formal_parameter_by_initializer _ (λ n. (refl, (h n.pattern.node, (tt, tt)))) (λ n_initializer. (λ n. (refl, (h n.pattern.node, (h n_initializer.node, tt)))))) n_params.value.items.items, (tt, tt))), ((and_from _ _ (no_hole _ n_body.value.directives.items) (no_hole_changed _ _ _ n_body.value.statements.items), (all_plain _ (λ d. (refl, tt)) n_body.value.directives.items, (all_changed _ _ _ (λ n. h n.node) n_body.value.statements.items, tt))), tt))))) (λ n_body. (λ n. (refl, ((no_hole_changed _ _ _ n_params.value.items.items, (all_changed _ _ _ (formal_parameter_by_initializer _ (λ n. (refl, (h n.pattern.node, (tt, tt)))) (λ n_initializer. (λ n. (refl, (h n.pattern.node, (h n_initializer.node, tt)))))) n_params.value.items.items, (tt, tt))), (h n_body.value.node, tt))))))) (λ n_params_rest. (λ n_params. (arrow_function_expression_by_body _ (λ n_body. (λ n. (refl, ((no_hole_changed _ _ _ n_params.value.items.items, (all_changed _ _ _ (formal_parameter_by_initializer _ (λ n. (refl, (h n.pattern.node, (tt, tt)))) (λ n_initializer. (λ n. (refl, (h n.pattern.node, (h n_initializer.node, tt)))))) n_params.value.items.items, ((refl, (h n_params_rest.value.argument.node, tt)), tt))), ((and_from _ _ (no_hole _ n_body.value.directives.items) (no_hole_changed _ _ _ n_body.value.statements.items), (all_plain _ (λ d. (refl, tt)) n_body.value.directives.items, (all_changed _ _ _ (λ n. h n.node) n_body.value.statements.items, tt))), tt))))) (λ n_body. (λ n. (refl, ((no_hole_changed _ _ _ n_params.value.items.items, (all_changed _ _ _ (formal_parameter_by_initializer _ (λ n. (refl, (h n.pattern.node, (tt, tt)))) (λ n_initializer. (λ n. (refl, (h n.pattern.node, (h n_initializer.node, tt)))))) n_params.value.items.items, ((refl, (h n_params_rest.value.argument.node, tt)), tt))), (h n_body.value.node, tt)))))))))) b.value
+module _ {A : Type 0} (f : A → Node) (h : (a : A) → IsFormed (node_plain (f a))) where
+  expression_is_formed : (n : Expression A) → IsFormed (layer (map-Node Node Tree node_plain (map-Node A Node f (opened.Expression n))))
+  expression_is_formed (expressions.IdentifierReference b) = (refl, tt)
+  expression_is_formed (expressions.ThisExpression b) = (refl, tt)
+  expression_is_formed (expressions.NullLiteral b) = (refl, tt)
+  expression_is_formed (expressions.BooleanLiteral b) = (refl, tt)
+  expression_is_formed (expressions.NumericLiteral b) = (number_is_formed b.value.span b.value.value b.value.fits, tt)
+  expression_is_formed (expressions.BigIntLiteral b) = (refl, tt)
+  expression_is_formed (expressions.StringLiteral b) = (string_is_formed b.value.value, tt)
+  expression_is_formed (expressions.BinaryExpression b) = (refl, (h b.value.left.node, (h b.value.right.node, tt)))
+  expression_is_formed (expressions.LogicalExpression b) = (refl, (h b.value.left.node, (h b.value.right.node, tt)))
+  expression_is_formed (expressions.ParenthesizedExpression b) = (refl, (h b.value.expression.node, tt))
+  expression_is_formed (expressions.StaticMemberExpression b) = (refl, (h b.value.object.node, ((refl, tt), tt)))
+  expression_is_formed (expressions.ComputedMemberExpression b) = (refl, (h b.value.object.node, (h b.value.expression.node, tt)))
+  expression_is_formed (expressions.CallExpression b) = (no_hole_changed _ _ _ b.value.arguments.items, (h b.value.callee.node, (all_changed _ _ _ (with_argument _ (λ b. (refl, (h b.value.argument.node, tt))) (λ b. h b.value.node)) b.value.arguments.items, tt)))
+  expression_is_formed (expressions.ChainExpression b) = (chain_expression_by_expression (λ n. IsFormed (layer (map-Node Node Tree node_plain (map-Node A Node f (opened.Expression (expressions.ChainExpression (record b { value = n }))))))) (λ n_expression. (λ n. (refl, ((refl, (h n_expression.value.object.node, ((refl, tt), tt))), tt)))) (λ n_expression. (λ n. (refl, ((refl, (h n_expression.value.object.node, (h n_expression.value.expression.node, tt))), tt)))) (λ n_expression. (λ n. (refl, ((no_hole_changed _ _ _ n_expression.value.arguments.items, (h n_expression.value.callee.node, (all_changed _ _ _ (with_argument _ (λ b. (refl, (h b.value.argument.node, tt))) (λ b. h b.value.node)) n_expression.value.arguments.items, tt))), tt))))) b.value
+  expression_is_formed (expressions.ArrayExpression b) = (refl, (all_changed_or_holes _ _ _ (with_hole _ tt (with_array_expression_element _ (λ b. (refl, (h b.value.argument.node, tt))) (λ b. h b.value.node))) b.value.elements.items, tt))
+  expression_is_formed (expressions.ObjectExpression b) = (no_hole_changed _ _ _ b.value.properties.items, (all_changed _ _ _ (with_object_property_kind _ (boxed_object_property_by_key _ (λ n_key. (λ n. (refl, ((refl, tt), (h n.value.value.node, tt))))) (λ n_key. (λ n. (refl, (h n_key.value.node, (h n.value.value.node, tt)))))) (λ b. (refl, (h b.value.argument.node, tt)))) b.value.properties.items, tt))
+  expression_is_formed (expressions.UnaryExpression b) = (refl, (h b.value.argument.node, tt))
+  expression_is_formed (expressions.UpdateExpression b) = (update_expression_by_argument (λ n. IsFormed (layer (map-Node Node Tree node_plain (map-Node A Node f (opened.Expression (expressions.UpdateExpression (record b { value = n }))))))) (λ n_argument. (λ n. (refl, ((refl, tt), tt)))) (λ n_argument. (λ n. (refl, ((refl, (h n_argument.value.object.node, ((refl, tt), tt))), tt)))) (λ n_argument. (λ n. (refl, ((refl, (h n_argument.value.object.node, (h n_argument.value.expression.node, tt))), tt))))) b.value
+  expression_is_formed (expressions.NewExpression b) = (no_hole_changed _ _ _ b.value.arguments.items, (h b.value.callee.node, (all_changed _ _ _ (with_argument _ (λ b. (refl, (h b.value.argument.node, tt))) (λ b. h b.value.node)) b.value.arguments.items, tt)))
+  expression_is_formed (expressions.NewTarget b) = (refl, tt)
+  expression_is_formed (expressions.Super b) = (refl, tt)
+  expression_is_formed (expressions.ConditionalExpression b) = (refl, (h b.value.test.node, (h b.value.consequent.node, (h b.value.alternate.node, tt))))
+  expression_is_formed (expressions.SequenceExpression b) = (no_hole_changed _ _ _ b.value.expressions.items, (all_changed _ _ _ (λ n. h n.node) b.value.expressions.items, tt))
+  expression_is_formed (expressions.AssignmentExpression b) = (assignment_expression_by_left (λ n. IsFormed (layer (map-Node Node Tree node_plain (map-Node A Node f (opened.Expression (expressions.AssignmentExpression (record b { value = n }))))))) (λ n_left. (λ n. (refl, ((refl, tt), (h n.right.node, tt))))) (λ n_left. (λ n. (refl, ((refl, (h n_left.value.object.node, ((refl, tt), tt))), (h n.right.node, tt))))) (λ n_left. (λ n. (refl, ((refl, (h n_left.value.object.node, (h n_left.value.expression.node, tt))), (h n.right.node, tt)))))) b.value
+  expression_is_formed (expressions.Function b) = (function_by_params (λ n. IsFormed (layer (map-Node Node Tree node_plain (map-Node A Node f (opened.Expression (expressions.Function (record b { value = n }))))))) (boxed_formal_parameters_by_rest _ (λ n_params. (function_by_body _ (λ n. (refl, (if_given_formed _ (λ b. (refl, tt)) n.id, ((no_hole_changed _ _ _ n_params.value.items.items, (all_changed _ _ _ (formal_parameter_by_initializer _ (λ n. (refl, (h n.pattern.node, (tt, tt)))) (λ n_initializer. (λ n. (refl, (h n.pattern.node, (h n_initializer.node, tt)))))) n_params.value.items.items, (tt, tt))), (tt, tt))))) (λ n_body. (λ n. (refl, (if_given_formed _ (λ b. (refl, tt)) n.id, ((no_hole_changed _ _ _ n_params.value.items.items, (all_changed _ _ _ (formal_parameter_by_initializer _ (λ n. (refl, (h n.pattern.node, (tt, tt)))) (λ n_initializer. (λ n. (refl, (h n.pattern.node, (h n_initializer.node, tt)))))) n_params.value.items.items, (tt, tt))), ((and_from _ _ (no_hole _ n_body.value.directives.items) (no_hole_changed _ _ _ n_body.value.statements.items), (all_formed _ (λ d. (refl, tt)) n_body.value.directives.items, (all_changed _ _ _ (λ n. h n.node) n_body.value.statements.items, tt))), tt)))))))) (λ n_params_rest. (λ n_params. (function_by_body _ (λ n. (refl, (if_given_formed _ (λ b. (refl, tt)) n.id, ((no_hole_changed _ _ _ n_params.value.items.items, (all_changed _ _ _ (formal_parameter_by_initializer _ (λ n. (refl, (h n.pattern.node, (tt, tt)))) (λ n_initializer. (λ n. (refl, (h n.pattern.node, (h n_initializer.node, tt)))))) n_params.value.items.items, ((refl, (h n_params_rest.value.argument.node, tt)), tt))), (tt, tt))))) (λ n_body. (λ n. (refl, (if_given_formed _ (λ b. (refl, tt)) n.id, ((no_hole_changed _ _ _ n_params.value.items.items, (all_changed _ _ _ (formal_parameter_by_initializer _ (λ n. (refl, (h n.pattern.node, (tt, tt)))) (λ n_initializer. (λ n. (refl, (h n.pattern.node, (h n_initializer.node, tt)))))) n_params.value.items.items, ((refl, (h n_params_rest.value.argument.node, tt)), tt))), ((and_from _ _ (no_hole _ n_body.value.directives.items) (no_hole_changed _ _ _ n_body.value.statements.items), (all_formed _ (λ d. (refl, tt)) n_body.value.directives.items, (all_changed _ _ _ (λ n. h n.node) n_body.value.statements.items, tt))), tt))))))))))) b.value
+  expression_is_formed (expressions.ArrowFunctionExpression b) = (arrow_function_expression_by_params (λ n. IsFormed (layer (map-Node Node Tree node_plain (map-Node A Node f (opened.Expression (expressions.ArrowFunctionExpression (record b { value = n }))))))) (boxed_formal_parameters_by_rest _ (λ n_params. (arrow_function_expression_by_body _ (λ n_body. (λ n. (refl, ((no_hole_changed _ _ _ n_params.value.items.items, (all_changed _ _ _ (formal_parameter_by_initializer _ (λ n. (refl, (h n.pattern.node, (tt, tt)))) (λ n_initializer. (λ n. (refl, (h n.pattern.node, (h n_initializer.node, tt)))))) n_params.value.items.items, (tt, tt))), ((and_from _ _ (no_hole _ n_body.value.directives.items) (no_hole_changed _ _ _ n_body.value.statements.items), (all_formed _ (λ d. (refl, tt)) n_body.value.directives.items, (all_changed _ _ _ (λ n. h n.node) n_body.value.statements.items, tt))), tt))))) (λ n_body. (λ n. (refl, ((no_hole_changed _ _ _ n_params.value.items.items, (all_changed _ _ _ (formal_parameter_by_initializer _ (λ n. (refl, (h n.pattern.node, (tt, tt)))) (λ n_initializer. (λ n. (refl, (h n.pattern.node, (h n_initializer.node, tt)))))) n_params.value.items.items, (tt, tt))), (h n_body.value.node, tt))))))) (λ n_params_rest. (λ n_params. (arrow_function_expression_by_body _ (λ n_body. (λ n. (refl, ((no_hole_changed _ _ _ n_params.value.items.items, (all_changed _ _ _ (formal_parameter_by_initializer _ (λ n. (refl, (h n.pattern.node, (tt, tt)))) (λ n_initializer. (λ n. (refl, (h n.pattern.node, (h n_initializer.node, tt)))))) n_params.value.items.items, ((refl, (h n_params_rest.value.argument.node, tt)), tt))), ((and_from _ _ (no_hole _ n_body.value.directives.items) (no_hole_changed _ _ _ n_body.value.statements.items), (all_formed _ (λ d. (refl, tt)) n_body.value.directives.items, (all_changed _ _ _ (λ n. h n.node) n_body.value.statements.items, tt))), tt))))) (λ n_body. (λ n. (refl, ((no_hole_changed _ _ _ n_params.value.items.items, (all_changed _ _ _ (formal_parameter_by_initializer _ (λ n. (refl, (h n.pattern.node, (tt, tt)))) (λ n_initializer. (λ n. (refl, (h n.pattern.node, (h n_initializer.node, tt)))))) n_params.value.items.items, ((refl, (h n_params_rest.value.argument.node, tt)), tt))), (h n_body.value.node, tt)))))))))) b.value
 
-  declaration_is_plain : (n : Declaration A) → IsPlain (layer (map-Node Node Tree node_plain (map-Node A Node f (opened.Declaration n))))
-  declaration_is_plain (declarations.VariableDeclaration b) = (no_hole_changed _ _ _ b.value.declarations.items, (all_changed _ _ _ (variable_declarator_by_init _ (λ n. (refl, (h n.id.node, (tt, tt)))) (λ n_init. (λ n. (refl, (h n.id.node, (h n_init.node, tt)))))) b.value.declarations.items, tt))
-  declaration_is_plain (declarations.Function b) = (function_by_params (λ n. IsPlain (layer (map-Node Node Tree node_plain (map-Node A Node f (opened.Declaration (declarations.Function (record b { value = n }))))))) (boxed_formal_parameters_by_rest _ (λ n_params. (function_by_body _ (λ n. (refl, (if_given_plain _ (λ b. (refl, tt)) n.id, ((no_hole_changed _ _ _ n_params.value.items.items, (all_changed _ _ _ (formal_parameter_by_initializer _ (λ n. (refl, (h n.pattern.node, (tt, tt)))) (λ n_initializer. (λ n. (refl, (h n.pattern.node, (h n_initializer.node, tt)))))) n_params.value.items.items, (tt, tt))), (tt, tt))))) (λ n_body. (λ n. (refl, (if_given_plain _ (λ b. (refl, tt)) n.id, ((no_hole_changed _ _ _ n_params.value.items.items, (all_changed _ _ _ (formal_parameter_by_initializer _ (λ n. (refl, (h n.pattern.node, (tt, tt)))) (λ n_initializer. (λ n. (refl, (h n.pattern.node, (h n_initializer.node, tt)))))) n_params.value.items.items, (tt, tt))), ((and_from _ _ (no_hole _ n_body.value.directives.items) (no_hole_changed _ _ _ n_body.value.statements.items), (all_plain _ (λ d. (refl, tt)) n_body.value.directives.items, (all_changed _ _ _ (λ n. h n.node) n_body.value.statements.items, tt))), tt)))))))) (λ n_params_rest. (λ n_params. (function_by_body _ (λ n. (refl, (if_given_plain _ (λ b. (refl, tt)) n.id, ((no_hole_changed _ _ _ n_params.value.items.items, (all_changed _ _ _ (formal_parameter_by_initializer _ (λ n. (refl, (h n.pattern.node, (tt, tt)))) (λ n_initializer. (λ n. (refl, (h n.pattern.node, (h n_initializer.node, tt)))))) n_params.value.items.items, ((refl, (h n_params_rest.value.argument.node, tt)), tt))), (tt, tt))))) (λ n_body. (λ n. (refl, (if_given_plain _ (λ b. (refl, tt)) n.id, ((no_hole_changed _ _ _ n_params.value.items.items, (all_changed _ _ _ (formal_parameter_by_initializer _ (λ n. (refl, (h n.pattern.node, (tt, tt)))) (λ n_initializer. (λ n. (refl, (h n.pattern.node, (h n_initializer.node, tt)))))) n_params.value.items.items, ((refl, (h n_params_rest.value.argument.node, tt)), tt))), ((and_from _ _ (no_hole _ n_body.value.directives.items) (no_hole_changed _ _ _ n_body.value.statements.items), (all_plain _ (λ d. (refl, tt)) n_body.value.directives.items, (all_changed _ _ _ (λ n. h n.node) n_body.value.statements.items, tt))), tt))))))))))) b.value
+  declaration_is_formed : (n : Declaration A) → IsFormed (layer (map-Node Node Tree node_plain (map-Node A Node f (opened.Declaration n))))
+  declaration_is_formed (declarations.VariableDeclaration b) = (no_hole_changed _ _ _ b.value.declarations.items, (all_changed _ _ _ (variable_declarator_by_init _ (λ n. (refl, (h n.id.node, (tt, tt)))) (λ n_init. (λ n. (refl, (h n.id.node, (h n_init.node, tt)))))) b.value.declarations.items, tt))
+  declaration_is_formed (declarations.Function b) = (function_by_params (λ n. IsFormed (layer (map-Node Node Tree node_plain (map-Node A Node f (opened.Declaration (declarations.Function (record b { value = n }))))))) (boxed_formal_parameters_by_rest _ (λ n_params. (function_by_body _ (λ n. (refl, (if_given_formed _ (λ b. (refl, tt)) n.id, ((no_hole_changed _ _ _ n_params.value.items.items, (all_changed _ _ _ (formal_parameter_by_initializer _ (λ n. (refl, (h n.pattern.node, (tt, tt)))) (λ n_initializer. (λ n. (refl, (h n.pattern.node, (h n_initializer.node, tt)))))) n_params.value.items.items, (tt, tt))), (tt, tt))))) (λ n_body. (λ n. (refl, (if_given_formed _ (λ b. (refl, tt)) n.id, ((no_hole_changed _ _ _ n_params.value.items.items, (all_changed _ _ _ (formal_parameter_by_initializer _ (λ n. (refl, (h n.pattern.node, (tt, tt)))) (λ n_initializer. (λ n. (refl, (h n.pattern.node, (h n_initializer.node, tt)))))) n_params.value.items.items, (tt, tt))), ((and_from _ _ (no_hole _ n_body.value.directives.items) (no_hole_changed _ _ _ n_body.value.statements.items), (all_formed _ (λ d. (refl, tt)) n_body.value.directives.items, (all_changed _ _ _ (λ n. h n.node) n_body.value.statements.items, tt))), tt)))))))) (λ n_params_rest. (λ n_params. (function_by_body _ (λ n. (refl, (if_given_formed _ (λ b. (refl, tt)) n.id, ((no_hole_changed _ _ _ n_params.value.items.items, (all_changed _ _ _ (formal_parameter_by_initializer _ (λ n. (refl, (h n.pattern.node, (tt, tt)))) (λ n_initializer. (λ n. (refl, (h n.pattern.node, (h n_initializer.node, tt)))))) n_params.value.items.items, ((refl, (h n_params_rest.value.argument.node, tt)), tt))), (tt, tt))))) (λ n_body. (λ n. (refl, (if_given_formed _ (λ b. (refl, tt)) n.id, ((no_hole_changed _ _ _ n_params.value.items.items, (all_changed _ _ _ (formal_parameter_by_initializer _ (λ n. (refl, (h n.pattern.node, (tt, tt)))) (λ n_initializer. (λ n. (refl, (h n.pattern.node, (h n_initializer.node, tt)))))) n_params.value.items.items, ((refl, (h n_params_rest.value.argument.node, tt)), tt))), ((and_from _ _ (no_hole _ n_body.value.directives.items) (no_hole_changed _ _ _ n_body.value.statements.items), (all_formed _ (λ d. (refl, tt)) n_body.value.directives.items, (all_changed _ _ _ (λ n. h n.node) n_body.value.statements.items, tt))), tt))))))))))) b.value
 
-  statement_is_plain : (n : Statement A) → IsPlain (layer (map-Node Node Tree node_plain (map-Node A Node f (opened.Statement n))))
-  statement_is_plain (statements.Declaration b) = h b.value.node
-  statement_is_plain (statements.ExpressionStatement b) = (refl, (h b.value.expression.node, tt))
-  statement_is_plain (statements.BlockStatement b) = (no_hole_changed _ _ _ b.value.body.items, (all_changed _ _ _ (λ n. h n.node) b.value.body.items, tt))
-  statement_is_plain (statements.IfStatement b) = (if_statement_by_alternate (λ n. IsPlain (layer (map-Node Node Tree node_plain (map-Node A Node f (opened.Statement (statements.IfStatement (record b { value = n }))))))) (λ n. (refl, (h n.test.node, (h n.consequent.node, (tt, tt))))) (λ n_alternate. (λ n. (refl, (h n.test.node, (h n.consequent.node, (h n_alternate.node, tt))))))) b.value
-  statement_is_plain (statements.EmptyStatement b) = (refl, tt)
-  statement_is_plain (statements.ForStatement b) = (for_statement_by_init (λ n. IsPlain (layer (map-Node Node Tree node_plain (map-Node A Node f (opened.Statement (statements.ForStatement (record b { value = n }))))))) (for_statement_by_test _ (for_statement_by_update _ (λ n. (refl, (tt, (tt, (tt, (h n.body.node, tt)))))) (λ n_update. (λ n. (refl, (tt, (tt, (h n_update.node, (h n.body.node, tt)))))))) (λ n_test. (for_statement_by_update _ (λ n. (refl, (tt, (h n_test.node, (tt, (h n.body.node, tt)))))) (λ n_update. (λ n. (refl, (tt, (h n_test.node, (h n_update.node, (h n.body.node, tt)))))))))) (λ n_init. (for_statement_by_test _ (for_statement_by_update _ (λ n. (refl, ((no_hole_changed _ _ _ n_init.value.declarations.items, (all_changed _ _ _ (variable_declarator_by_init _ (λ n. (refl, (h n.id.node, (tt, tt)))) (λ n_init. (λ n. (refl, (h n.id.node, (h n_init.node, tt)))))) n_init.value.declarations.items, tt)), (tt, (tt, (h n.body.node, tt)))))) (λ n_update. (λ n. (refl, ((no_hole_changed _ _ _ n_init.value.declarations.items, (all_changed _ _ _ (variable_declarator_by_init _ (λ n. (refl, (h n.id.node, (tt, tt)))) (λ n_init. (λ n. (refl, (h n.id.node, (h n_init.node, tt)))))) n_init.value.declarations.items, tt)), (tt, (h n_update.node, (h n.body.node, tt)))))))) (λ n_test. (for_statement_by_update _ (λ n. (refl, ((no_hole_changed _ _ _ n_init.value.declarations.items, (all_changed _ _ _ (variable_declarator_by_init _ (λ n. (refl, (h n.id.node, (tt, tt)))) (λ n_init. (λ n. (refl, (h n.id.node, (h n_init.node, tt)))))) n_init.value.declarations.items, tt)), (h n_test.node, (tt, (h n.body.node, tt)))))) (λ n_update. (λ n. (refl, ((no_hole_changed _ _ _ n_init.value.declarations.items, (all_changed _ _ _ (variable_declarator_by_init _ (λ n. (refl, (h n.id.node, (tt, tt)))) (λ n_init. (λ n. (refl, (h n.id.node, (h n_init.node, tt)))))) n_init.value.declarations.items, tt)), (h n_test.node, (h n_update.node, (h n.body.node, tt))))))))))) (λ n_init. (for_statement_by_test _ (for_statement_by_update _ (λ n. (refl, (h n_init.value.node, (tt, (tt, (h n.body.node, tt)))))) (λ n_update. (λ n. (refl, (h n_init.value.node, (tt, (h n_update.node, (h n.body.node, tt)))))))) (λ n_test. (for_statement_by_update _ (λ n. (refl, (h n_init.value.node, (h n_test.node, (tt, (h n.body.node, tt)))))) (λ n_update. (λ n. (refl, (h n_init.value.node, (h n_test.node, (h n_update.node, (h n.body.node, tt)))))))))))) b.value
-  statement_is_plain (statements.ForInStatement b) = (for_in_statement_by_left (λ n. IsPlain (layer (map-Node Node Tree node_plain (map-Node A Node f (opened.Statement (statements.ForInStatement (record b { value = n }))))))) (λ n_left. (λ n. (refl, ((no_hole_changed _ _ _ n_left.value.declarations.items, (all_changed _ _ _ (variable_declarator_by_init _ (λ n. (refl, (h n.id.node, (tt, tt)))) (λ n_init. (λ n. (refl, (h n.id.node, (h n_init.node, tt)))))) n_left.value.declarations.items, tt)), (h n.right.node, (h n.body.node, tt)))))) (λ n_left. (λ n. (refl, ((refl, tt), (h n.right.node, (h n.body.node, tt)))))) (λ n_left. (λ n. (refl, ((refl, (h n_left.value.object.node, ((refl, tt), tt))), (h n.right.node, (h n.body.node, tt)))))) (λ n_left. (λ n. (refl, ((refl, (h n_left.value.object.node, (h n_left.value.expression.node, tt))), (h n.right.node, (h n.body.node, tt))))))) b.value
-  statement_is_plain (statements.ForOfStatement b) = (for_of_statement_by_left (λ n. IsPlain (layer (map-Node Node Tree node_plain (map-Node A Node f (opened.Statement (statements.ForOfStatement (record b { value = n }))))))) (λ n_left. (λ n. (refl, ((no_hole_changed _ _ _ n_left.value.declarations.items, (all_changed _ _ _ (variable_declarator_by_init _ (λ n. (refl, (h n.id.node, (tt, tt)))) (λ n_init. (λ n. (refl, (h n.id.node, (h n_init.node, tt)))))) n_left.value.declarations.items, tt)), (h n.right.node, (h n.body.node, tt)))))) (λ n_left. (λ n. (refl, ((refl, tt), (h n.right.node, (h n.body.node, tt)))))) (λ n_left. (λ n. (refl, ((refl, (h n_left.value.object.node, ((refl, tt), tt))), (h n.right.node, (h n.body.node, tt)))))) (λ n_left. (λ n. (refl, ((refl, (h n_left.value.object.node, (h n_left.value.expression.node, tt))), (h n.right.node, (h n.body.node, tt))))))) b.value
-  statement_is_plain (statements.WhileStatement b) = (refl, (h b.value.test.node, (h b.value.body.node, tt)))
-  statement_is_plain (statements.DoWhileStatement b) = (refl, (h b.value.body.node, (h b.value.test.node, tt)))
-  statement_is_plain (statements.LabeledStatement b) = (refl, ((refl, tt), (h b.value.body.node, tt)))
-  statement_is_plain (statements.ContinueStatement b) = (refl, (if_given_plain _ (λ b. (refl, tt)) b.value.label, tt))
-  statement_is_plain (statements.BreakStatement b) = (refl, (if_given_plain _ (λ b. (refl, tt)) b.value.label, tt))
-  statement_is_plain (statements.ReturnStatement b) = (return_statement_by_argument (λ n. IsPlain (layer (map-Node Node Tree node_plain (map-Node A Node f (opened.Statement (statements.ReturnStatement (record b { value = n }))))))) (λ n. (refl, (tt, tt))) (λ n_argument. (λ n. (refl, (h n_argument.node, tt))))) b.value
-  statement_is_plain (statements.ThrowStatement b) = (refl, (h b.value.argument.node, tt))
-  statement_is_plain (statements.DebuggerStatement b) = (refl, tt)
-  statement_is_plain (statements.SwitchStatement b) = (no_hole_changed _ _ _ b.value.cases.items, (h b.value.discriminant.node, (all_changed _ _ _ (switch_case_by_test _ (λ n. (no_hole_changed _ _ _ n.consequent.items, (tt, (all_changed _ _ _ (λ n. h n.node) n.consequent.items, tt)))) (λ n_test. (λ n. (no_hole_changed _ _ _ n.consequent.items, (h n_test.node, (all_changed _ _ _ (λ n. h n.node) n.consequent.items, tt)))))) b.value.cases.items, tt)))
-  statement_is_plain (statements.TryStatement b) = (try_statement_by_handler (λ n. IsPlain (layer (map-Node Node Tree node_plain (map-Node A Node f (opened.Statement (statements.TryStatement (record b { value = n }))))))) (try_statement_by_finalizer _ (λ n. (refl, ((no_hole_changed _ _ _ n.block.value.body.items, (all_changed _ _ _ (λ n. h n.node) n.block.value.body.items, tt)), (tt, (tt, tt))))) (λ n_finalizer. (λ n. (refl, ((no_hole_changed _ _ _ n.block.value.body.items, (all_changed _ _ _ (λ n. h n.node) n.block.value.body.items, tt)), (tt, ((no_hole_changed _ _ _ n_finalizer.value.body.items, (all_changed _ _ _ (λ n. h n.node) n_finalizer.value.body.items, tt)), tt))))))) (boxed_catch_clause_by_param _ (λ n_handler. (try_statement_by_finalizer _ (λ n. (refl, ((no_hole_changed _ _ _ n.block.value.body.items, (all_changed _ _ _ (λ n. h n.node) n.block.value.body.items, tt)), ((refl, (tt, ((no_hole_changed _ _ _ n_handler.value.body.value.body.items, (all_changed _ _ _ (λ n. h n.node) n_handler.value.body.value.body.items, tt)), tt))), (tt, tt))))) (λ n_finalizer. (λ n. (refl, ((no_hole_changed _ _ _ n.block.value.body.items, (all_changed _ _ _ (λ n. h n.node) n.block.value.body.items, tt)), ((refl, (tt, ((no_hole_changed _ _ _ n_handler.value.body.value.body.items, (all_changed _ _ _ (λ n. h n.node) n_handler.value.body.value.body.items, tt)), tt))), ((no_hole_changed _ _ _ n_finalizer.value.body.items, (all_changed _ _ _ (λ n. h n.node) n_finalizer.value.body.items, tt)), tt)))))))) (λ n_handler_param. (λ n_handler. (try_statement_by_finalizer _ (λ n. (refl, ((no_hole_changed _ _ _ n.block.value.body.items, (all_changed _ _ _ (λ n. h n.node) n.block.value.body.items, tt)), ((refl, (h n_handler_param.node, ((no_hole_changed _ _ _ n_handler.value.body.value.body.items, (all_changed _ _ _ (λ n. h n.node) n_handler.value.body.value.body.items, tt)), tt))), (tt, tt))))) (λ n_finalizer. (λ n. (refl, ((no_hole_changed _ _ _ n.block.value.body.items, (all_changed _ _ _ (λ n. h n.node) n.block.value.body.items, tt)), ((refl, (h n_handler_param.node, ((no_hole_changed _ _ _ n_handler.value.body.value.body.items, (all_changed _ _ _ (λ n. h n.node) n_handler.value.body.value.body.items, tt)), tt))), ((no_hole_changed _ _ _ n_finalizer.value.body.items, (all_changed _ _ _ (λ n. h n.node) n_finalizer.value.body.items, tt)), tt))))))))))) b.value
+  statement_is_formed : (n : Statement A) → IsFormed (layer (map-Node Node Tree node_plain (map-Node A Node f (opened.Statement n))))
+  statement_is_formed (statements.Declaration b) = h b.value.node
+  statement_is_formed (statements.ExpressionStatement b) = (refl, (h b.value.expression.node, tt))
+  statement_is_formed (statements.BlockStatement b) = (no_hole_changed _ _ _ b.value.body.items, (all_changed _ _ _ (λ n. h n.node) b.value.body.items, tt))
+  statement_is_formed (statements.IfStatement b) = (if_statement_by_alternate (λ n. IsFormed (layer (map-Node Node Tree node_plain (map-Node A Node f (opened.Statement (statements.IfStatement (record b { value = n }))))))) (λ n. (refl, (h n.test.node, (h n.consequent.node, (tt, tt))))) (λ n_alternate. (λ n. (refl, (h n.test.node, (h n.consequent.node, (h n_alternate.node, tt))))))) b.value
+  statement_is_formed (statements.EmptyStatement b) = (refl, tt)
+  statement_is_formed (statements.ForStatement b) = (for_statement_by_init (λ n. IsFormed (layer (map-Node Node Tree node_plain (map-Node A Node f (opened.Statement (statements.ForStatement (record b { value = n }))))))) (for_statement_by_test _ (for_statement_by_update _ (λ n. (refl, (tt, (tt, (tt, (h n.body.node, tt)))))) (λ n_update. (λ n. (refl, (tt, (tt, (h n_update.node, (h n.body.node, tt)))))))) (λ n_test. (for_statement_by_update _ (λ n. (refl, (tt, (h n_test.node, (tt, (h n.body.node, tt)))))) (λ n_update. (λ n. (refl, (tt, (h n_test.node, (h n_update.node, (h n.body.node, tt)))))))))) (λ n_init. (for_statement_by_test _ (for_statement_by_update _ (λ n. (refl, ((no_hole_changed _ _ _ n_init.value.declarations.items, (all_changed _ _ _ (variable_declarator_by_init _ (λ n. (refl, (h n.id.node, (tt, tt)))) (λ n_init. (λ n. (refl, (h n.id.node, (h n_init.node, tt)))))) n_init.value.declarations.items, tt)), (tt, (tt, (h n.body.node, tt)))))) (λ n_update. (λ n. (refl, ((no_hole_changed _ _ _ n_init.value.declarations.items, (all_changed _ _ _ (variable_declarator_by_init _ (λ n. (refl, (h n.id.node, (tt, tt)))) (λ n_init. (λ n. (refl, (h n.id.node, (h n_init.node, tt)))))) n_init.value.declarations.items, tt)), (tt, (h n_update.node, (h n.body.node, tt)))))))) (λ n_test. (for_statement_by_update _ (λ n. (refl, ((no_hole_changed _ _ _ n_init.value.declarations.items, (all_changed _ _ _ (variable_declarator_by_init _ (λ n. (refl, (h n.id.node, (tt, tt)))) (λ n_init. (λ n. (refl, (h n.id.node, (h n_init.node, tt)))))) n_init.value.declarations.items, tt)), (h n_test.node, (tt, (h n.body.node, tt)))))) (λ n_update. (λ n. (refl, ((no_hole_changed _ _ _ n_init.value.declarations.items, (all_changed _ _ _ (variable_declarator_by_init _ (λ n. (refl, (h n.id.node, (tt, tt)))) (λ n_init. (λ n. (refl, (h n.id.node, (h n_init.node, tt)))))) n_init.value.declarations.items, tt)), (h n_test.node, (h n_update.node, (h n.body.node, tt))))))))))) (λ n_init. (for_statement_by_test _ (for_statement_by_update _ (λ n. (refl, (h n_init.value.node, (tt, (tt, (h n.body.node, tt)))))) (λ n_update. (λ n. (refl, (h n_init.value.node, (tt, (h n_update.node, (h n.body.node, tt)))))))) (λ n_test. (for_statement_by_update _ (λ n. (refl, (h n_init.value.node, (h n_test.node, (tt, (h n.body.node, tt)))))) (λ n_update. (λ n. (refl, (h n_init.value.node, (h n_test.node, (h n_update.node, (h n.body.node, tt)))))))))))) b.value
+  statement_is_formed (statements.ForInStatement b) = (for_in_statement_by_left (λ n. IsFormed (layer (map-Node Node Tree node_plain (map-Node A Node f (opened.Statement (statements.ForInStatement (record b { value = n }))))))) (λ n_left. (λ n. (refl, ((no_hole_changed _ _ _ n_left.value.declarations.items, (all_changed _ _ _ (variable_declarator_by_init _ (λ n. (refl, (h n.id.node, (tt, tt)))) (λ n_init. (λ n. (refl, (h n.id.node, (h n_init.node, tt)))))) n_left.value.declarations.items, tt)), (h n.right.node, (h n.body.node, tt)))))) (λ n_left. (λ n. (refl, ((refl, tt), (h n.right.node, (h n.body.node, tt)))))) (λ n_left. (λ n. (refl, ((refl, (h n_left.value.object.node, ((refl, tt), tt))), (h n.right.node, (h n.body.node, tt)))))) (λ n_left. (λ n. (refl, ((refl, (h n_left.value.object.node, (h n_left.value.expression.node, tt))), (h n.right.node, (h n.body.node, tt))))))) b.value
+  statement_is_formed (statements.ForOfStatement b) = (for_of_statement_by_left (λ n. IsFormed (layer (map-Node Node Tree node_plain (map-Node A Node f (opened.Statement (statements.ForOfStatement (record b { value = n }))))))) (λ n_left. (λ n. (refl, ((no_hole_changed _ _ _ n_left.value.declarations.items, (all_changed _ _ _ (variable_declarator_by_init _ (λ n. (refl, (h n.id.node, (tt, tt)))) (λ n_init. (λ n. (refl, (h n.id.node, (h n_init.node, tt)))))) n_left.value.declarations.items, tt)), (h n.right.node, (h n.body.node, tt)))))) (λ n_left. (λ n. (refl, ((refl, tt), (h n.right.node, (h n.body.node, tt)))))) (λ n_left. (λ n. (refl, ((refl, (h n_left.value.object.node, ((refl, tt), tt))), (h n.right.node, (h n.body.node, tt)))))) (λ n_left. (λ n. (refl, ((refl, (h n_left.value.object.node, (h n_left.value.expression.node, tt))), (h n.right.node, (h n.body.node, tt))))))) b.value
+  statement_is_formed (statements.WhileStatement b) = (refl, (h b.value.test.node, (h b.value.body.node, tt)))
+  statement_is_formed (statements.DoWhileStatement b) = (refl, (h b.value.body.node, (h b.value.test.node, tt)))
+  statement_is_formed (statements.LabeledStatement b) = (refl, ((refl, tt), (h b.value.body.node, tt)))
+  statement_is_formed (statements.ContinueStatement b) = (refl, (if_given_formed _ (λ b. (refl, tt)) b.value.label, tt))
+  statement_is_formed (statements.BreakStatement b) = (refl, (if_given_formed _ (λ b. (refl, tt)) b.value.label, tt))
+  statement_is_formed (statements.ReturnStatement b) = (return_statement_by_argument (λ n. IsFormed (layer (map-Node Node Tree node_plain (map-Node A Node f (opened.Statement (statements.ReturnStatement (record b { value = n }))))))) (λ n. (refl, (tt, tt))) (λ n_argument. (λ n. (refl, (h n_argument.node, tt))))) b.value
+  statement_is_formed (statements.ThrowStatement b) = (refl, (h b.value.argument.node, tt))
+  statement_is_formed (statements.DebuggerStatement b) = (refl, tt)
+  statement_is_formed (statements.SwitchStatement b) = (no_hole_changed _ _ _ b.value.cases.items, (h b.value.discriminant.node, (all_changed _ _ _ (switch_case_by_test _ (λ n. (no_hole_changed _ _ _ n.consequent.items, (tt, (all_changed _ _ _ (λ n. h n.node) n.consequent.items, tt)))) (λ n_test. (λ n. (no_hole_changed _ _ _ n.consequent.items, (h n_test.node, (all_changed _ _ _ (λ n. h n.node) n.consequent.items, tt)))))) b.value.cases.items, tt)))
+  statement_is_formed (statements.TryStatement b) = (try_statement_by_handler (λ n. IsFormed (layer (map-Node Node Tree node_plain (map-Node A Node f (opened.Statement (statements.TryStatement (record b { value = n }))))))) (try_statement_by_finalizer _ (λ n. (refl, ((no_hole_changed _ _ _ n.block.value.body.items, (all_changed _ _ _ (λ n. h n.node) n.block.value.body.items, tt)), (tt, (tt, tt))))) (λ n_finalizer. (λ n. (refl, ((no_hole_changed _ _ _ n.block.value.body.items, (all_changed _ _ _ (λ n. h n.node) n.block.value.body.items, tt)), (tt, ((no_hole_changed _ _ _ n_finalizer.value.body.items, (all_changed _ _ _ (λ n. h n.node) n_finalizer.value.body.items, tt)), tt))))))) (boxed_catch_clause_by_param _ (λ n_handler. (try_statement_by_finalizer _ (λ n. (refl, ((no_hole_changed _ _ _ n.block.value.body.items, (all_changed _ _ _ (λ n. h n.node) n.block.value.body.items, tt)), ((refl, (tt, ((no_hole_changed _ _ _ n_handler.value.body.value.body.items, (all_changed _ _ _ (λ n. h n.node) n_handler.value.body.value.body.items, tt)), tt))), (tt, tt))))) (λ n_finalizer. (λ n. (refl, ((no_hole_changed _ _ _ n.block.value.body.items, (all_changed _ _ _ (λ n. h n.node) n.block.value.body.items, tt)), ((refl, (tt, ((no_hole_changed _ _ _ n_handler.value.body.value.body.items, (all_changed _ _ _ (λ n. h n.node) n_handler.value.body.value.body.items, tt)), tt))), ((no_hole_changed _ _ _ n_finalizer.value.body.items, (all_changed _ _ _ (λ n. h n.node) n_finalizer.value.body.items, tt)), tt)))))))) (λ n_handler_param. (λ n_handler. (try_statement_by_finalizer _ (λ n. (refl, ((no_hole_changed _ _ _ n.block.value.body.items, (all_changed _ _ _ (λ n. h n.node) n.block.value.body.items, tt)), ((refl, (h n_handler_param.node, ((no_hole_changed _ _ _ n_handler.value.body.value.body.items, (all_changed _ _ _ (λ n. h n.node) n_handler.value.body.value.body.items, tt)), tt))), (tt, tt))))) (λ n_finalizer. (λ n. (refl, ((no_hole_changed _ _ _ n.block.value.body.items, (all_changed _ _ _ (λ n. h n.node) n.block.value.body.items, tt)), ((refl, (h n_handler_param.node, ((no_hole_changed _ _ _ n_handler.value.body.value.body.items, (all_changed _ _ _ (λ n. h n.node) n_handler.value.body.value.body.items, tt)), tt))), ((no_hole_changed _ _ _ n_finalizer.value.body.items, (all_changed _ _ _ (λ n. h n.node) n_finalizer.value.body.items, tt)), tt))))))))))) b.value
 
-  binding_pattern_is_plain : (n : BindingPattern) → IsPlain (layer (map-Node Node Tree node_plain (map-Node A Node f (opened.BindingPattern n))))
-  binding_pattern_is_plain (binding_patterns.BindingIdentifier b) = (refl, tt)
+  binding_pattern_is_formed : (n : BindingPattern) → IsFormed (layer (map-Node Node Tree node_plain (map-Node A Node f (opened.BindingPattern n))))
+  binding_pattern_is_formed (binding_patterns.BindingIdentifier b) = (refl, tt)
 
-  pub layer_is_plain : (y : Node-F A) → IsPlain (layer (map-Node Node Tree node_plain (map-Node A Node f y)))
-  layer_is_plain (opened.Expression n) = expression_is_plain n
-  layer_is_plain (opened.Declaration n) = declaration_is_plain n
-  layer_is_plain (opened.Statement n) = statement_is_plain n
-  layer_is_plain (opened.BindingPattern n) = binding_pattern_is_plain n
+  pub layer_is_formed : (y : Node-F A) → IsFormed (layer (map-Node Node Tree node_plain (map-Node A Node f y)))
+  layer_is_formed (opened.Expression n) = expression_is_formed n
+  layer_is_formed (opened.Declaration n) = declaration_is_formed n
+  layer_is_formed (opened.Statement n) = statement_is_formed n
+  layer_is_formed (opened.BindingPattern n) = binding_pattern_is_formed n

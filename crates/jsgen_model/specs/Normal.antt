@@ -24,6 +24,11 @@ use Rattle.jsgen_tree.specs.Nodes as tree
 abbrev pub nothing_of : ℕ → Atoms
 nothing_of n = bare (absent_values n)
 
+-- a flag that counts where it is set
+abbrev pub if_set : Bool → Atom
+if_set true = flag true
+if_set false = no_value
+
 -- a name by itself
 abbrev pub named : List ℕ → Atoms
 named name = bare (text name ∷ [])
@@ -48,12 +53,12 @@ abbrev pub declared_as : VariableDeclarationKind → Atoms
 declared_as kind = bare (declaration_kind kind ∷ no_value ∷ [])
 
 -- a function by where it stands; whether it is pure or marked as called doesn't count
-abbrev pub function_values : FunctionKind → Atom → Atom → Atom → Atoms
-function_values kind is_async generator declare = bare (kind_of_function kind ∷ is_async ∷ generator ∷ declare ∷ no_value ∷ no_value ∷ [])
+abbrev pub function_values : FunctionKind → Bool → Bool → Bool → Atoms
+function_values kind is_async generator declare = bare (kind_of_function kind ∷ if_set is_async ∷ if_set generator ∷ if_set declare ∷ no_value ∷ no_value ∷ [])
 
 -- of one that is neither `async` nor a generator
 abbrev pub function_as : FunctionKind → Atoms
-function_as kind = function_values kind no_value no_value no_value
+function_as kind = function_values kind false false false
 
 abbrev pub number_text : NumericKind → Atoms → List ℕ
 number_text Whole a = decimal (numeric_literal_digits a)
@@ -140,7 +145,7 @@ abbrev pub property_form : Atoms → Tree → Atoms
 property_form a key = property_values (object_property_kind a) (is_written_as_method (object_property_kind a) (object_property_method a))
     (is_proto_shorthand (is_method (object_property_kind a) (object_property_method a)) (object_property_shorthand a) key) (is_computed (object_property_computed a) key)
 
--- Parentheses, spans, the source and the kind of a program are away, and whether a call, `new` or a function is pure, or is marked as called; a directive is its value; a
+-- Parentheses, spans, the source and the kind of a program are away, and whether a call, `new` or a function is pure, or is marked as called; a flag as `async` that is false counts like one that is absent; a directive is its value; a
 -- whole number is its digits, and a minus before a number is an operation; a negative number that is a key is a computed one; a chain of one logical operator is one list, however it was grouped, and so is a sequence; braces round a consequent
 -- that ends in an `if` without `else` are away; a property that its value alone says is written out, but for `__proto__`.
 abbrev mutual
@@ -148,8 +153,8 @@ abbrev mutual
   normal (tree.program a comments directives body) = tree.program (nothing_of 4) no_trees (normal_trees directives) (normal_trees body)
   normal (tree.directive a) = tree.directive (bare (units (directive_units (directive_directive a)) ∷ []))
   normal (tree.expression_statement a expression) = tree.expression_statement (nothing_of 0) (normal expression)
-  normal (tree.variable_declaration a declarations) = tree.variable_declaration (bare (declaration_kind (variable_declaration_kind a) ∷ variable_declaration_declare a ∷ [])) (normal_trees declarations)
-  normal (tree.variable_declarator a id init) = tree.variable_declarator (bare (variable_declarator_definite a ∷ [])) (normal id) (normal_maybe init)
+  normal (tree.variable_declaration a declarations) = tree.variable_declaration (bare (declaration_kind (variable_declaration_kind a) ∷ if_set (variable_declaration_declare a) ∷ [])) (normal_trees declarations)
+  normal (tree.variable_declarator a id init) = tree.variable_declarator (bare (if_set (variable_declarator_definite a) ∷ [])) (normal id) (normal_maybe init)
   normal (tree.binding_identifier a) = tree.binding_identifier (unnumbered (binding_identifier_name a))
   normal (tree.identifier_reference a) = tree.identifier_reference (unnumbered (identifier_reference_name a))
   normal (tree.this_expression a) = tree.this_expression (nothing_of 0)
@@ -166,7 +171,7 @@ abbrev mutual
   normal (tree.empty_statement a) = tree.empty_statement (nothing_of 0)
   normal (tree.for_statement a init test update body) = tree.for_statement (nothing_of 0) (normal_maybe init) (normal_maybe test) (normal_maybe update) (normal body)
   normal (tree.for_in_statement a left right body) = tree.for_in_statement (nothing_of 0) (normal left) (normal right) (normal body)
-  normal (tree.for_of_statement a left right body) = tree.for_of_statement (bare (for_of_statement_is_await a ∷ [])) (normal left) (normal right) (normal body)
+  normal (tree.for_of_statement a left right body) = tree.for_of_statement (bare (if_set (for_of_statement_is_await a) ∷ [])) (normal left) (normal right) (normal body)
   normal (tree.while_statement a test body) = tree.while_statement (nothing_of 0) (normal test) (normal body)
   normal (tree.do_while_statement a body test) = tree.do_while_statement (nothing_of 0) (normal body) (normal test)
   normal (tree.label_identifier a) = tree.label_identifier (named (label_identifier_name a))
@@ -196,10 +201,10 @@ abbrev mutual
   normal (tree.conditional a test consequent alternate) = tree.conditional (nothing_of 0) (normal test) (normal consequent) (normal alternate)
   normal (tree.sequence a expressions) = tree.sequence (nothing_of 0) (flattened (normal_trees expressions))
   normal (tree.assignment a left right) = tree.assignment (bare (assignment_operator (assignment_expression_operator a) ∷ [])) (normal left) (normal right)
-  normal (tree.formal_parameter a pattern initializer) = tree.formal_parameter (bare (formal_parameter_is_override a ∷ formal_parameter_readonly a ∷ formal_parameter_optional a ∷ [])) (normal pattern) (normal_maybe initializer)
+  normal (tree.formal_parameter a pattern initializer) = tree.formal_parameter (bare (if_set (formal_parameter_is_override a) ∷ if_set (formal_parameter_readonly a) ∷ if_set (formal_parameter_optional a) ∷ [])) (normal pattern) (normal_maybe initializer)
   normal (tree.formal_parameter_rest a argument) = tree.formal_parameter_rest (nothing_of 0) (normal argument)
   normal (tree.formal_parameters a items rest) = tree.formal_parameters (nothing_of 0) (normal_trees items) (normal_maybe rest)
-  normal (tree.arrow_function a params body) = tree.arrow_function (bare (arrow_function_expression_is_async a ∷ no_value ∷ no_value ∷ [])) (normal params) (normal body)
+  normal (tree.arrow_function a params body) = tree.arrow_function (bare (if_set (arrow_function_expression_is_async a) ∷ no_value ∷ no_value ∷ [])) (normal params) (normal body)
   normal (tree.function a id params body) = tree.function (function_values (function_kind a) (function_is_async a) (function_generator a) (function_declare a)) (normal_maybe id) (normal params) (normal_maybe body)
   normal (tree.function_body a directives statements) = tree.function_body (nothing_of 0) (normal_trees directives) (normal_trees statements)
   normal (tree.return_statement a argument) = tree.return_statement (nothing_of 0) (normal_maybe argument)

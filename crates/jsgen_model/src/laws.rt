@@ -1,8 +1,8 @@
 // Laws over the definitions, each the contract of a function with an empty body.
-ghost use Rattle.jsgen_model.specs.Law.{ProgramsArePlain};
+ghost use Rattle.jsgen_model.specs.Law.{PlainByTypes};
 
-/// The plain data of each program is plain, so that a reading is promised of it. Types of node of which none is
-/// promised will be named here.
-pub fn programs_are_plain()
-    ensures { ProgramsArePlain }
+/// The plain data of a program is plain, so that a reading is promised of it, where each node is of a type of which one is
+/// promised and has no flag set of which none is: what more is asked of a node holds of all that are built.
+pub fn plain_by_types()
+    ensures { PlainByTypes }
 {}

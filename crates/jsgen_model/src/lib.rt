@@ -5,4 +5,4 @@ mod fault;
 mod laws;
 
 pub use fault::TreeFault;
-pub use laws::programs_are_plain;
+pub use laws::plain_by_types;

@@ -12,12 +12,14 @@ use Rattle.jsgen_tree.specs.Nodes as tree
 use Rattle.jsgen_model.specs.Punctuator.{equal}
 use Rattle.jsgen_model.specs.Tokens.{Tokens, done, piece, ◌⧺◌, Word, Sign}
 use Rattle.jsgen_model.specs.Items.{◌⊕◌, punctuator, soft_space}
-use Rattle.jsgen_model.specs.Layout.{Pen, Start, layout}
+use Rattle.jsgen_model.specs.Layout.{Pen, layout}
 use Rattle.jsgen_model.specs.Grammar.{Allowed, ReadsBinding, ReadsExpression}
 use Rattle.jsgen_model.specs.Grammar as grammar
 use Rattle.jsgen_model.specs.Normal.{normal, normal_maybe, unnumbered}
 use Rattle.jsgen_model.specs.Renamed.{renamed, renamed_maybe}
-use Rattle.jsgen_model.specs.Spell.{Place, spell, spell_value, in_front, behind}
+use Rattle.jsgen_place.specs.declared.place.Place.{Place}
+use Rattle.jsgen_place.specs.Place.{child}
+use Rattle.jsgen_model.specs.Spell.{spell, spell_value}
 use Rattle.jsgen_token_laws.proofs.Last.{Last, After, line_of, Operand, Ready, begun_ready, Knows}
 use Rattle.jsgen_token_laws.proofs.Writes.{Writes, wrote_both}
 use Rattle.jsgen_token_laws.proofs.Steps.{Soft, wrote_name, wrote_punctuator, soft_space_written}
@@ -86,8 +88,8 @@ alone_parts R made b h g = record {
 }
 
 -- from the binding, a blank, the sign, a blank and the value
-value_parts : {names : Tables} (c : Allowed) (R : Tokens → Tree → Type 0) (made : Tree → Maybe → Tree) (b v : Tree) (start : Start) (p p1 p2 p3 p4 q : Pen) (l : Last) → Holds names c R made → (g : GoodBinding names p l p1 c b) (x : Soft names p1 g.last p2) → Writes names p2 x.last p3 (After (Sign equal)) (piece (line_of x.last) (Sign equal) done) → (n : Soft names p3 (After (Sign equal)) p4) → Good names p4 n.last q c grammar.Assignment start v → Element names R p l q (made b (given v))
-value_parts c R made b v start p p1 p2 p3 p4 q l h g x o n e = record {
+value_parts : {names : Tables} {c : Allowed} (R : Tokens → Tree → Type 0) (made : Tree → Maybe → Tree) (b v : Tree) {p p1 p2 p3 p4 q : Pen} {l : Last} → Holds names c R made → (g : GoodBinding names p l p1 c b) (x : Soft names p1 g.last p2) → Writes names p2 x.last p3 (After (Sign equal)) (piece (line_of x.last) (Sign equal) done) → (n : Soft names p3 (After (Sign equal)) p4) → Good names p4 n.last q c grammar.Assignment v → Element names R p l q (made b (given v))
+value_parts R made b v h g x o n e = record {
   last = e.last;
   tokens = g.tokens ⧺ piece (line_of x.last) (Sign equal) e.tokens;
   writes = wrote_both g.writes (wrote_both x.writes (wrote_both o (wrote_both n.writes e.writes)));
@@ -98,16 +100,15 @@ value_parts c R made b v start p p1 p2 p3 p4 q l h g x o n e = record {
   same = h.same g.tree b (given e.tree) (given v) g.same (ap (λ t. given t) e.same);
 }
 
-pub good_held : {names : Tables} (c : Allowed) (R : Tokens → Tree → Type 0) (made : Tree → Maybe → Tree) (b : Tree) (m : Maybe) (place : Place) → Holds names (under place c) R made → Bound names c b → PrintedIfGiven names c m → GivesElement names R (spell b (in_front levels.Lowest place) ⊕ spell_value m (behind levels.Comma place)) (made b m)
-good_held c R made b absent place h f v p l z y k = alone_parts R made b h (f (in_front levels.Lowest place) p l z (begun_ready l y) k)
+pub good_held : {names : Tables} (c : Allowed) (R : Tokens → Tree → Type 0) (made : Tree → Maybe → Tree) (b : Tree) (m : Maybe) (place : Place) → Holds names (under place c) R made → Bound names c b → PrintedIfGiven names c m → GivesElement names R (spell b (child levels.Lowest place) ⊕ spell_value m (child levels.Comma place)) (made b m)
+good_held c R made b absent place h f v p l z y k = alone_parts R made b h (f (child levels.Lowest place) p l z (begun_ready l y) k)
 good_held c R made b (given t) place h f v p l z y k =
-    let p1 : Pen = layout (spell b (in_front levels.Lowest place)) p in
+    let p1 : Pen = layout (spell b (child levels.Lowest place)) p in
     let p2 : Pen = layout soft_space p1 in
     let p3 : Pen = layout (punctuator equal) p2 in
-    let p4 : Pen = layout soft_space p3 in
-    let g = f (in_front levels.Lowest place) p l z (begun_ready l y) k in
+    let g = f (child levels.Lowest place) p l z (begun_ready l y) k in
     let x = soft_space_written p1 g.last g.writes.knows in
     let o = wrote_punctuator equal p2 x.last tt tt (x.operand g.operand) x.writes.knows in
     let n = soft_space_written p3 (After (Sign equal)) o.knows in
-    let e = v (behind levels.Comma place) p4 n.last (n.semicolon ∙ (x.semicolon ∙ g.semicolon)) (n.ready tt) n.writes.knows in
-    value_parts (under place c) R made b t (behind levels.Comma place).start p p1 p2 p3 p4 (layout (spell t (behind levels.Comma place)) p4) l h g x o n e
+    let e = v (child levels.Comma place) (layout soft_space p3) n.last (n.semicolon ∙ (x.semicolon ∙ g.semicolon)) (n.ready tt) n.writes.knows in
+    value_parts R made b t h g x o n e

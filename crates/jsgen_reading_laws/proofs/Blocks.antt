@@ -10,7 +10,7 @@ use Rattle.jsgen_model.specs.Layout.{Pen, other_end, layout, written, deeper_lev
 use Rattle.jsgen_model.specs.Grammar.{Allowed, ReadsStatements}
 use Rattle.jsgen_model.specs.Grammar as grammar
 use Rattle.jsgen_model.specs.Normal.{nothing_of}
-use Rattle.jsgen_model.specs.Spell.{Settings, spell_statements, filled_braces, braces}
+use Rattle.jsgen_model.specs.Spell.{spell_statements, filled_braces, braces}
 use Rattle.jsgen_token_laws.proofs.Last.{Last, Open, line_of, Knows}
 use Rattle.jsgen_token_laws.proofs.Writes.{Writes, wrote_none, wrote_both, wrote_and_none, same_writes}
 use Rattle.jsgen_token_laws.proofs.Steps.{Gap, gap, soft_line_written, indentation_written, within_brackets, brackets_written}
@@ -71,10 +71,10 @@ empty_written x n e p l k =
     }
 
 -- round any row, the empty one too
-pub braces_written : {names : Tables} {R : Bool → Tokens → Trees → Type 0} → R true done no_trees → (ss : Trees) (settings : Settings) → StandsAt names R (SameTrees names ss) (spell_statements ss settings) → (p : Pen) (l : Last) → p.pending_semicolon ≡ false → Knows names p l → GoodBraces names R (SameTrees names ss) p l (layout (braces ss (spell_statements ss settings)) p)
-braces_written n no_trees settings row p l z k = empty_written no_trees n refl p l k
-braces_written n (more s ss) settings row p l z k = filled_written (spell_statements (more s ss) settings) row p l z k
-braces_written n (hole ss) settings row p l z k = filled_written (spell_statements (hole ss) settings) row p l z k
+pub braces_written : {names : Tables} {R : Bool → Tokens → Trees → Type 0} → R true done no_trees → (ss : Trees) → StandsAt names R (SameTrees names ss) (spell_statements ss) → (p : Pen) (l : Last) → p.pending_semicolon ≡ false → Knows names p l → GoodBraces names R (SameTrees names ss) p l (layout (braces ss (spell_statements ss)) p)
+braces_written n no_trees row p l z k = empty_written no_trees n refl p l k
+braces_written n (more s ss) row p l z k = filled_written (spell_statements (more s ss)) row p l z k
+braces_written n (hole ss) row p l z k = filled_written (spell_statements (hole ss)) row p l z k
 
 -- ---- blocks
 
@@ -90,11 +90,11 @@ block_of {l = l} is_open h g = record {
   same = h g.reading g.same;
 }
 
-pub good_block : {names : Tables} (c : Allowed) (a : Atoms) (ss : Trees) → ((settings : Settings) → RowAt names c (spell_statements ss settings) ss) → Stated names c (tree.block a ss)
-good_block {names} c a ss row = record { among = λ settings. indented_line (items settings ⊕ soft_line) (before_blank (items settings) soft_line (alone settings) soft_line_written); within = λ h settings. alone settings }
+pub good_block : {names : Tables} (c : Allowed) (a : Atoms) (ss : Trees) → RowAt names c (spell_statements ss) ss → Stated names c (tree.block a ss)
+good_block {names} c a ss row = record { among = indented_line (items ⊕ soft_line) (before_blank items soft_line alone soft_line_written); within = λ h. alone }
   where
-    items : Settings → Items
-    items settings = braces ss (spell_statements ss settings)
+    items : Items
+    items = braces ss (spell_statements ss)
 
-    alone : (settings : Settings) → StatedAt names c (tree.block a ss) (items settings)
-    alone settings p l z y k = block_of false (λ us e. ap (λ ts. tree.block (nothing_of 0) ts) e) (braces_written grammar.no_statement ss settings (row settings) p l z k)
+    alone : StatedAt names c (tree.block a ss) items
+    alone p l z y k = block_of false (λ us e. ap (λ ts. tree.block (nothing_of 0) ts) e) (braces_written grammar.no_statement ss row p l z k)

@@ -12,7 +12,8 @@ use Rattle.jsgen_model.specs.Grammar.{Allowed}
 use Rattle.jsgen_model.specs.Grammar as grammar
 use Rattle.jsgen_model.specs.Normal.{normal, nothing_of}
 use Rattle.jsgen_model.specs.Renamed.{renamed}
-use Rattle.jsgen_model.specs.Spell.{Settings, spell, among_statements, within_statement, Shape, a_block, an_empty, shape, body_items}
+use Rattle.jsgen_place.specs.Place.{among_statements, within_statement}
+use Rattle.jsgen_model.specs.Spell.{spell, Shape, a_block, an_empty, shape, body_items}
 use Rattle.jsgen_token_laws.proofs.Last.{After, line_of}
 use Rattle.jsgen_token_laws.proofs.Steps.{gap, wrote_semicolon, soft_space_written, soft_line_written, body_space_written}
 use Rattle.jsgen_reading_laws.proofs.Ends.{ends_itself}
@@ -33,7 +34,7 @@ good_semicolon c is_open h p l z y k = record {
 }
 
 pub good_empty : {names : Tables} (c : Allowed) (a : Atoms) → Stated names c (tree.empty_statement a)
-good_empty {names} c a = stated_among refl (λ settings. indented_line (punctuator semicolon ⊕ soft_line) (before_blank (punctuator semicolon) soft_line (good_semicolon c false refl) soft_line_written))
+good_empty {names} c a = stated_among refl (indented_line (punctuator semicolon ⊕ soft_line) (before_blank (punctuator semicolon) soft_line (good_semicolon c false refl) soft_line_written))
 
 -- what is spelled as an empty statement is one
 abbrev pub EmptyAlone : Tables → Tree → Type 0
@@ -49,16 +50,16 @@ body_blank p l k = gap (body_space_written p l k)
 
 -- ---- bodies
 
-pub good_body : {names : Tables} (c : Allowed) (t : Tree) (settings : Settings) → EmptyAlone names t → Stated names c t → StatedAt names c t (body_items (shape t) (spell t (within_statement settings)) (spell t (among_statements settings)))
-good_body {names} c t settings m f = by_shape (shape t) refl
+pub good_body : {names : Tables} (c : Allowed) (t : Tree) → EmptyAlone names t → Stated names c t → StatedAt names c t (body_items (shape t) (spell t within_statement) (spell t among_statements))
+good_body {names} c t m f = by_shape (shape t) refl
   where
     inner : Items
-    inner = spell t (within_statement settings)
+    inner = spell t within_statement
 
     whole : Items
-    whole = spell t (among_statements settings)
+    whole = spell t among_statements
 
     by_shape : (s : Shape) → shape t ≡ s → StatedAt names c t (body_items s inner whole)
-    by_shape a_block i = behind_blank soft_space (inner ⊕ soft_line) soft_blank (before_blank inner soft_line (f.within (ap goes_on i) settings) soft_line_written)
+    by_shape a_block i = behind_blank soft_space (inner ⊕ soft_line) soft_blank (before_blank inner soft_line (f.within (ap goes_on i)) soft_line_written)
     by_shape an_empty i = before_blank (punctuator semicolon) soft_line (good_semicolon c (ends_open t) (sym (m i))) soft_line_written
-    by_shape s i = behind_blank body_space whole body_blank (f.among settings)
+    by_shape s i = behind_blank body_space whole body_blank (f.among)

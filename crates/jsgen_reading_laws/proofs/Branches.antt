@@ -14,7 +14,8 @@ use Rattle.jsgen_model.specs.Grammar.{Allowed, ReadsExpression, ReadsStatement, 
 use Rattle.jsgen_model.specs.Grammar as grammar
 use Rattle.jsgen_model.specs.Normal.{normal, normal_trees, unbraced, nothing_of}
 use Rattle.jsgen_model.specs.Renamed.{renamed}
-use Rattle.jsgen_model.specs.Spell.{Settings, Place, spell, among_statements, within_statement, in_brackets, filled_braces, Shape, a_block, an_if, an_empty, shape, braces_end, body_end, consequent_items, body_items, alternate_items, spell_alternate}
+use Rattle.jsgen_place.specs.Place.{among_statements, within_statement, in_brackets}
+use Rattle.jsgen_model.specs.Spell.{spell, filled_braces, Shape, a_block, an_if, an_empty, shape, braces_end, body_end, consequent_items, body_items, alternate_items, spell_alternate}
 use Rattle.jsgen_token_laws.proofs.Characters.{letters_spelled}
 use Rattle.jsgen_token_laws.proofs.Last.{Last, Open, After, line_of, Knows}
 use Rattle.jsgen_token_laws.proofs.Writes.{Writes, wrote_both, then_assoc}
@@ -67,45 +68,45 @@ braced : (s : Shape) (inner whole : Items) (else_follows : Bool) → consequent_
 braced a_block inner whole e = refl
 braced s inner whole e = refl
 
-good_consequent : {names : Tables} (c : Allowed) (t : Tree) (settings : Settings) (else_follows : Bool) → ends_open (normal (renamed names t)) ≡ ends_open t → EmptyAlone names t → Stated names c t → ConsequentAt names c else_follows t (consequent_items (shape t) (ends_open t) (spell t (within_statement settings)) (spell t (among_statements settings)) else_follows)
-good_consequent {names} c t settings e n m f = by (ends_open t) refl
+good_consequent : {names : Tables} (c : Allowed) (t : Tree) (else_follows : Bool) → ends_open (normal (renamed names t)) ≡ ends_open t → EmptyAlone names t → Stated names c t → ConsequentAt names c else_follows t (consequent_items (shape t) (ends_open t) (spell t within_statement) (spell t among_statements) else_follows)
+good_consequent {names} c t e n m f = by (ends_open t) refl
   where
     inner : Items
-    inner = spell t (within_statement settings)
+    inner = spell t within_statement
 
     whole : Items
-    whole = spell t (among_statements settings)
+    whole = spell t among_statements
 
     as_it_is : (items : Items) → ends_open t ≡ false → StatedAt names c t items → ConsequentAt names c e t items
     as_it_is items o g p l z y k = stands_since (λ last ts u s r. r e (λ h. o)) (λ u s. ap unbraced s) (g p l z y k)
 
     by_shape : (s : Shape) → shape t ≡ s → ends_open t ≡ false → ConsequentAt names c e t (consequent_items s false inner whole e)
-    by_shape a_block i o = behind_blank soft_space (inner ⊕ braces_end e) soft_blank (before_blank inner (braces_end e) (as_it_is inner o (f.within (ap goes_on i) settings)) (braces_end_blank e))
+    by_shape a_block i o = behind_blank soft_space (inner ⊕ braces_end e) soft_blank (before_blank inner (braces_end e) (as_it_is inner o (f.within (ap goes_on i))) (braces_end_blank e))
     by_shape an_empty i o =
         let g = before_blank (punctuator semicolon) soft_line (good_semicolon c (ends_open t) (sym (m i))) soft_line_written in
         before_blank (punctuator semicolon ⊕ soft_line) (body_end e) (as_it_is (punctuator semicolon ⊕ soft_line) o g) (body_end_blank e)
-    by_shape s i o = behind_blank body_space (whole ⊕ body_end e) body_blank (before_blank whole (body_end e) (as_it_is whole o (f.among settings)) (body_end_blank e))
+    by_shape s i o = behind_blank body_space (whole ⊕ body_end e) body_blank (before_blank whole (body_end e) (as_it_is whole o (f.among)) (body_end_blank e))
 
     by : (is_open : Bool) → ends_open t ≡ is_open → ConsequentAt names c e t (consequent_items (shape t) is_open inner whole e)
     by false o = by_shape (shape t) refl o
     by true o =
         subst (λ items. ConsequentAt names c e t items) (sym (braced (shape t) inner whole e))
-        (behind_blank soft_space (filled_braces whole ⊕ braces_end e) soft_blank (before_blank (filled_braces whole) (braces_end e) (added_braces c t e whole (n ∙ o) (row_alone (statements_join c) t whole (listed_statement t f settings))) (braces_end_blank e)))
+        (behind_blank soft_space (filled_braces whole ⊕ braces_end e) soft_blank (before_blank (filled_braces whole) (braces_end e) (added_braces c t e whole (n ∙ o) (row_alone (statements_join c) t whole (listed_statement t f))) (braces_end_blank e)))
 
 -- ---- alternates
 
-good_alternate : {names : Tables} (c : Allowed) (t : Tree) (settings : Settings) → EmptyAlone names t → Stated names c t → StatedAt names c t (alternate_items (shape t) (spell t (within_statement settings)) (spell t (among_statements settings)))
-good_alternate {names} c t settings m f = by_shape (shape t) refl
+good_alternate : {names : Tables} (c : Allowed) (t : Tree) → EmptyAlone names t → Stated names c t → StatedAt names c t (alternate_items (shape t) (spell t within_statement) (spell t among_statements))
+good_alternate {names} c t m f = by_shape (shape t) refl
   where
     inner : Items
-    inner = spell t (within_statement settings)
+    inner = spell t within_statement
 
     whole : Items
-    whole = spell t (among_statements settings)
+    whole = spell t among_statements
 
     by_shape : (s : Shape) → shape t ≡ s → StatedAt names c t (alternate_items s inner whole)
-    by_shape an_if i = behind_blank hard_space inner hard_blank (f.within (ap goes_on i) settings)
-    by_shape s i = subst (λ x. StatedAt names c t (body_items x inner whole)) i (good_body c t settings m f)
+    by_shape an_if i = behind_blank hard_space inner hard_blank (f.within (ap goes_on i))
+    by_shape s i = subst (λ x. StatedAt names c t (body_items x inner whole)) i (good_body c t m f)
 
 -- ---- `if`
 
@@ -114,20 +115,20 @@ if_reads r s false n = grammar.an_if r s
 if_reads r s true n = absurd (both_ways true (n refl) refl)
 
 -- the test and the consequent, in front of what the alternate gives
-abbrev if_items : Tree → Tree → Bool → Place → Items → Items
-if_items t s else_follows place others = word (codes "if") ⊕ (soft_space ⊕ (brackets Round (spell t (in_brackets levels.Lowest place)) ⊕ (consequent_items (shape s) (ends_open s) (spell s (within_statement place.settings)) (spell s (among_statements place.settings)) else_follows ⊕ others)))
+abbrev if_items : Tree → Tree → Bool → Items → Items
+if_items t s else_follows others = word (codes "if") ⊕ (soft_space ⊕ (brackets Round (spell t (in_brackets levels.Lowest)) ⊕ (consequent_items (shape s) (ends_open s) (spell s within_statement) (spell s among_statements) else_follows ⊕ others)))
 
-if_head : {names : Tables} (c : Allowed) (t : Tree) → Printed names c t → (place : Place) (p : Pen) (l : Last) → p.pending_semicolon ≡ false → Knows names p l → GoodHead names (codes "if") p l (layout (head_items (codes "if") t place) p) c t
+if_head : {names : Tables} (c : Allowed) (t : Tree) → Printed names c t → (p : Pen) (l : Last) → p.pending_semicolon ≡ false → Knows names p l → GoodHead names (codes "if") p l (layout (head_items (codes "if") t) p) c t
 if_head = good_head (codes "if") (letters_spelled 105 (codes "f") refl)
 
 pub good_if : {names : Tables} (c : Allowed) (a : Atoms) (t s : Tree) → Printed names c t → ends_open (normal (renamed names s)) ≡ ends_open s → EmptyAlone names s → Stated names c s → Stated names c (tree.if_statement a t s absent)
-good_if {names} c a t s f n o g = record { among = λ settings. indented_line (if_items t s false (among_statements settings) nothing) (inside (among_statements settings)); within = λ h settings. inside (within_statement settings) }
+good_if {names} c a t s f n o g = record { among = indented_line (if_items t s false nothing) inside; within = λ h. inside }
   where
-    inside : (place : Place) → StatedAt names c (tree.if_statement a t s absent) (if_items t s false place nothing)
-    inside place p l z y k =
-        let h = if_head c t f place p l z k in
+    inside : StatedAt names c (tree.if_statement a t s absent) (if_items t s false nothing)
+    inside p l z y k =
+        let h = if_head c t f p l z k in
         behind_tokens (piece (line_of l) (Word (codes "if")) (group h.next Round h.tokens done)) (λ u. tree.if_statement (nothing_of 0) h.reading u absent) h.writes (λ e ts u r. if_reads h.reads r) (λ u m i. tree.if_statement (nothing_of 0) (h.same i) (m i) absent)
-        (good_consequent c s place.settings false n o g (layout (head_items (codes "if") t place) p) (Open false) h.semicolon tt h.writes.knows)
+        (good_consequent c s false n o g (layout (head_items (codes "if") t) p) (Open false) h.semicolon tt h.writes.knows)
 
 -- ---- `else`
 
@@ -139,17 +140,17 @@ else_parts {l = l} c a t s u h b d o r =
     (λ e ts v x before_else n. grammar.an_if_with_else (line_of d.last) (then_assoc (b.tokens ⧺ d.tokens) (piece (line_of d.last) (Word (codes "else")) done) ts) h.reads (b.reads.read false (b.tokens ⧺ d.tokens) (d.ends b.tokens)) (x before_else n)) (λ v m i. tree.if_statement (nothing_of 0) (h.same i) (b.same i) (given (m i))) r
 
 pub good_if_with_else : {names : Tables} (c : Allowed) (a : Atoms) (t s u : Tree) → Printed names c t → ends_open (normal (renamed names s)) ≡ ends_open s → EmptyAlone names s → Stated names c s → EmptyAlone names u → Stated names c u → Stated names c (tree.if_statement a t s (given u))
-good_if_with_else {names} c a t s u f n m g w v = record { among = λ settings. indented_line (items (among_statements settings)) (inside (among_statements settings)); within = λ h settings. inside (within_statement settings) }
+good_if_with_else {names} c a t s u f n m g w v = record { among = indented_line items inside; within = λ h. inside }
   where
-    items : Place → Items
-    items place = if_items t s true place (spell_alternate (given u) place.settings)
+    items : Items
+    items = if_items t s true (spell_alternate (given u))
 
-    inside : (place : Place) → StatedAt names c (tree.if_statement a t s (given u)) (items place)
-    inside place p l z y k =
-        let p1 : Pen = layout (if_items t s true place nothing) p in
+    inside : StatedAt names c (tree.if_statement a t s (given u)) items
+    inside p l z y k =
+        let p1 : Pen = layout (if_items t s true nothing) p in
         let p2 : Pen = layout due_semicolon p1 in
-        let h = if_head c t f place p l z k in
-        let b = good_consequent c s place.settings true n m g (layout (head_items (codes "if") t place) p) (Open false) h.semicolon tt h.writes.knows in
+        let h = if_head c t f p l z k in
+        let b = good_consequent c s true n m g (layout (head_items (codes "if") t) p) (Open false) h.semicolon tt h.writes.knows in
         let d = due_ends p1 b.last b.ready b.writes.knows in
         let o = wrote_word (codes "else") p2 d.last (letters_spelled 101 (codes "lse") refl) d.writes.knows in
-        else_parts c a t s u h b d o (good_alternate c u place.settings w v (layout (word (codes "else")) p2) (After (Word (codes "else"))) d.semicolon tt o.knows)
+        else_parts c a t s u h b d o (good_alternate c u w v (layout (word (codes "else")) p2) (After (Word (codes "else"))) d.semicolon tt o.knows)

@@ -17,20 +17,22 @@ use Rattle.jsgen_tree.specs.Nodes as tree
 use Rattle.jsgen_model.specs.Punctuator.{Punctuator, and_and, or_or, nullish}
 use Rattle.jsgen_model.specs.Tokens.{Tokens, piece, ◌⧺◌, Sign}
 use Rattle.jsgen_model.specs.Items.{◌⊕◌, soft_space, punctuator}
-use Rattle.jsgen_model.specs.Layout.{Pen, Start, nowhere, other_end, layout, unless_printed}
+use Rattle.jsgen_model.specs.Layout.{other_end, layout}
 use Rattle.jsgen_model.specs.Grammar.{Allowed, Level, ReadsExpression}
 use Rattle.jsgen_model.specs.Grammar as grammar
 use Rattle.jsgen_model.specs.Normal.{normal, chain, links, joined}
 use Rattle.jsgen_model.specs.Renamed.{renamed}
-use Rattle.jsgen_model.specs.Spell.{Place, spell, within, left_of, behind, wraps, goes_on, logical_wraps, unmixed, mixes}
+use Rattle.jsgen_place.specs.declared.place.Place.{Place}
+use Rattle.jsgen_place.specs.Place.{within, left_operand, child, wraps, continues_chain, logical_wraps}
+use Rattle.jsgen_model.specs.Spell.{spell, unmixed, mixes}
 use Rattle.jsgen_model.specs.Operators.{logical_item}
-use Rattle.jsgen_token_laws.proofs.Last.{Last, After, Ready, Remembers, Knows, NoDot}
+use Rattle.jsgen_token_laws.proofs.Last.{After, Ready, Remembers, NoDot}
 use Rattle.jsgen_token_laws.proofs.Writes.{then_assoc}
 use Rattle.jsgen_token_laws.proofs.Steps.{wrote_punctuator}
 use Rattle.jsgen_reading_laws.proofs.Levels.{number_of, operation_number, operand_level, level_of, under, looser, read_at, same_rank, lifted, unwrapped}
 use Rattle.jsgen_reading_laws.proofs.Asked.{is_mixed}
 use Rattle.jsgen_reading_laws.proofs.Joined.{joined_assoc}
-use Rattle.jsgen_reading_laws.proofs.Good.{Good, Printed, Between, good_at, good_since, good_wrapped, good_infix}
+use Rattle.jsgen_reading_laws.proofs.Good.{Good, Printed, Between, good_at, good_since, good_wrapped, good_infix, PrintedBy}
 
 -- ---- the token between the operands
 
@@ -74,18 +76,18 @@ chain_level no_call Coalesce r = r
 unwrapped_chain : {c : Allowed} {ts : Tokens} {u : Tree} (o : LogicalOperator) (place : Place) → logical_wraps o place ≡ false → ReadsExpression c (own_goal o) ts u → ReadsExpression c (level_of place) ts u
 unwrapped_chain {c} {ts} {u} o place h r = by (wraps (logical_level o) place) refl h
   where
-    goes : goes_on o place ≡ true → ReadsExpression c (level_of place) ts u
+    goes : continues_chain o place ≡ true → ReadsExpression c (level_of place) ts u
     goes e =
         let k = and_parts (not place.left_operand) (rank (logical_level o) == rank place.level) e in
         subst₂ (λ left level. ReadsExpression c (operand_level left place.context.forbids_call level) ts u) (sym (not-true place.left_operand k.0)) (same_rank (logical_level o) place.level (eqb-true (rank (logical_level o)) (rank place.level) k.1)) (chain_level place.context.forbids_call o r)
 
-    by_goes : (g : Bool) → goes_on o place ≡ g → not g ≡ false → ReadsExpression c (level_of place) ts u
+    by_goes : (g : Bool) → continues_chain o place ≡ g → not g ≡ false → ReadsExpression c (level_of place) ts u
     by_goes true e n = goes e
     by_goes false e n = absurd (both_ways true n refl)
 
-    by : (w : Bool) → wraps (logical_level o) place ≡ w → (w && not (goes_on o place)) ≡ false → ReadsExpression c (level_of place) ts u
+    by : (w : Bool) → wraps (logical_level o) place ≡ w → (w && not (continues_chain o place)) ≡ false → ReadsExpression c (level_of place) ts u
     by false e n = unwrapped (logical_level o) place e (own_level place.context.forbids_call o r)
-    by true e n = by_goes (goes_on o place) refl n
+    by true e n = by_goes (continues_chain o place) refl n
 
 -- ---- chains
 
@@ -161,23 +163,23 @@ head_at_short d h (grammar.an_operation o m p k q s t) = absurd (omega (arith, o
 head_at_short d h r = absurd (omega (arith, ap number_of d))
 
 -- in parentheses where it mixes
-head_there : {names : Tables} (c : Allowed) (t : Tree) (at : Precedence → Place) (start : Start) (level : Precedence) → is_mixed (normal (renamed names t)) ≡ mixes (without_parentheses t) → ((p : Pen) (l : Last) → p.pending_semicolon ≡ false → Ready l → Knows names p l → Good names p l (layout (spell t (at levels.Prefix)) p) c grammar.Update start t)
-    → ((p : Pen) (l : Last) → p.pending_semicolon ≡ false → Ready l → Knows names p l → Good names p l (layout (spell t (at level)) p) c grammar.ShortCircuit start t) → (p : Pen) (l : Last) → p.pending_semicolon ≡ false → Ready l → Knows names p l → Good names p l (layout (spell t (at (unmixed Coalesce t level))) p) c grammar.CoalesceHead start t
-head_there {names} c t at start level e f g p l z y k = go (mixes (without_parentheses t)) e
+head_there : {names : Tables} (c : Allowed) (t : Tree) (at : Precedence → Place) (level : Precedence) → is_mixed (normal (renamed names t)) ≡ mixes (without_parentheses t) → PrintedBy names c grammar.Update (spell t (at levels.Prefix)) t
+    → PrintedBy names c grammar.ShortCircuit (spell t (at level)) t → PrintedBy names c grammar.CoalesceHead (spell t (at (unmixed Coalesce t level))) t
+head_there {names} c t at level e f g p l z y k = go (mixes (without_parentheses t)) e
   where
-    go : (b : Bool) → is_mixed (normal (renamed names t)) ≡ b → Good names p l (layout (spell t (at (cond b levels.Prefix level))) p) c grammar.CoalesceHead start t
+    go : (b : Bool) → is_mixed (normal (renamed names t)) ≡ b → Good names p l (layout (spell t (at (cond b levels.Prefix level))) p) c grammar.CoalesceHead t
     go true m = good_at (λ ts u r. grammar.a_bit_or_head (lifted false levels.Prefix levels.LogicalAnd (omega arith) r)) (f p l z y k)
     go false m = good_since (λ ts u s r. head_at_short refl (ap is_mixed s ∙ m) r) (g p l z y k)
 
-left_operand : {names : Tables} (o : LogicalOperator) (c : Allowed) (t : Tree) → Printed names c t → is_mixed (normal (renamed names t)) ≡ mixes (without_parentheses t) → (place : Place) (p : Pen) (l : Last) → p.pending_semicolon ≡ false → Ready l → Knows names p l → Good names p l (layout (spell t (left_of (unmixed o t (logical_lower_level o)) place)) p) (under place c) (operand_goal o) place.start t
-left_operand Or c t f m place = f (left_of levels.NullishCoalescing place)
-left_operand And c t f m place = f (left_of levels.LogicalOr place)
-left_operand Coalesce c t f m place = head_there (under place c) t (λ level. left_of level place) place.start levels.Conditional m (f (left_of levels.Prefix place)) (f (left_of levels.Conditional place))
+left_printed : {names : Tables} (o : LogicalOperator) (c : Allowed) (t : Tree) → Printed names c t → is_mixed (normal (renamed names t)) ≡ mixes (without_parentheses t) → (place : Place) → PrintedBy names (under place c) (operand_goal o) (spell t (left_operand (unmixed o t (logical_lower_level o)) place)) t
+left_printed Or c t f m place = f (left_operand levels.NullishCoalescing place)
+left_printed And c t f m place = f (left_operand levels.LogicalOr place)
+left_printed Coalesce c t f m place = head_there (under place c) t (λ level. left_operand level place) levels.Conditional m (f (left_operand levels.Prefix place)) (f (left_operand levels.Conditional place))
 
-right_operand : {names : Tables} (o : LogicalOperator) (c : Allowed) (t : Tree) → Printed names c t → is_mixed (normal (renamed names t)) ≡ mixes (without_parentheses t) → (place : Place) (p : Pen) (l : Last) → p.pending_semicolon ≡ false → Ready l → Knows names p l → Good names p l (layout (spell t (behind (unmixed o t (logical_level o)) place)) p) (under place c) (operand_goal o) nowhere t
-right_operand Or c t f m place = f (behind levels.LogicalOr place)
-right_operand And c t f m place = f (behind levels.LogicalAnd place)
-right_operand Coalesce c t f m place = head_there (under place c) t (λ level. behind level place) nowhere levels.NullishCoalescing m (f (behind levels.Prefix place)) (f (behind levels.NullishCoalescing place))
+right_printed : {names : Tables} (o : LogicalOperator) (c : Allowed) (t : Tree) → Printed names c t → is_mixed (normal (renamed names t)) ≡ mixes (without_parentheses t) → (place : Place) → PrintedBy names (under place c) (operand_goal o) (spell t (child (unmixed o t (logical_level o)) place)) t
+right_printed Or c t f m place = f (child levels.LogicalOr place)
+right_printed And c t f m place = f (child levels.LogicalAnd place)
+right_printed Coalesce c t f m place = head_there (under place c) t (λ level. child level place) levels.NullishCoalescing m (f (child levels.Prefix place)) (f (child levels.NullishCoalescing place))
 
 -- ---- the whole
 
@@ -187,7 +189,7 @@ same_chain o u v x y e f = λ i. chain (bare (logical_operator o ∷ [])) (joine
 pub good_logical_operation : {names : Tables} (c : Allowed) (a : Atoms) (x y : Tree) → Printed names c x → Printed names c y → is_mixed (normal (renamed names x)) ≡ mixes (without_parentheses x) → is_mixed (normal (renamed names y)) ≡ mixes (without_parentheses y) → Printed names c (tree.logical a x y)
 good_logical_operation {names} c a x y f g mx my place =
     let o : LogicalOperator = logical_expression_operator a in
-    good_wrapped c place (own_goal o) (logical_wraps o place) (λ w. spell x (left_of (unmixed o x (logical_lower_level o)) (within w place)) ⊕ (soft_space ⊕ (logical_item o ⊕ (soft_space ⊕ spell y (behind (unmixed o y (logical_level o)) (within w place)))))) (tree.logical a x y)
+    good_wrapped c place (own_goal o) (logical_wraps o place) (λ w. spell x (left_operand (unmixed o x (logical_lower_level o)) (within w place)) ⊕ (soft_space ⊕ (logical_item o ⊕ (soft_space ⊕ spell y (child (unmixed o y (logical_level o)) (within w place)))))) (tree.logical a x y)
     (λ d ts u r. lifted false (looser (logical_level o)) levels.Lowest (omega arith) (own_level false o r)) (λ e ts u r. unwrapped_chain o place e r)
-    (λ v e. good_infix (logical_item o) (Sign (logical_sign o)) (spell x (left_of (unmixed o x (logical_lower_level o)) (within v place))) (spell y (behind (unmixed o y (logical_level o)) (within v place))) x y (tree.logical a x y) (under (within v place) c) (unless_printed v place.start) (operand_goal o) (operand_goal o) (own_goal o) (logical_between o)
-    (λ ts us line u w ru rw eu ew. let h = join o ts u line ru rw in (h.0, h.1, h.2 ∙ same_chain o u w (renamed names x) (renamed names y) eu ew)) (left_operand o c x f mx (within v place)) (right_operand o c y g my (within v place)))
+    (λ v e. good_infix (logical_item o) (Sign (logical_sign o)) (spell x (left_operand (unmixed o x (logical_lower_level o)) (within v place))) (spell y (child (unmixed o y (logical_level o)) (within v place))) x y (tree.logical a x y) (under (within v place) c) (operand_goal o) (operand_goal o) (own_goal o) (logical_between o)
+    (λ ts us line u w ru rw eu ew. let h = join o ts u line ru rw in (h.0, h.1, h.2 ∙ same_chain o u w (renamed names x) (renamed names y) eu ew)) (left_printed o c x f mx (within v place)) (right_printed o c y g my (within v place)))

@@ -7,25 +7,27 @@ use Rattle.jsgen_tree.specs.Nodes as tree
 use Rattle.jsgen_model.specs.Punctuator.{question, colon}
 use Rattle.jsgen_model.specs.Tokens.{Tokens, done, piece, ◌⧺◌, Sign}
 use Rattle.jsgen_model.specs.Items.{Items, soft_space, punctuator}
-use Rattle.jsgen_model.specs.Layout.{Pen, Start, nowhere, layout, unless_printed}
+use Rattle.jsgen_model.specs.Layout.{Pen, layout}
 use Rattle.jsgen_model.specs.Grammar.{Allowed, with_in}
 use Rattle.jsgen_model.specs.Grammar as grammar
 use Rattle.jsgen_model.specs.Normal.{normal, nothing_of}
 use Rattle.jsgen_model.specs.Renamed.{renamed}
-use Rattle.jsgen_model.specs.Spell.{Place, spell, within, in_front, behind, in_brackets, with_calls, wraps, choice}
-use Rattle.jsgen_token_laws.proofs.Last.{Last, After, line_of, Ready, Knows}
+use Rattle.jsgen_place.specs.declared.place.Place.{Place}
+use Rattle.jsgen_place.specs.Place.{within, child, in_brackets, with_calls, wraps}
+use Rattle.jsgen_model.specs.Spell.{spell, choice}
+use Rattle.jsgen_token_laws.proofs.Last.{Last, After, line_of}
 use Rattle.jsgen_token_laws.proofs.Writes.{Writes, wrote_both}
 use Rattle.jsgen_token_laws.proofs.Steps.{Soft, wrote_punctuator, soft_space_written}
 use Rattle.jsgen_reading_laws.proofs.Levels.{under, lifted, unwrapped}
-use Rattle.jsgen_reading_laws.proofs.Good.{Good, Printed, begins_then, line_then, good_wrapped}
+use Rattle.jsgen_reading_laws.proofs.Good.{Good, Printed, begins_then, line_then, good_wrapped, PrintedBy}
 
 same_choice : (u v w x y z : Tree) → normal u ≡ normal x → normal v ≡ normal y → normal w ≡ normal z → tree.conditional (nothing_of 0) (normal u) (normal v) (normal w) ≡ tree.conditional (nothing_of 0) (normal x) (normal y) (normal z)
 same_choice u v w x y z e f g = λ i. tree.conditional (nothing_of 0) (e i) (f i) (g i)
 
 -- from the test, `?`, what is chosen, `:` and what is chosen otherwise, with blanks round both signs
-choice_parts : {names : Tables} (c : Allowed) (a : Atoms) (x y z : Tree) (start : Start) (p p1 p2 p3 p4 p5 p6 p7 p8 q : Pen) (l : Last) → (g : Good names p l p1 c grammar.ShortCircuit start x) (s : Soft names p1 g.last p2) → Writes names p2 s.last p3 (After (Sign question)) (piece (line_of s.last) (Sign question) done) → (n : Soft names p3 (After (Sign question)) p4) (h : Good names p4 n.last p5 (with_in c) grammar.Assignment nowhere y)
-    → (m : Soft names p5 h.last p6) → Writes names p6 m.last p7 (After (Sign colon)) (piece (line_of m.last) (Sign colon) done) → (r : Soft names p7 (After (Sign colon)) p8) → Good names p8 r.last q c grammar.Assignment nowhere z → Good names p l q c grammar.Conditional start (tree.conditional a x y z)
-choice_parts {names} c a x y z start p p1 p2 p3 p4 p5 p6 p7 p8 q l g s o n h m u r i =
+choice_parts : {names : Tables} {c : Allowed} (a : Atoms) (x y z : Tree) {p p1 p2 p3 p4 p5 p6 p7 p8 q : Pen} {l : Last} → (g : Good names p l p1 c grammar.ShortCircuit x) (s : Soft names p1 g.last p2) → Writes names p2 s.last p3 (After (Sign question)) (piece (line_of s.last) (Sign question) done) → (n : Soft names p3 (After (Sign question)) p4) (h : Good names p4 n.last p5 (with_in c) grammar.Assignment y)
+    → (m : Soft names p5 h.last p6) → Writes names p6 m.last p7 (After (Sign colon)) (piece (line_of m.last) (Sign colon) done) → (r : Soft names p7 (After (Sign colon)) p8) → Good names p8 r.last q c grammar.Assignment z → Good names p l q c grammar.Conditional (tree.conditional a x y z)
+choice_parts {names} a x y z {p = p} g s o n h m u r i =
     let behind_it : Tokens = piece (line_of s.last) (Sign question) (h.tokens ⧺ piece (line_of m.last) (Sign colon) i.tokens) in
     record {
       last = i.last;
@@ -33,7 +35,7 @@ choice_parts {names} c a x y z start p p1 p2 p3 p4 p5 p6 p7 p8 q l g s o n h m u
       writes = wrote_both g.writes (wrote_both s.writes (wrote_both o (wrote_both n.writes (wrote_both h.writes (wrote_both m.writes (wrote_both u (wrote_both r.writes i.writes)))))));
       operand = i.operand;
       semicolon = i.semicolon;
-      begins = λ d e. begins_then start g.tokens behind_it d g.begins refl;
+      begins = λ d e. begins_then p.start g.tokens behind_it d g.begins refl;
       line = λ e. line_then g.tokens behind_it (g.line e);
       tree = tree.conditional (nothing_of 0) g.tree h.tree i.tree;
       reads = grammar.a_choice (line_of s.last) (line_of m.last) refl g.reads h.reads i.reads;
@@ -41,18 +43,18 @@ choice_parts {names} c a x y z start p p1 p2 p3 p4 p5 p6 p7 p8 q l g s o n h m u
     }
 
 abbrev items_of : Tree → Tree → Tree → Place → Bool → Items
-items_of x y z place w = choice (spell x (with_calls (in_front levels.Conditional (within w place)))) (spell y (in_brackets levels.Yield place)) (spell z (with_calls (behind levels.Yield (within w place))))
+items_of x y z place w = choice (spell x (with_calls (child levels.Conditional (within w place)))) (spell y (in_brackets levels.Yield)) (spell z (with_calls (child levels.Yield (within w place))))
 
 pub good_choice : {names : Tables} (c : Allowed) (a : Atoms) (x y z : Tree) → Printed names c x → Printed names c y → Printed names c z → Printed names c (tree.conditional a x y z)
 good_choice {names} c a x y z f g h place =
     good_wrapped c place grammar.Conditional (wraps levels.Conditional place) (items_of x y z place) (tree.conditional a x y z)
     (λ d ts u r. lifted false levels.Assign levels.Lowest (omega arith) r) (λ e ts u r. unwrapped levels.Conditional place e r) inner
   where
-    inner : (v : Bool) → wraps levels.Conditional place ≡ v → (p : Pen) (l : Last) → p.pending_semicolon ≡ false → Ready l → Knows names p l → Good names p l (layout (items_of x y z place v) p) (under (within v place) c) grammar.Conditional (unless_printed v place.start) (tree.conditional a x y z)
+    inner : (v : Bool) → wraps levels.Conditional place ≡ v → PrintedBy names (under (within v place) c) grammar.Conditional (items_of x y z place v) (tree.conditional a x y z)
     inner v e p l pending ready knows =
-        let test : Place = with_calls (in_front levels.Conditional (within v place)) in
-        let chosen : Place = in_brackets levels.Yield place in
-        let other : Place = with_calls (behind levels.Yield (within v place)) in
+        let test : Place = with_calls (child levels.Conditional (within v place)) in
+        let chosen : Place = in_brackets levels.Yield in
+        let other : Place = with_calls (child levels.Yield (within v place)) in
         let p1 : Pen = layout (spell x test) p in
         let p2 : Pen = layout soft_space p1 in
         let p3 : Pen = layout (punctuator question) p2 in
@@ -60,7 +62,6 @@ good_choice {names} c a x y z f g h place =
         let p5 : Pen = layout (spell y chosen) p4 in
         let p6 : Pen = layout soft_space p5 in
         let p7 : Pen = layout (punctuator colon) p6 in
-        let p8 : Pen = layout soft_space p7 in
         let i = f test p l pending ready knows in
         let s = soft_space_written p1 i.last i.writes.knows in
         let o = wrote_punctuator question p2 s.last tt tt (s.operand i.operand) s.writes.knows in
@@ -69,5 +70,5 @@ good_choice {names} c a x y z f g h place =
         let m = soft_space_written p5 j.last j.writes.knows in
         let u = wrote_punctuator colon p6 m.last tt tt (m.operand j.operand) m.writes.knows in
         let r = soft_space_written p7 (After (Sign colon)) u.knows in
-        let k = h other p8 r.last (r.semicolon ∙ (m.semicolon ∙ j.semicolon)) (r.ready tt) r.writes.knows in
-        choice_parts (under (within v place) c) a x y z (unless_printed v place.start) p p1 p2 p3 p4 p5 p6 p7 p8 (layout (spell z other) p8) l i s o n j m u r k
+        let k = h other (layout soft_space p7) r.last (r.semicolon ∙ (m.semicolon ∙ j.semicolon)) (r.ready tt) r.writes.knows in
+        choice_parts a x y z i s o n j m u r k

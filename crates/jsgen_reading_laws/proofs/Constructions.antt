@@ -1,97 +1,126 @@
 -- `new`, with arguments or without.
-use Rattle.std.proofs.Common.{◌≡◌, Bool, true, false, not, ◌||◌, codes, refl, ap, ◌∙◌, subst, arith}
+use Rattle.std.proofs.Common.{◌≡◌, Bool, true, false, not, ◌||◌, codes, refl, ap, ◌∙◌, subst, arith, append-nil, ◌++◌, []}
 use Rattle.std.proofs.lemmas.Bool.{both_ways, or_parts}
 use Rattle.jsgen_syntax.specs.declared.precedence.Precedence.TheVariants as levels
 use Rattle.jsgen_tree.specs.Job.{Tables}
 use Rattle.jsgen_tree.specs.Tree.{Tree, Trees, no_trees, more, hole, Atoms}
 use Rattle.jsgen_tree.specs.Nodes as tree
 use Rattle.jsgen_model.specs.Punctuator.{Round, opening, closing}
-use Rattle.jsgen_model.specs.Tokens.{done, piece, group, ◌⧺◌, Word}
+use Rattle.jsgen_model.specs.Tokens.{done, piece, group, ◌⧺◌, Word, Tokens}
 use Rattle.jsgen_model.specs.Items.{Items, ◌⊕◌, word, soft_space, wrapped}
-use Rattle.jsgen_model.specs.Layout.{Pen, Start, nowhere, other_end, layout, written, unless_printed}
+use Rattle.jsgen_model.specs.Layout.{Pen, other_end, layout, written, written_if}
 use Rattle.jsgen_model.specs.Grammar.{Allowed, ReadsExpression, ReadsArguments, with_in}
 use Rattle.jsgen_model.specs.Grammar as grammar
 use Rattle.jsgen_model.specs.Normal.{normal, normal_trees, nothing_of}
 use Rattle.jsgen_model.specs.Renamed.{renamed, renamed_trees}
-use Rattle.jsgen_model.specs.Spell.{Place, spell, spell_list, within, constructed, in_brackets, wraps, any_given, needs_arguments, new_arguments}
+use Rattle.jsgen_place.specs.declared.place.Place.{Place}
+use Rattle.jsgen_place.specs.Place.{within, constructed, in_brackets, wraps}
+use Rattle.jsgen_model.specs.Spell.{spell, spell_list, any_given, new_arguments}
 use Rattle.jsgen_token_laws.proofs.Characters.{letters_spelled}
-use Rattle.jsgen_token_laws.proofs.Last.{Last, Open, After, line_of, Ready, Knows}
-use Rattle.jsgen_token_laws.proofs.Writes.{Writes, wrote_both}
-use Rattle.jsgen_token_laws.proofs.Steps.{Soft, soft_space_written, within_brackets, brackets_written}
+use Rattle.jsgen_token_laws.proofs.Last.{Last, Open, After, line_of, Knows, Operand}
+use Rattle.jsgen_token_laws.proofs.Writes.{Writes, wrote_both, wrote_and_none}
+use Rattle.jsgen_token_laws.proofs.Steps.{soft_space_written, within_brackets, brackets_written, no_soft, wrote_word}
 use Rattle.jsgen_reading_laws.proofs.Levels.{level_of, under, weaken_member, lifted, unwrapped}
-use Rattle.jsgen_reading_laws.proofs.Good.{Good, Printed, good_wrapped}
+use Rattle.jsgen_reading_laws.proofs.Good.{Good, Printed, good_wrapped, PrintedBy, begins_all, good_at}
 use Rattle.jsgen_reading_laws.proofs.Lists.{Elements}
-use Rattle.jsgen_reading_laws.proofs.Prefixes.{Before, word_before, word_begins, good_prefix}
 use Rattle.jsgen_reading_laws.proofs.Links.{ArgumentsAt, spelled_as_list}
 
 same_construction : (a : Atoms) (u x : Tree) (us xs : Trees) → normal u ≡ normal x → normal_trees us ≡ normal_trees xs → normal (tree.new_expression (nothing_of 1) u us) ≡ normal (tree.new_expression a x xs)
 same_construction a u x us xs e f = λ i. tree.new_expression (nothing_of 1) (e i) (f i)
 
-new_before : {names : Tables} → Before names (word (codes "new")) (Word (codes "new"))
-new_before = word_before (codes "new") (letters_spelled 110 (codes "ew") refl) (λ ts. refl)
+-- the word, a blank and what it stands before
+record Headed (names : Tables) (p : Pen) (l : Last) (q : Pen) (c : Allowed) (t : Tree) : Type 0 where
+  last : Last
+  head : Tokens
+  writes : Writes names p l q last (piece (line_of l) (Word (codes "new")) head)
+  operand : Operand last
+  semicolon : q.pending_semicolon ≡ false
+  tree : Tree
+  reads : ReadsExpression c grammar.Member head tree
+  same : normal tree ≡ normal (renamed names t)
 
--- ---- with arguments
+headed : {names : Tables} (c : Allowed) (t : Tree) → Printed names c t → (place : Place) (p : Pen) (l : Last) → p.pending_semicolon ≡ false → Knows names p l → Headed names p l (layout (spell t (constructed place)) (layout soft_space (layout (word (codes "new")) p))) (under place c) t
+headed c t f place p l z k =
+    let p1 : Pen = layout (word (codes "new")) p in
+    let w = wrote_word (codes "new") p l (letters_spelled 110 (codes "ew") refl) k in
+    let n = soft_space_written p1 (After (Word (codes "new"))) w.knows in
+    let g = f (constructed place) (layout soft_space p1) n.last (n.semicolon ∙ z) (n.ready tt) n.writes.knows in
+    record { last = g.last; head = g.tokens; writes = wrote_both w (wrote_both n.writes g.writes); operand = g.operand; semicolon = g.semicolon; tree = g.tree; reads = g.reads; same = g.same }
 
-construction_parts : {names : Tables} (c : Allowed) (a : Atoms) (t : Tree) (es : Trees) (start : Start) (p p1 p2 p3 q : Pen) (l : Last) → Writes names p l p1 (After (Word (codes "new"))) (piece (line_of l) (Word (codes "new")) done) → (n : Soft names p1 (After (Word (codes "new"))) p2) → (g : Good names p2 n.last p3 c grammar.Member nowhere t) → Elements names (ReadsArguments (with_in c)) (written (opening Round) other_end p3) (Open false) q es → Good names p l (written (closing Round) other_end q) c grammar.Member start (tree.new_expression a t es)
-construction_parts {names} c a t es start p p1 p2 p3 q l w n g h = record {
-  last = Open false;
-  tokens = piece (line_of l) (Word (codes "new")) (g.tokens ⧺ group (line_of g.last) Round h.tokens done);
-  writes = wrote_both w (wrote_both n.writes (wrote_both g.writes (brackets_written Round p3 q g.last h.last h.tokens h.writes)));
-  operand = tt;
-  semicolon = h.semicolon;
-  begins = λ ts i. word_begins (codes "new") (λ us. refl) start (line_of l) ((g.tokens ⧺ group (line_of g.last) Round h.tokens done) ⧺ ts);
-  line = λ e. ap not e;
-  tree = tree.new_expression (nothing_of 1) g.tree h.trees;
-  reads = grammar.new_with_arguments (line_of l) (line_of g.last) refl g.reads h.reads;
-  same = same_construction a g.tree (renamed names t) h.trees (renamed_trees names es) g.same h.same;
-}
+-- ---- with arguments, or with parentheses round none
 
--- with arguments or without, as the test says
-abbrev construction_items : Bool → Tree → Trees → Place → Bool → Items
-construction_items stands t es place w = word (codes "new") ⊕ (soft_space ⊕ (spell t (constructed (within w place)) ⊕ new_arguments stands (spell_list es (in_brackets levels.Comma place))))
+with_arguments : {names : Tables} {c : Allowed} (a : Atoms) (t : Tree) (es : Trees) {p p1 q : Pen} {l : Last} → (g : Headed names p l p1 c t) → Elements names (ReadsArguments (with_in c)) (written (opening Round) other_end p1) (Open false) q es → Good names p l (written (closing Round) other_end q) c grammar.Member (tree.new_expression a t es)
+with_arguments {names} a t es {p} {p1} {q} {l} g h =
+    let others : Tokens = g.head ⧺ group (line_of g.last) Round h.tokens done in
+    record {
+      last = Open false;
+      tokens = piece (line_of l) (Word (codes "new")) others;
+      writes = wrote_both g.writes (brackets_written Round p1 q g.last h.last h.tokens h.writes);
+      operand = tt;
+      semicolon = h.semicolon;
+      begins = λ ts i. begins_all p.start (piece (line_of l) (Word (codes "new")) (others ⧺ ts)) refl;
+      line = λ e. ap not e;
+      tree = tree.new_expression (nothing_of 1) g.tree h.trees;
+      reads = grammar.new_with_arguments (line_of l) (line_of g.last) refl g.reads h.reads;
+      same = same_construction a g.tree (renamed names t) h.trees (renamed_trees names es) g.same h.same;
+    }
 
-abbrev ConstructionAt : Tables → Allowed → Atoms → Tree → Trees → Place → Bool → Type 0
-ConstructionAt names c a t es place stands = (p : Pen) (l : Last) → p.pending_semicolon ≡ false → Ready l → Knows names p l → Good names p l (layout (wrapped (wraps levels.New place) (construction_items stands t es place (wraps levels.New place))) p) (under place c) (level_of place) place.start (tree.new_expression a t es)
-
-with_arguments : {names : Tables} (c : Allowed) (a : Atoms) (t : Tree) (es : Trees) → Printed names c t → ArgumentsAt names c es → (place : Place) → ConstructionAt names c a t es place true
-with_arguments {names} c a t es f h place =
-    good_wrapped c place grammar.Member (wraps levels.New place) (construction_items true t es place) (tree.new_expression a t es)
-    (λ d ts u r. lifted false levels.Postfix levels.Lowest (omega arith) (grammar.a_called_member r)) (λ e ts u r. unwrapped levels.New place e (weaken_member place.context.forbids_call r)) inner
-  where
-    inner : (v : Bool) → wraps levels.New place ≡ v → (p : Pen) (l : Last) → p.pending_semicolon ≡ false → Ready l → Knows names p l → Good names p l (layout (construction_items true t es place v) p) (under (within v place) c) grammar.Member (unless_printed v place.start) (tree.new_expression a t es)
-    inner v e p l z y k =
-        let p1 : Pen = layout (word (codes "new")) p in
-        let p2 : Pen = layout soft_space p1 in
-        let p3 : Pen = layout (spell t (constructed (within v place))) p2 in
-        let p4 : Pen = written (opening Round) other_end p3 in
-        let w = new_before.writes p l k in
-        let n = soft_space_written p1 (After (Word (codes "new"))) w.knows in
-        let g = f (constructed (within v place)) p2 n.last (n.semicolon ∙ z) (n.ready tt) n.writes.knows in
-        let i = subst (λ items. Elements names (ReadsArguments (with_in c)) p4 (Open false) (layout items p4) es) (spelled_as_list es place) (h false false place p4 g.semicolon (within_brackets Round p3 g.last g.writes.knows)) in
-        construction_parts (under (within v place) c) a t es (unless_printed v place.start) p p1 p2 p3 (layout (spell_list es (in_brackets levels.Comma place)) p4) l w n g i
+-- the arguments, behind the opening parenthesis
+arguments_written : {names : Tables} (c : Allowed) (es : Trees) → ArgumentsAt names c es → (p : Pen) (l : Last) → p.pending_semicolon ≡ false → Knows names p l → let p1 : Pen = written (opening Round) other_end p in Elements names (ReadsArguments (with_in c)) p1 (Open false) (layout (spell_list es (in_brackets levels.Comma)) p1) es
+arguments_written {names} c es h p l z k =
+    let p1 : Pen = written (opening Round) other_end p in
+    subst (λ items. Elements names (ReadsArguments (with_in c)) p1 (Open false) (layout items p1) es) (spelled_as_list es) (h false false p1 z (within_brackets Round p l k))
 
 -- ---- without them
 
-none_given : (es : Trees) → any_given es ≡ false → no_trees ≡ es
-none_given no_trees e = refl
-none_given (more t ts) e = absurd (both_ways true e refl)
-none_given (hole ts) e = absurd (both_ways true e refl)
-
-without_arguments : {names : Tables} (c : Allowed) (a : Atoms) (t : Tree) (es : Trees) → Printed names c t → any_given es ≡ false → (place : Place) → wraps levels.Postfix place ≡ false → ConstructionAt names c a t es place false
-without_arguments {names} c a t es f none place loose =
-    good_wrapped c place grammar.New (wraps levels.New place) (construction_items false t es place) (tree.new_expression a t es)
-    (λ d ts u r. lifted false levels.Prefix levels.Lowest (omega arith) (grammar.a_left_hand_side (grammar.a_new r))) (λ e ts u r. unwrapped levels.Postfix place loose (grammar.a_left_hand_side (grammar.a_new r)))
-    (λ v e. good_prefix (word (codes "new")) (Word (codes "new")) soft_space (spell t (constructed (within v place))) t (tree.new_expression a t es) (under (within v place) c) (unless_printed v place.start) grammar.Member grammar.New new_before soft_space_written
-    (λ ts line u r s. (tree.new_expression (nothing_of 1) u no_trees, grammar.new_alone (grammar.a_member r), same_construction a u (renamed names t) no_trees (renamed_trees names es) s (ap (λ ts. normal_trees (renamed_trees names ts)) (none_given es none)))) (f (constructed (within v place))))
+alone : {names : Tables} {c : Allowed} (a : Atoms) (t : Tree) {p p1 : Pen} {l : Last} → Headed names p l p1 c t → Good names p l (written_if false (closing Round) (written_if false (opening Round) p1)) c grammar.New (tree.new_expression a t no_trees)
+alone {names} a t {p} {p1} {l} g =
+    let q : Pen = written_if false (closing Round) (written_if false (opening Round) p1) in
+    let b = no_soft p1 q g.last (append-nil (p1.code ++ []) ∙ append-nil p1.code) refl refl refl g.writes.knows in
+    record {
+      last = b.last;
+      tokens = piece (line_of l) (Word (codes "new")) g.head;
+      writes = wrote_and_none g.writes b.writes;
+      operand = b.operand g.operand;
+      semicolon = b.semicolon ∙ g.semicolon;
+      begins = λ ts i. begins_all p.start (piece (line_of l) (Word (codes "new")) (g.head ⧺ ts)) refl;
+      line = λ e. ap not e;
+      tree = tree.new_expression (nothing_of 1) g.tree no_trees;
+      reads = grammar.new_alone (grammar.a_member g.reads);
+      same = same_construction a g.tree (renamed names t) no_trees no_trees g.same refl;
+    }
 
 -- ---- the whole
 
-pub good_construction : {names : Tables} (c : Allowed) (a : Atoms) (t : Tree) (es : Trees) → Printed names c t → ArgumentsAt names c es → Printed names c (tree.new_expression a t es)
-good_construction {names} c a t es f h place = go (needs_arguments place (any_given es)) refl
+-- in parentheses or not, as the test says
+abbrev construction_items : Bool → Tree → Trees → Place → Bool → Items
+construction_items stand t es place w = word (codes "new") ⊕ (soft_space ⊕ (spell t (constructed (within w place)) ⊕ new_arguments stand (spell_list es (in_brackets levels.Comma))))
+
+abbrev ConstructionAt : Tables → Allowed → Atoms → Tree → Trees → Place → Bool → Type 0
+ConstructionAt names c a t es place stand = PrintedBy names (under place c) (level_of place) (wrapped (wraps levels.New place) (construction_items stand t es place (wraps levels.New place))) (tree.new_expression a t es)
+
+in_parentheses : {names : Tables} (c : Allowed) (a : Atoms) (t : Tree) (es : Trees) → Printed names c t → ArgumentsAt names c es → (place : Place) → ConstructionAt names c a t es place true
+in_parentheses c a t es f h place =
+    good_wrapped c place grammar.Member (wraps levels.New place) (construction_items true t es place) (tree.new_expression a t es)
+    (λ d ts u r. lifted false levels.Postfix levels.Lowest (omega arith) (grammar.a_called_member r)) (λ e ts u r. unwrapped levels.New place e (weaken_member place.context.forbids_call r))
+    (λ v e p l z y k. let g = headed c t f (within v place) p l z k in with_arguments a t es g (arguments_written c es h _ g.last g.semicolon g.writes.knows))
+
+-- minified text has none round no arguments
+none_unless_minified : {names : Tables} (c : Allowed) (a : Atoms) (t : Tree) (es : Trees) → any_given es ≡ false → Printed names c t → ArgumentsAt names c es → (place : Place) → wraps levels.Postfix place ≡ false → ConstructionAt names c a t es place false
+none_unless_minified c a t (more e es) n f h place loose = absurd (both_ways true n refl)
+none_unless_minified c a t (hole es) n f h place loose = absurd (both_ways true n refl)
+none_unless_minified {names} c a t no_trees n f h place loose =
+    good_wrapped c place grammar.New (wraps levels.New place) (construction_items false t no_trees place) (tree.new_expression a t no_trees)
+    (λ d ts u r. lifted false levels.Prefix levels.Lowest (omega arith) (grammar.a_left_hand_side (grammar.a_new r))) (λ e ts u r. unwrapped levels.Postfix place loose (grammar.a_left_hand_side (grammar.a_new r)))
+    (λ v e p l z y k. by v p l (headed c t f (within v place) p l z k) (layout (spell t (constructed (within v place))) (layout soft_space (layout (word (codes "new")) p))).style.minified)
   where
-    go : (b : Bool) → needs_arguments place (any_given es) ≡ b → ConstructionAt names c a t es place b
-    go true e = with_arguments c a t es f h place
-    go false e =
-        let k = or_parts (not place.settings.minified) (any_given es || wraps levels.Postfix place) e in
-        let j = or_parts (any_given es) (wraps levels.Postfix place) k.1 in
-        without_arguments c a t es f j.0 place j.1
+    by : (v : Bool) (p : Pen) (l : Last) {p1 : Pen} → Headed names p l p1 (under (within v place) c) t → (minified : Bool) → Good names p l (written_if (not minified) (closing Round) (written_if (not minified) (opening Round) p1)) (under (within v place) c) grammar.New (tree.new_expression a t no_trees)
+    by v p l g true = alone a t g
+    by v p l {p1} g false = good_at (λ ts u r. grammar.a_member r) (with_arguments a t no_trees g (arguments_written c no_trees h p1 g.last g.semicolon g.writes.knows))
+
+pub good_construction : {names : Tables} (c : Allowed) (a : Atoms) (t : Tree) (es : Trees) → Printed names c t → ArgumentsAt names c es → Printed names c (tree.new_expression a t es)
+good_construction {names} c a t es f h place = go (any_given es || wraps levels.Postfix place) refl
+  where
+    go : (b : Bool) → any_given es || wraps levels.Postfix place ≡ b → ConstructionAt names c a t es place b
+    go true e = in_parentheses c a t es f h place
+    go false e = let k = or_parts (any_given es) (wraps levels.Postfix place) e in none_unless_minified c a t es k.0 f h place k.1

@@ -10,16 +10,18 @@ use Rattle.jsgen_tree.specs.Words.{declaration_word}
 use Rattle.jsgen_tree.specs.Tree.{Tree, Maybe, Trees, no_trees, more, Atoms}
 use Rattle.jsgen_tree.specs.Values.{variable_declaration_kind, variable_declaration_declare, variable_declarator_definite}
 use Rattle.jsgen_tree.specs.Places.{bare}
-use Rattle.jsgen_tree.specs.Atom.{no_value, declaration_kind}
+use Rattle.jsgen_tree.specs.Atom.{declaration_kind}
 use Rattle.jsgen_tree.specs.Nodes as tree
 use Rattle.jsgen_model.specs.Tokens.{Tokens, done, piece, Word}
 use Rattle.jsgen_model.specs.Items.{Items, ◌⊕◌, word, soft_space}
 use Rattle.jsgen_model.specs.Layout.{Pen, layout}
 use Rattle.jsgen_model.specs.Grammar.{Allowed, ReadsDeclarator, ReadsDeclarators, ReadsVariables, EndsBy, is_var, with_in}
 use Rattle.jsgen_model.specs.Grammar as grammar
-use Rattle.jsgen_model.specs.Normal.{normal, normal_maybe, nothing_of, declared_as}
+use Rattle.jsgen_model.specs.Normal.{normal, normal_maybe, nothing_of, declared_as, if_set}
 use Rattle.jsgen_model.specs.Renamed.{renamed, renamed_maybe}
-use Rattle.jsgen_model.specs.Spell.{Settings, Place, spell_list, among_statements, behind}
+use Rattle.jsgen_place.specs.declared.place.Place.{Place}
+use Rattle.jsgen_place.specs.Place.{among_statements, child}
+use Rattle.jsgen_model.specs.Spell.{spell_list}
 use Rattle.jsgen_model.specs.Valid.{is_lexical_word}
 use Rattle.jsgen_token_laws.proofs.Characters.{letters_spelled}
 use Rattle.jsgen_token_laws.proofs.Last.{Last, After, line_of, Knows}
@@ -43,10 +45,10 @@ ListDeclaredAt names c place ds = ElementsAt names (ReadsDeclarators (under plac
 abbrev pub MoreDeclaredAt : Tables → Allowed → Place → Trees → Type 0
 MoreDeclaredAt names c place ds = MoreAt names (ReadsDeclarator (under place c)) (ReadsDeclarators (under place c)) place ds
 
-same_declarator : (a : Atoms) (b u : Tree) (m n : Maybe) → variable_declarator_definite a ≡ no_value → normal b ≡ normal u → normal_maybe m ≡ normal_maybe n → normal (tree.variable_declarator (nothing_of 1) b m) ≡ normal (tree.variable_declarator a u n)
-same_declarator a b u m n h e f = λ i. tree.variable_declarator (bare (sym h i ∷ [])) (e i) (f i)
+same_declarator : (a : Atoms) (b u : Tree) (m n : Maybe) → variable_declarator_definite a ≡ false → normal b ≡ normal u → normal_maybe m ≡ normal_maybe n → normal (tree.variable_declarator (nothing_of 1) b m) ≡ normal (tree.variable_declarator a u n)
+same_declarator a b u m n h e f = λ i. tree.variable_declarator (bare (if_set (sym h i) ∷ [])) (e i) (f i)
 
-declarator_holds : {names : Tables} (c : Allowed) (a : Atoms) → variable_declarator_definite a ≡ no_value → Holds names c (ReadsDeclarator c) (λ b m. tree.variable_declarator a b m)
+declarator_holds : {names : Tables} (c : Allowed) (a : Atoms) → variable_declarator_definite a ≡ false → Holds names c (ReadsDeclarator c) (λ b m. tree.variable_declarator a b m)
 declarator_holds {names} c a h = record {
   reading = λ b m. tree.variable_declarator (nothing_of 1) b m;
   alone = λ ts b r. grammar.without_value r;
@@ -54,7 +56,7 @@ declarator_holds {names} c a h = record {
   same = λ b u m n e f. same_declarator a b (renamed names u) m (renamed_maybe names n) h e f;
 }
 
-pub good_declarator : {names : Tables} (c : Allowed) (a : Atoms) (b : Tree) (m : Maybe) → variable_declarator_definite a ≡ no_value → Bound names c b → PrintedIfGiven names c m → (place : Place) → DeclaredAt names c place (tree.variable_declarator a b m)
+pub good_declarator : {names : Tables} (c : Allowed) (a : Atoms) (b : Tree) (m : Maybe) → variable_declarator_definite a ≡ false → Bound names c b → PrintedIfGiven names c m → (place : Place) → DeclaredAt names c place (tree.variable_declarator a b m)
 good_declarator c a b m h f v place = good_held c (ReadsDeclarator (under place c)) (λ x n. tree.variable_declarator a x n) b m place (declarator_holds (under place c) a h) f v
 
 declarators_join : (c : Allowed) → Joins (ReadsDeclarator c) (ReadsDeclarators c)
@@ -82,7 +84,7 @@ other_is_var : (k : VariableDeclarationKind) → is_lexical_word k ≡ false →
 other_is_var kinds.Var h = refl
 other_is_var k h = absurd (both_ways true h refl)
 
-variables_parts : {names : Tables} (c : Allowed) (a : Atoms) (ds : Trees) (p p1 p2 q : Pen) (l : Last) → variable_declaration_declare a ≡ no_value → Writes names p l p1 (After (Word (declaration_word (variable_declaration_kind a)))) (piece (line_of l) (Word (declaration_word (variable_declaration_kind a))) done) → (n : Soft names p1 (After (Word (declaration_word (variable_declaration_kind a)))) p2) → Elements names (ReadsDeclarators c) p2 n.last q ds
+variables_parts : {names : Tables} (c : Allowed) (a : Atoms) (ds : Trees) (p p1 p2 q : Pen) (l : Last) → variable_declaration_declare a ≡ false → Writes names p l p1 (After (Word (declaration_word (variable_declaration_kind a)))) (piece (line_of l) (Word (declaration_word (variable_declaration_kind a))) done) → (n : Soft names p1 (After (Word (declaration_word (variable_declaration_kind a)))) p2) → Elements names (ReadsDeclarators c) p2 n.last q ds
     → Element names (ReadsVariables c (variable_declaration_kind a)) p l q (tree.variable_declaration a ds)
 variables_parts c a ds p p1 p2 q l m o n g = record {
   last = g.last;
@@ -92,17 +94,17 @@ variables_parts c a ds p p1 p2 q l m o n g = record {
   semicolon = g.semicolon;
   tree = tree.variable_declaration (declared_as (variable_declaration_kind a)) g.trees;
   reads = kind_reads (variable_declaration_kind a) c (line_of l) g.tokens g.trees g.reads;
-  same = λ i. tree.variable_declaration (bare (declaration_kind (variable_declaration_kind a) ∷ sym m i ∷ [])) (g.same i);
+  same = λ i. tree.variable_declaration (bare (declaration_kind (variable_declaration_kind a) ∷ if_set (sym m i) ∷ [])) (g.same i);
 }
 
 abbrev pub declaration_items : Atoms → Trees → Place → Items
-declaration_items a ds place = word (declaration_word (variable_declaration_kind a)) ⊕ (soft_space ⊕ spell_list ds (behind levels.Lowest place))
+declaration_items a ds place = word (declaration_word (variable_declaration_kind a)) ⊕ (soft_space ⊕ spell_list ds (child levels.Lowest place))
 
 -- printed at one place, in a loop's head or among statements, and read with its kind
 abbrev pub VariablesAt : Tables → Allowed → Place → Atoms → Trees → Type 0
 VariablesAt names c place a ds = (p : Pen) (l : Last) → p.pending_semicolon ≡ false → Knows names p l → Element names (ReadsVariables (under place c) (variable_declaration_kind a)) p l (layout (declaration_items a ds place) p) (tree.variable_declaration a ds)
 
-good_variables : {names : Tables} (c : Allowed) (a : Atoms) (ds : Trees) (place : Place) → variable_declaration_declare a ≡ no_value → ListDeclaredAt names c (behind levels.Lowest place) ds → VariablesAt names c place a ds
+good_variables : {names : Tables} (c : Allowed) (a : Atoms) (ds : Trees) (place : Place) → variable_declaration_declare a ≡ false → ListDeclaredAt names c (child levels.Lowest place) ds → VariablesAt names c place a ds
 good_variables c a ds place m f p l z k =
     let w : List ℕ = declaration_word (variable_declaration_kind a) in
     let p1 : Pen = layout (word w) p in
@@ -110,7 +112,7 @@ good_variables c a ds place m f p l z k =
     let o = wrote_word w p l (kind_spelled (variable_declaration_kind a)) k in
     let n = soft_space_written p1 (After (Word w)) o.knows in
     let g = f p2 n.last (n.semicolon ∙ z) (n.begun tt) n.writes.knows in
-    variables_parts (under place c) a ds p p1 p2 (layout (spell_list ds (behind levels.Lowest place)) p2) l m o n g
+    variables_parts (under place c) a ds p p1 p2 (layout (spell_list ds (child levels.Lowest place)) p2) l m o n g
 
 -- ---- lists of declarators, as a whole and as more of one
 
@@ -126,8 +128,8 @@ first_declared c d ds place f m =
     (whole_list (ReadsDeclarator d1) (ReadsDeclarators d1) place d ds f m, one_more (ReadsDeclarator d1) (ReadsDeclarators d1) (declarators_join d1) place d ds f m)
 
 -- the declarators of a declaration
-pub variables_from : {names : Tables} (c : Allowed) (a : Atoms) (ds : Trees) → variable_declaration_declare a ≡ no_value → ((place : Place) → ListDeclaredAt names c place ds × MoreDeclaredAt names c place ds) → (place : Place) → VariablesAt names c place a ds
-variables_from c a ds m f place = good_variables c a ds place m (f (behind levels.Lowest place)).0
+pub variables_from : {names : Tables} (c : Allowed) (a : Atoms) (ds : Trees) → variable_declaration_declare a ≡ false → ((place : Place) → ListDeclaredAt names c place ds × MoreDeclaredAt names c place ds) → (place : Place) → VariablesAt names c place a ds
+variables_from c a ds m f place = good_variables c a ds place m (f (child levels.Lowest place)).0
 
 -- ---- declarations and `var` among statements
 
@@ -144,14 +146,14 @@ unended_variables c a ds f g = record {
 }
 
 pub listed_declaration : {names : Tables} (c : Allowed) (a : Atoms) (ds : Trees) → is_lexical_word (variable_declaration_kind a) ≡ true → ((place : Place) → VariablesAt names c place a ds) → Listed names c (tree.variable_declaration a ds)
-listed_declaration c a ds h f settings =
-    let place : Place = among_statements settings in
+listed_declaration c a ds h f =
+    let place : Place = among_statements in
     let kind : VariableDeclarationKind = variable_declaration_kind a in
     whole_line (declaration_items a ds place) (λ p l z y k. unended_variables c a ds (λ last ts b t e r. grammar.a_declaration kind (lexical_is_no_var kind h) e r) (f place p l z k))
 
 pub good_variable_statement : {names : Tables} (c : Allowed) (a : Atoms) (ds : Trees) → is_lexical_word (variable_declaration_kind a) ≡ false → ((place : Place) → VariablesAt names c place a ds) → Stated names c (tree.variable_declaration a ds)
-good_variable_statement {names} c a ds h f = stated_among refl (λ settings. whole_line (declaration_items a ds (among_statements settings)) (inside settings))
+good_variable_statement {names} c a ds h f = stated_among refl (whole_line (declaration_items a ds among_statements) inside)
   where
-    inside : (settings : Settings) → UnendedAt names (ReadsClosed c false) (SameTree names (tree.variable_declaration a ds)) (declaration_items a ds (among_statements settings))
-    inside settings p l z y k =
-        unended_variables c a ds (λ last ts b t e r before_else n. grammar.a_variable_statement e (subst (λ kind. ReadsVariables (with_in c) kind b t) (other_is_var (variable_declaration_kind a) h) r)) (f (among_statements settings) p l z k)
+    inside : UnendedAt names (ReadsClosed c false) (SameTree names (tree.variable_declaration a ds)) (declaration_items a ds among_statements)
+    inside p l z y k =
+        unended_variables c a ds (λ last ts b t e r before_else n. grammar.a_variable_statement e (subst (λ kind. ReadsVariables (with_in c) kind b t) (other_is_var (variable_declaration_kind a) h) r)) (f among_statements p l z k)

@@ -6,6 +6,7 @@ use Rattle.jsgen_syntax.specs.Wtf8.{are_units}
 use Rattle.jsgen_syntax.specs.declared.quote.Quote.{Quote}
 use Rattle.jsgen_syntax.specs.declared.quote.Quote.TheVariants.{Backtick}
 use Rattle.jsgen_syntax.proofs.Strings.{escaped_value}
+use Rattle.jsgen_syntax.specs.declared.precedence.Precedence.TheVariants as levels
 use Rattle.jsgen_tree.specs.Job.{Tables}
 use Rattle.jsgen_tree.specs.Inside.{without_parentheses}
 use Rattle.jsgen_tree.specs.Atom.{units}
@@ -20,7 +21,8 @@ use Rattle.jsgen_model.specs.Grammar.{Allowed, EndsBy, ReadsStatement, ReadsItem
 use Rattle.jsgen_model.specs.Grammar as grammar
 use Rattle.jsgen_model.specs.Normal.{normal, nothing_of}
 use Rattle.jsgen_model.specs.Renamed.{renamed, renamed_trees}
-use Rattle.jsgen_model.specs.Spell.{Settings, spell, spell_body, spell_statements, string_in, unless_string, first_statement, among_statements, whole_statement}
+use Rattle.jsgen_place.specs.Place.{among_statements, in_brackets}
+use Rattle.jsgen_model.specs.Spell.{spell, spell_body, spell_statements, string_in, unless_string, first_statement}
 use Rattle.jsgen_token_laws.proofs.Last.{Last, Open, After, line_of}
 use Rattle.jsgen_token_laws.proofs.Writes.{wrote_none, wrote_both, wrote_brackets, then_assoc}
 use Rattle.jsgen_token_laws.proofs.Steps.{gap, none_due, wrote_quoted, within_brackets}
@@ -85,14 +87,14 @@ item_apart (grammar.a_declaration kind k h (grammar.some_variables r)) n = end_a
 abbrev pub First : Allowed → Bool → Tokens → Tree → Type 0
 First c last ts t = ReadsItem c last ts t × Apart ts
 
-no_string_first : {names : Tables} {c : Allowed} (t : Tree) → Listed names c t → is_string_statement (normal (renamed names t)) ≡ false → (settings : Settings) → StandsAt names (First c) (SameTree names t) (spell t (among_statements settings))
-no_string_first t f n settings p l z y k = stands_since (λ e ts u s r. (r, item_apart r (ap is_string_statement s ∙ n))) (λ u s. s) (f settings p l z y k)
+no_string_first : {names : Tables} {c : Allowed} (t : Tree) → Listed names c t → is_string_statement (normal (renamed names t)) ≡ false → StandsAt names (First c) (SameTree names t) (spell t among_statements)
+no_string_first t f n p l z y k = stands_since (λ e ts u s r. (r, item_apart r (ap is_string_statement s ∙ n))) (λ u s. s) (f p l z y k)
 
 -- ---- a string alone
 
 -- its tokens: a string in parentheses, or one in backticks
-string_written : {names : Tables} (c : Allowed) (a : Atoms) (e : Tree) (us : List ℕ) (settings : Settings) → are_units us ≡ true → normal (renamed names e) ≡ tree.string_literal (bare (units us ∷ [])) → UnendedAt names (First c) (SameTree names (tree.expression_statement a e)) (first_string us)
-string_written {names} c a e us settings h s p l z y k = go p.style.minified
+string_written : {names : Tables} (c : Allowed) (a : Atoms) (e : Tree) (us : List ℕ) → are_units us ≡ true → normal (renamed names e) ≡ tree.string_literal (bare (units us ∷ [])) → UnendedAt names (First c) (SameTree names (tree.expression_statement a e)) (first_string us)
+string_written {names} c a e us h s p l z y k = go p.style.minified
   where
     text_of : Quote → List ℕ
     text_of q = escaped q p.style.ascii us
@@ -111,7 +113,7 @@ string_written {names} c a e us settings h s p l z y k = go p.style.minified
       ready = tt;
       semicolon = z;
       reading = tree.expression_statement (nothing_of 0) (tree.string_literal (bare (units us ∷ [])));
-      reads = record { read = λ e ts x. (grammar.a_statement (grammar.an_expression_statement x refl (from_primary (whole_statement settings) (grammar.a_string (valued Backtick)))), end_apart x in_backticks) };
+      reads = record { read = λ e ts x. (grammar.a_statement (grammar.an_expression_statement x refl (from_primary (in_brackets levels.Lowest) (grammar.a_string (valued Backtick)))), end_apart x in_backticks) };
       same = ap (λ x. tree.expression_statement (nothing_of 0) x) (sym s);
     }
       where
@@ -132,7 +134,7 @@ string_written {names} c a e us settings h s p l z y k = go p.style.minified
           ready = tt;
           semicolon = z;
           reading = tree.expression_statement (nothing_of 0) (tree.parenthesized (nothing_of 0) (tree.string_literal (bare (units us ∷ []))));
-          reads = record { read = λ e ts x. (grammar.a_statement (grammar.an_expression_statement x refl (from_primary (whole_statement settings) (grammar.in_parentheses (from_primary (whole_statement settings) (grammar.a_string (valued q)))))), end_apart x (λ d. refl)) };
+          reads = record { read = λ e ts x. (grammar.a_statement (grammar.an_expression_statement x refl (from_primary (in_brackets levels.Lowest) (grammar.in_parentheses (from_primary (in_brackets levels.Lowest) (grammar.a_string (valued q)))))), end_apart x (λ d. refl)) };
           same = ap (λ x. tree.expression_statement (nothing_of 0) x) (sym s);
         }
       where
@@ -141,15 +143,15 @@ string_written {names} c a e us settings h s p l z y k = go p.style.minified
 
 -- ---- the first item of a body
 
-pub first_stated : {names : Tables} {c : Allowed} {t : Tree} → IsItem names c t → Listed names c t → (settings : Settings) → StandsAt names (First c) (SameTree names t) (first_statement t (spell t (among_statements settings)))
-first_stated {names} {c} (family.a_statement (family.an_expression_statement {a} {e} v)) f settings = go (string_in (without_parentheses e)) refl
+pub first_stated : {names : Tables} {c : Allowed} {t : Tree} → IsItem names c t → Listed names c t → StandsAt names (First c) (SameTree names t) (first_statement t (spell t among_statements))
+first_stated {names} {c} (family.a_statement (family.an_expression_statement {a} {e} v)) f = go (string_in (without_parentheses e)) refl
   where
-    go : (o : Option (List ℕ)) → string_in (without_parentheses e) ≡ o → StandsAt names (First c) (SameTree names (tree.expression_statement a e)) (unless_string o (spell (tree.expression_statement a e) (among_statements settings)))
-    go (Some us) s = let k = (asked v).inside us s in whole_line (first_string us) (string_written c a e us settings k.0 k.1)
-    go None s = no_string_first (tree.expression_statement a e) f ((asked v).string ∙ ap is_some s) settings
-first_stated {t = t} (family.a_statement v) f settings = no_string_first t f refl settings
-first_stated {t = t} (family.a_function_declaration v) f settings = no_string_first t f refl settings
-first_stated {t = t} (family.a_declaration h m v) f settings = no_string_first t f refl settings
+    go : (o : Option (List ℕ)) → string_in (without_parentheses e) ≡ o → StandsAt names (First c) (SameTree names (tree.expression_statement a e)) (unless_string o (spell (tree.expression_statement a e) among_statements))
+    go (Some us) s = let k = (asked v).inside us s in whole_line (first_string us) (string_written c a e us k.0 k.1)
+    go None s = no_string_first (tree.expression_statement a e) f ((asked v).string ∙ ap is_some s)
+first_stated {t = t} (family.a_statement v) f = no_string_first t f refl
+first_stated {t = t} (family.a_function_declaration v) f = no_string_first t f refl
+first_stated {t = t} (family.a_declaration h m v) f = no_string_first t f refl
 
 -- ---- the statements of a body
 
@@ -173,8 +175,8 @@ first_row {names} {q = q} {r = r} t ss g h = record {
         let k = ended_more r.pending_semicolon e ts (g.tokens ⧺ h.tokens) x in
         subst (λ us. starts_with_directive us ≡ false) (sym (k.1 ∙ then_assoc g.tokens h.tokens k.0)) ((g.reads.read true g.tokens (at_brace q.pending_semicolon g.tokens)).1 (h.tokens ⧺ k.0))
 
-pub no_body : {names : Tables} (c : Allowed) (settings : Settings) → BodyAt names c (spell_body no_trees settings) no_trees
-no_body c settings p l z y k = record {
+pub no_body : {names : Tables} (c : Allowed) → BodyAt names c (spell_body no_trees) no_trees
+no_body c p l z y k = record {
   last = l;
   tokens = done;
   writes = wrote_none p p l refl k;
@@ -184,9 +186,9 @@ no_body c settings p l z y k = record {
   same = refl;
 }
 
-pub some_body : {names : Tables} (c : Allowed) (s : Tree) (ss : Trees) (settings : Settings) → StandsAt names (First c) (SameTree names s) (first_statement s (spell s (among_statements settings))) → RestAt names c (spell_statements ss settings) ss → BodyAt names c (spell_body (more s ss) settings) (more s ss)
-some_body c s ss settings f r p l z y k =
+pub some_body : {names : Tables} (c : Allowed) (s : Tree) (ss : Trees) → StandsAt names (First c) (SameTree names s) (first_statement s (spell s among_statements)) → RestAt names c (spell_statements ss) ss → BodyAt names c (spell_body (more s ss)) (more s ss)
+some_body c s ss f r p l z y k =
     let p1 : Pen = layout due_semicolon p in
     let n = none_due p l z k in
     let g = f p1 n.last (n.semicolon ∙ z) (n.ready y) n.writes.knows in
-    blank_before (gap n) (first_row s ss g (r (layout (first_statement s (spell s (among_statements settings))) p1) g.last g.ready g.writes.knows))
+    blank_before (gap n) (first_row s ss g (r (layout (first_statement s (spell s among_statements)) p1) g.last g.ready g.writes.knows))

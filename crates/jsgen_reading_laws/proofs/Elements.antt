@@ -8,7 +8,8 @@ use Rattle.jsgen_model.specs.Items.{Items, ◌⊕◌, punctuator, soft_space, so
 use Rattle.jsgen_model.specs.Layout.{Pen, layout, deeper_level}
 use Rattle.jsgen_model.specs.Normal.{normal_trees}
 use Rattle.jsgen_model.specs.Renamed.{renamed, renamed_trees}
-use Rattle.jsgen_model.specs.Spell.{Place, spell, spell_elements, next_line, line_or_space, on_lines, ends_in_hole, comma_if, object_inside}
+use Rattle.jsgen_place.specs.declared.place.Place.{Place}
+use Rattle.jsgen_model.specs.Spell.{spell, spell_elements, next_line, line_or_space, on_lines, ends_in_hole, comma_if, object_inside}
 use Rattle.jsgen_token_laws.proofs.Last.{Last, After, line_of, Begun, Knows}
 use Rattle.jsgen_token_laws.proofs.Writes.{Writes, wrote_none, wrote_both, wrote_and_none}
 use Rattle.jsgen_token_laws.proofs.Steps.{Gap, gap, wrote_comma, soft_space_written, soft_line_written, indentation_written}

@@ -19,8 +19,8 @@ use Rattle.jsgen_tree.specs.Places.{bare}
 use Rattle.jsgen_tree.specs.Values.{boolean_literal_value, string_literal_value}
 use Rattle.jsgen_tree.specs.Nodes as tree
 use Rattle.jsgen_model.specs.Tokens.{Tokens, done, piece, Word, Quoted, Sign}
-use Rattle.jsgen_model.specs.Layout.{Pen, layout, chosen_quote, Start, nowhere, statement, arrow_body, default_export}
-use Rattle.jsgen_model.specs.Grammar.{Allowed}
+use Rattle.jsgen_model.specs.Layout.{Pen, layout, chosen_quote}
+use Rattle.jsgen_model.specs.Grammar.{Allowed, starts_statement}
 use Rattle.jsgen_model.specs.Grammar as grammar
 use Rattle.jsgen_model.specs.Normal.{nothing_of, unnumbered}
 use Rattle.jsgen_model.specs.Spell.{truth_word}
@@ -30,8 +30,7 @@ use Rattle.jsgen_token_laws.proofs.Steps.{wrote_word, wrote_name, wrote_quoted, 
 use Rattle.jsgen_reading_laws.proofs.Levels.{from_primary, weaken_member, from_left}
 use Rattle.jsgen_token_laws.proofs.Writes.{wrote_both}
 use Rattle.jsgen_reading_laws.proofs.Names.{free_spelled, name_begins}
-use Rattle.jsgen_reading_laws.proofs.Good.{Printed, TargetPrinted, may_begin}
-use Rattle.jsgen_reading_laws.proofs.Prefixes.{word_begins}
+use Rattle.jsgen_reading_laws.proofs.Good.{Printed, TargetPrinted, begins_all}
 
 -- ---- names and numbers
 
@@ -46,7 +45,7 @@ reference_target {names} c a h place p l z y k =
         writes = wrote_name (reference_named a) p l (free_spelled v h) k;
         operand = tt;
         semicolon = z;
-        begins = λ b n. name_begins place.start (line_of l) w v b e h n;
+        begins = λ b n. name_begins p.start (line_of l) w v b e h n;
         line = λ g. ap not g;
         tree = tree.identifier_reference (unnumbered v);
         reads = from_primary place (grammar.a_reference e h);
@@ -61,12 +60,6 @@ reference_target {names} c a h place p l z y k =
 pub good_reference : {names : Tables} (c : Allowed) (a : Atoms) → is_free_name (printed_name names (reference_named a)) ≡ true → Printed names c (tree.identifier_reference a)
 good_reference c a h place p l z y k = (reference_target c a h place p l z y k).0
 
-this_begins : (start : Start) (line : Bool) (b : Tokens) → may_begin start (piece line (Word (codes "this")) b) ≡ true
-this_begins nowhere line b = refl
-this_begins statement line b = refl
-this_begins arrow_body line b = refl
-this_begins default_export line b = refl
-
 pub good_this : {names : Tables} (c : Allowed) (a : Atoms) → Printed names c (tree.this_expression a)
 good_this c a place p l z y k = record {
   last = _;
@@ -74,18 +67,12 @@ good_this c a place p l z y k = record {
   writes = wrote_word (codes "this") p l (letters_spelled 116 (codes "his") refl) k;
   operand = tt;
   semicolon = z;
-  begins = λ b n. this_begins place.start (line_of l) b;
+  begins = λ b n. begins_all p.start (piece (line_of l) (Word (codes "this")) b) refl;
   line = λ g. ap not g;
   tree = tree.this_expression (nothing_of 0);
   reads = from_primary place grammar.a_this;
   same = refl;
 }
-
-null_begins : (start : Start) (line : Bool) (b : Tokens) → may_begin start (piece line (Word (codes "null")) b) ≡ true
-null_begins nowhere line b = refl
-null_begins statement line b = refl
-null_begins arrow_body line b = refl
-null_begins default_export line b = refl
 
 pub good_null : {names : Tables} (c : Allowed) (a : Atoms) → Printed names c (tree.null_literal a)
 good_null c a place p l z y k = record {
@@ -94,20 +81,16 @@ good_null c a place p l z y k = record {
   writes = wrote_word (codes "null") p l (letters_spelled 110 (codes "ull") refl) k;
   operand = tt;
   semicolon = z;
-  begins = λ b n. null_begins place.start (line_of l) b;
+  begins = λ b n. begins_all p.start (piece (line_of l) (Word (codes "null")) b) refl;
   line = λ g. ap not g;
   tree = tree.null_literal (nothing_of 0);
   reads = from_primary place grammar.a_null;
   same = refl;
 }
 
-truth_begins : (start : Start) (line v : Bool) (b : Tokens) → may_begin start (piece line (Word (truth_word v)) b) ≡ true
-truth_begins nowhere line v b = refl
-truth_begins statement line true b = refl
-truth_begins statement line false b = refl
-truth_begins arrow_body line v b = refl
-truth_begins default_export line true b = refl
-truth_begins default_export line false b = refl
+truth_begins : (line v : Bool) (b : Tokens) → starts_statement (piece line (Word (truth_word v)) b) ≡ true
+truth_begins line true b = refl
+truth_begins line false b = refl
 
 truth_spelled : (v : Bool) → spells_name (truth_word v) ≡ true
 truth_spelled true = letters_spelled 116 (codes "rue") refl
@@ -124,7 +107,7 @@ good_boolean c a place p l z y k = let v : Bool = boolean_literal_value a in rec
   writes = wrote_word (truth_word v) p l (truth_spelled v) k;
   operand = tt;
   semicolon = z;
-  begins = λ b n. truth_begins place.start (line_of l) v b;
+  begins = λ b n. begins_all p.start (piece (line_of l) (Word (truth_word v)) b) (truth_begins (line_of l) v b);
   line = λ g. ap not g;
   tree = tree.boolean_literal (bare (flag v ∷ []));
   reads = from_primary place (truth_read v);
@@ -145,7 +128,7 @@ good_new_target c a place p l z y k =
       writes = wrote_both w (wrote_both d t);
       operand = tt;
       semicolon = z;
-      begins = λ b n. word_begins (codes "new") (λ ts. refl) place.start (line_of l) (piece false (Sign dot) (piece false (Word (codes "target")) b));
+      begins = λ b n. begins_all p.start (piece (line_of l) (Word (codes "new")) (piece false (Sign dot) (piece false (Word (codes "target")) b))) refl;
       line = λ g. ap not g;
       tree = tree.new_target (nothing_of 0);
       reads = from_left place (weaken_member place.context.forbids_call grammar.a_new_target);
@@ -153,12 +136,6 @@ good_new_target c a place p l z y k =
     }
 
 -- ---- strings
-
-quoted_begins : (start : Start) (line : Bool) (q : Quote) (w : List ℕ) (b : Tokens) → may_begin start (piece line (Quoted q w) b) ≡ true
-quoted_begins nowhere line q w b = refl
-quoted_begins statement line q w b = refl
-quoted_begins arrow_body line q w b = refl
-quoted_begins default_export line q w b = refl
 
 pub good_string : {names : Tables} (c : Allowed) (a : Atoms) → are_units (string_literal_value a) ≡ true → Printed names c (tree.string_literal a)
 good_string c a h place p l z y k =
@@ -173,7 +150,7 @@ good_string c a h place p l z y k =
       writes = wrote_quoted q w us p (layout (string backticks us) p) l e refl refl k;
       operand = tt;
       semicolon = z;
-      begins = λ b n. quoted_begins place.start (line_of l) q w b;
+      begins = λ b n. begins_all p.start (piece (line_of l) (Quoted q w) b) refl;
       line = λ g. ap not g;
       tree = tree.string_literal (bare (units us ∷ []));
       reads = from_primary place (grammar.a_string e);

@@ -1,6 +1,5 @@
 -- The trees over which the induction goes, where names are printed by these tables.
 use Rattle.std.proofs.Common.{◌≡◌, ◌^◌, nat_lt, ℕ, Bool, true, false, List, [], Some}
-use Rattle.jsgen_tree.specs.Atom as atoms
 use Rattle.jsgen_tree.specs.Tree.{Tree, Maybe, absent, given, Trees, no_trees, more, hole, Atoms, type_of}
 use Rattle.jsgen_tree.specs.Nodes as tree
 use Rattle.jsgen_tree.specs.Values.{as_text, directive_directive, identifier_name_name, numeric_literal_kind, numeric_literal_digits, numeric_literal_text, big_int_literal_value, string_literal_value, variable_declaration_kind, variable_declaration_declare, variable_declarator_definite, label_identifier_name, for_of_statement_is_await, static_member_expression_optional, computed_member_expression_optional, call_expression_optional, object_property_kind, object_property_method, object_property_shorthand, object_property_computed, formal_parameter_is_override, formal_parameter_readonly, formal_parameter_optional, function_kind, function_is_async, function_generator, function_declare, arrow_function_expression_is_async}
@@ -25,7 +24,7 @@ has_value Whole a = nat_lt (numeric_literal_digits a) (2 ^ 128)
 has_value Raw a = is_raw_number (numeric_literal_text a)
 
 abbrev pub IsSynchronous : Atoms → Type 0
-IsSynchronous a = (function_is_async a ≡ atoms.no_value) × (function_generator a ≡ atoms.no_value) × (function_declare a ≡ atoms.no_value)
+IsSynchronous a = (function_is_async a ≡ false) × (function_generator a ≡ false) × (function_declare a ≡ false)
 
 -- the name of a function, which is omitted in an expression alone
 pub data HasName : Tables → FunctionKind → Maybe → Type 0 where
@@ -68,8 +67,8 @@ mutual
     an_array : {names : Tables} {c : Allowed} {a : Atoms} {es : Trees} → AreElements names c es → IsExpression names c (tree.array a es)
     an_object : {names : Tables} {c : Allowed} {a : Atoms} {ps : Trees} → AreProperties names c ps → IsExpression names c (tree.object_expression a ps)
     a_function : {names : Tables} {c : Allowed} {a : Atoms} {id : Maybe} {ps body : Tree} → IsFunction names kinds.Expression (tree.function a id ps (given body)) → IsExpression names c (tree.function a id ps (given body))
-    an_arrow_with_body : {names : Tables} {c : Allowed} {a b : Atoms} {ps : Tree} {ds ss : Trees} → arrow_function_expression_is_async a ≡ atoms.no_value → IsParameters names c ps → IsBody names (tree.function_body b ds ss) → IsExpression names c (tree.arrow_function a ps (tree.function_body b ds ss))
-    an_arrow_function : {names : Tables} {c : Allowed} {a : Atoms} {ps e : Tree} → arrow_function_expression_is_async a ≡ atoms.no_value → IsParameters names c ps → IsExpression names (in_arrow_body c) e → IsExpression names c (tree.arrow_function a ps e)
+    an_arrow_with_body : {names : Tables} {c : Allowed} {a b : Atoms} {ps : Tree} {ds ss : Trees} → arrow_function_expression_is_async a ≡ false → IsParameters names c ps → IsBody names (tree.function_body b ds ss) → IsExpression names c (tree.arrow_function a ps (tree.function_body b ds ss))
+    an_arrow_function : {names : Tables} {c : Allowed} {a : Atoms} {ps e : Tree} → arrow_function_expression_is_async a ≡ false → IsParameters names c ps → IsExpression names (in_arrow_body c) e → IsExpression names c (tree.arrow_function a ps e)
 
   -- a function of this kind, neither `async` nor a generator; a declaration has a name
   pub data IsFunction : Tables → FunctionKind → Tree → Type 0 where
@@ -139,7 +138,7 @@ mutual
     first_parameter : {names : Tables} {c : Allowed} {t : Tree} {ts : Trees} → IsParameter names c t → AreParameters names c ts → AreParameters names c (more t ts)
 
   pub data IsParameter : Tables → Allowed → Tree → Type 0 where
-    a_parameter : {names : Tables} {c : Allowed} {a : Atoms} {b : Tree} {m : Maybe} → formal_parameter_is_override a ≡ atoms.no_value → formal_parameter_readonly a ≡ atoms.no_value → formal_parameter_optional a ≡ atoms.no_value → IsBinding names c b → IsValue names c m → IsParameter names c (tree.formal_parameter a b m)
+    a_parameter : {names : Tables} {c : Allowed} {a : Atoms} {b : Tree} {m : Maybe} → formal_parameter_is_override a ≡ false → formal_parameter_readonly a ≡ false → formal_parameter_optional a ≡ false → IsBinding names c b → IsValue names c m → IsParameter names c (tree.formal_parameter a b m)
 
   pub data IsRest : Tables → Allowed → Maybe → Type 0 where
     no_rest : {names : Tables} {c : Allowed} → IsRest names c absent
@@ -153,7 +152,7 @@ mutual
     a_value : {names : Tables} {c : Allowed} {t : Tree} → IsExpression names c t → IsValue names c (given t)
 
   pub data IsDeclarator : Tables → Allowed → Tree → Type 0 where
-    a_declarator : {names : Tables} {c : Allowed} {a : Atoms} {b : Tree} {m : Maybe} → variable_declarator_definite a ≡ atoms.no_value → IsBinding names c b → IsValue names c m → IsDeclarator names c (tree.variable_declarator a b m)
+    a_declarator : {names : Tables} {c : Allowed} {a : Atoms} {b : Tree} {m : Maybe} → variable_declarator_definite a ≡ false → IsBinding names c b → IsValue names c m → IsDeclarator names c (tree.variable_declarator a b m)
 
   pub data AreDeclarators : Tables → Allowed → Trees → Type 0 where
     last_declarator : {names : Tables} {c : Allowed} {d : Tree} → IsDeclarator names c d → AreDeclarators names c (more d no_trees)
@@ -166,10 +165,10 @@ mutual
     a_block : {names : Tables} {c : Allowed} {a : Atoms} {ss : Trees} → AreStatements names c ss → IsStatement names c (tree.block a ss)
     an_if : {names : Tables} {c : Allowed} {a : Atoms} {t s : Tree} → IsExpression names c t → IsStatement names c s → IsStatement names c (tree.if_statement a t s absent)
     an_if_with_else : {names : Tables} {c : Allowed} {a : Atoms} {t s u : Tree} → IsExpression names c t → IsStatement names c s → IsStatement names c u → IsStatement names c (tree.if_statement a t s (given u))
-    a_variable_statement : {names : Tables} {c : Allowed} {a : Atoms} {ds : Trees} → is_lexical_word (variable_declaration_kind a) ≡ false → variable_declaration_declare a ≡ atoms.no_value → AreDeclarators names c ds → IsStatement names c (tree.variable_declaration a ds)
+    a_variable_statement : {names : Tables} {c : Allowed} {a : Atoms} {ds : Trees} → is_lexical_word (variable_declaration_kind a) ≡ false → variable_declaration_declare a ≡ false → AreDeclarators names c ds → IsStatement names c (tree.variable_declaration a ds)
     a_for : {names : Tables} {c : Allowed} {a : Atoms} {init test update : Maybe} {s : Tree} → IsInit names c init → IsValue names c test → IsValue names c update → IsStatement names c s → IsStatement names c (tree.for_statement a init test update s)
     a_for_in : {names : Tables} {c : Allowed} {a : Atoms} {l e s : Tree} → IsLeft names c l → IsExpression names c e → IsStatement names c s → IsStatement names c (tree.for_in_statement a l e s)
-    a_for_of : {names : Tables} {c : Allowed} {a : Atoms} {l e s : Tree} → for_of_statement_is_await a ≡ atoms.no_value → IsLeft names c l → IsExpression names c e → IsStatement names c s → IsStatement names c (tree.for_of_statement a l e s)
+    a_for_of : {names : Tables} {c : Allowed} {a : Atoms} {l e s : Tree} → for_of_statement_is_await a ≡ false → IsLeft names c l → IsExpression names c e → IsStatement names c s → IsStatement names c (tree.for_of_statement a l e s)
     a_while : {names : Tables} {c : Allowed} {a : Atoms} {t s : Tree} → IsExpression names c t → IsStatement names c s → IsStatement names c (tree.while_statement a t s)
     a_do_while : {names : Tables} {c : Allowed} {a : Atoms} {s t : Tree} → IsStatement names c s → IsExpression names c t → IsStatement names c (tree.do_while_statement a s t)
     a_labelled_statement : {names : Tables} {c : Allowed} {a b : Atoms} {s : Tree} → is_free_name (label_identifier_name b) ≡ true → IsStatement names c s → IsStatement names c (tree.labeled_statement a (tree.label_identifier b) s)
@@ -184,12 +183,12 @@ mutual
   -- first in the head of a loop
   pub data IsInit : Tables → Allowed → Maybe → Type 0 where
     no_init : {names : Tables} {c : Allowed} → IsInit names c absent
-    first_variables : {names : Tables} {c : Allowed} {a : Atoms} {ds : Trees} → variable_declaration_declare a ≡ atoms.no_value → AreDeclarators names c ds → IsInit names c (given (tree.variable_declaration a ds))
+    first_variables : {names : Tables} {c : Allowed} {a : Atoms} {ds : Trees} → variable_declaration_declare a ≡ false → AreDeclarators names c ds → IsInit names c (given (tree.variable_declaration a ds))
     first_expression : {names : Tables} {c : Allowed} {t : Tree} → IsExpression names c t → IsInit names c (given t)
 
   -- what a loop gives its values
   pub data IsLeft : Tables → Allowed → Tree → Type 0 where
-    a_declared_name : {names : Tables} {c : Allowed} {a b : Atoms} {t : Tree} → variable_declaration_declare a ≡ atoms.no_value → variable_declarator_definite b ≡ atoms.no_value → IsBinding names c t → IsLeft names c (tree.variable_declaration a (more (tree.variable_declarator b t absent) no_trees))
+    a_declared_name : {names : Tables} {c : Allowed} {a b : Atoms} {t : Tree} → variable_declaration_declare a ≡ false → variable_declarator_definite b ≡ false → IsBinding names c t → IsLeft names c (tree.variable_declaration a (more (tree.variable_declarator b t absent) no_trees))
     a_target : {names : Tables} {c : Allowed} {t : Tree} → is_simple_assignment_target (type_of t) ≡ true → IsExpression names c t → IsLeft names c t
 
   -- what a jump leads to
@@ -224,7 +223,7 @@ mutual
   pub data IsItem : Tables → Allowed → Tree → Type 0 where
     a_statement : {names : Tables} {c : Allowed} {s : Tree} → IsStatement names c s → IsItem names c s
     a_function_declaration : {names : Tables} {c : Allowed} {a : Atoms} {id : Maybe} {ps body : Tree} → IsFunction names kinds.Declaration (tree.function a id ps (given body)) → IsItem names c (tree.function a id ps (given body))
-    a_declaration : {names : Tables} {c : Allowed} {a : Atoms} {ds : Trees} → is_lexical_word (variable_declaration_kind a) ≡ true → variable_declaration_declare a ≡ atoms.no_value → AreDeclarators names c ds → IsItem names c (tree.variable_declaration a ds)
+    a_declaration : {names : Tables} {c : Allowed} {a : Atoms} {ds : Trees} → is_lexical_word (variable_declaration_kind a) ≡ true → variable_declaration_declare a ≡ false → AreDeclarators names c ds → IsItem names c (tree.variable_declaration a ds)
 
   pub data AreStatements : Tables → Allowed → Trees → Type 0 where
     no_statement : {names : Tables} {c : Allowed} → AreStatements names c no_trees

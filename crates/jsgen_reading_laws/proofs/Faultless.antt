@@ -4,7 +4,6 @@ use Rattle.std.specs.Option.{option_map_or}
 use Rattle.jsgen_syntax.specs.declared.span.Span.{Span}
 use Rattle.std.proofs.lemmas.Bool.{both_ways, and_parts, and_from, not-true, ltb-false, le-ltb}
 use Rattle.jsgen_tree.specs.Atom.{Atom, text}
-use Rattle.jsgen_tree.specs.Atom as atoms
 use Rattle.jsgen_tree.specs.Tree.{Tree, node, Maybe, absent, given, Trees, no_trees, more, hole, Atoms, type_of, span_of}
 use Rattle.jsgen_tree.specs.Nodes as tree
 use Rattle.jsgen_tree.specs.Values.{as_text, directive_directive, identifier_name_name, numeric_literal_kind, numeric_literal_text, big_int_literal_value, variable_declaration_kind, variable_declaration_declare, label_identifier_name, object_property_kind, object_property_shorthand, object_property_computed, function_kind, function_is_async, function_generator, function_declare, object_property_method}
@@ -24,7 +23,7 @@ use Rattle.jsgen_model.specs.declared.fault.TreeFault.{TreeFault}
 use Rattle.jsgen_model.specs.declared.fault.TreeFault.TheVariants as faults
 use Rattle.jsgen_model.specs.Numbers.{is_raw_number, is_big_integer}
 use Rattle.jsgen_model.specs.Grammar.{Allowed}
-use Rattle.jsgen_model.specs.Plain.{IsPlain, is_plain_row, is_number, is_raw, is_absent, has_no_hole}
+use Rattle.jsgen_model.specs.Plain.{IsPlain, is_plain_row, has_plain_flags, is_number, is_raw, has_no_hole, has_plain_flags}
 use Rattle.jsgen_model.specs.Normal.{or_none, directive_units}
 use Rattle.jsgen_tree.specs.declared.functions.FunctionKind.{FunctionKind}
 use Rattle.jsgen_tree.specs.declared.functions.FunctionKind.TheVariants as kinds
@@ -89,10 +88,14 @@ no_truth e = both_ways false refl e
 pub no_falsehood : true ≡ false → ⊥
 no_falsehood e = both_ways true e refl
 
--- a field that holds nothing
-pub holds_nothing : (v : Atom) → is_absent v ≡ true → v ≡ atoms.no_value
-holds_nothing atoms.no_value e = refl
-holds_nothing v e = absurd (no_truth e)
+pub no_truth_behind : (b : Bool) → (b && false) ≡ true → ⊥
+no_truth_behind true e = no_truth e
+no_truth_behind false e = no_truth e
+
+-- a flag that isn't set, in a node of which no more is asked
+pub unset : (b : Bool) → (not b && true) ≡ true → b ≡ false
+unset true e = absurd (no_truth e)
+unset false e = refl
 
 -- ---- the rows of expressions
 
@@ -316,10 +319,10 @@ function_parts around kind a id ps u h p e =
     let i = none_both (in_maybe around (place_of sets.BindingIdentifier around ∷ place_of sets.FormalParameters around ∷ last) id) _ f.1 in
     let k = placed around sets.FormalParameters ps _ i.1 in
     let j = placed_if_given around sets.FunctionBody u (none_both (in_maybe around last (given u)) [] k.2).0 in
-    let m = and_parts (is_absent (function_is_async a) && is_absent (function_generator a)) (is_absent (function_declare a)) p.0 in
-    let n = and_parts (is_absent (function_is_async a)) (is_absent (function_generator a)) m.0 in
+    let m = and_parts (not (function_is_async a) && not (function_generator a)) (not (function_declare a)) (and_parts (has_plain_flags types.Function a) true p.0).0 in
+    let n = and_parts (not (function_is_async a)) (not (function_generator a)) m.0 in
     record {
-      synchronous = (holds_nothing (function_is_async a) n.0, holds_nothing (function_generator a) n.1, holds_nothing (function_declare a) m.1);
+      synchronous = (not-true (function_is_async a) n.0, not-true (function_generator a) n.1, not-true (function_declare a) m.1);
       name = has_name around a.span kind (place_of sets.FormalParameters around ∷ last) id u (subst (λ x. function_faults a.span x id (given u) ≡ []) h f.0) p.1.0 i.0;
       plain_parameters = p.1.1.0;
       are_parameters = k.0;
@@ -362,12 +365,12 @@ Returns c around = around.in_function ≡ true → c.return_statement ≡ true
 -- ---- declarations
 
 -- the declarators, and no word of TypeScript before them
-pub variables_parts : (around : Surroundings) (a : Atoms) (ds : Trees) → IsPlain (tree.variable_declaration a ds) → breaches around (tree.variable_declaration a ds) ≡ [] → (variable_declaration_declare a ≡ atoms.no_value) × (has_no_hole ds ≡ true) × EverywhereInTrees is_plain_row ds × (declaration_faults a.span ds ≡ []) × (in_trees around (place_of sets.VariableDeclarator around ∷ []) ds ≡ [])
+pub variables_parts : (around : Surroundings) (a : Atoms) (ds : Trees) → IsPlain (tree.variable_declaration a ds) → breaches around (tree.variable_declaration a ds) ≡ [] → (variable_declaration_declare a ≡ false) × (has_no_hole ds ≡ true) × EverywhereInTrees is_plain_row ds × (declaration_faults a.span ds ≡ []) × (in_trees around (place_of sets.VariableDeclarator around ∷ []) ds ≡ [])
 variables_parts around a ds p e =
     let h = parts (span_faults around a.span) (declaration_faults a.span ds) _ e in
     let k = none_both (in_trees around (place_of sets.VariableDeclarator around ∷ []) ds) [] h.1 in
-    let m = and_parts (is_absent (variable_declaration_declare a)) (has_no_hole ds) p.0 in
-    (holds_nothing (variable_declaration_declare a) m.0, m.1, p.1.0, h.0, k.0)
+    let m = and_parts (not (variable_declaration_declare a)) (has_no_hole ds) p.0 in
+    (not-true (variable_declaration_declare a) m.0, m.1, p.1.0, h.0, k.0)
 
 -- ---- heads of loops
 
@@ -378,7 +381,7 @@ is_declaration t = false
 
 pub none_first : (t : Tree) → is_plain_row t ≡ true → is_for_statement_init (type_of t) ≡ true → is_declaration t ≡ false → is_expression (type_of t) ≡ false → ⊥
 none_first (tree.variable_declaration a ds) p s n e = no_falsehood n
-none_first t p s n e = search (no_truth, no_falsehood)
+none_first t p s n e = search (no_truth, no_falsehood, no_truth_behind)
 
 pub init_stands : (t : Tree) → is_plain_row t ≡ true → StandsAt sets.ForStatementInit t → is_declaration t ≡ false → StandsAt sets.Expression t
 init_stands t p s n =
@@ -392,7 +395,7 @@ init_stands t p s n =
 -- and what a loop gives its values is a target
 pub none_left : (t : Tree) → is_plain_row t ≡ true → is_for_statement_left (type_of t) ≡ true → is_declaration t ≡ false → is_simple_assignment_target (type_of t) ≡ false → ⊥
 none_left (tree.variable_declaration a ds) p s n e = no_falsehood n
-none_left t p s n e = search (no_truth, no_falsehood)
+none_left t p s n e = search (no_truth, no_falsehood, no_truth_behind)
 
 pub left_is_simple : (t : Tree) → is_plain_row t ≡ true → is_for_statement_left (type_of t) ≡ true → is_declaration t ≡ false → is_simple_assignment_target (type_of t) ≡ true
 left_is_simple t p s n = by (is_simple_assignment_target (type_of t)) refl
@@ -402,7 +405,7 @@ left_is_simple t p s n = by (is_simple_assignment_target (type_of t)) refl
     by false e = absurd (none_left t p s n e)
 
 -- one declarator without a value
-pub name_valid : {names : Tables} {c : Allowed} (a : Atoms) (ds : Trees) → is_one_name ds ≡ true → variable_declaration_declare a ≡ atoms.no_value → AreDeclarators names c ds → IsLeft names c (tree.variable_declaration a ds)
+pub name_valid : {names : Tables} {c : Allowed} (a : Atoms) (ds : Trees) → is_one_name ds ≡ true → variable_declaration_declare a ≡ false → AreDeclarators names c ds → IsLeft names c (tree.variable_declaration a ds)
 name_valid a (more (tree.variable_declarator b t absent) no_trees) n m (family.last_declarator (family.a_declarator h v w)) = family.a_declared_name m h v
 name_valid a ds n m v = absurd (search no_truth)
 
@@ -417,7 +420,7 @@ jump_valid around absent p e = family.no_label
 jump_valid around (given t) p e = let k = placed_if_given around sets.LabelIdentifier t e in label_valid around t (λ x. IsLabel (given x)) p k.0 k.1 (λ b h. family.a_label h)
 
 -- of `var` a statement, and of another word a declaration
-pub variables_are : {names : Tables} {c : Allowed} (a : Atoms) (ds : Trees) → variable_declaration_declare a ≡ atoms.no_value → AreDeclarators names c ds → IsItem names c (tree.variable_declaration a ds)
+pub variables_are : {names : Tables} {c : Allowed} (a : Atoms) (ds : Trees) → variable_declaration_declare a ≡ false → AreDeclarators names c ds → IsItem names c (tree.variable_declaration a ds)
 variables_are {names} {c} a ds m v = by (is_lexical_word (variable_declaration_kind a)) refl
   where
     by : (b : Bool) → is_lexical_word (variable_declaration_kind a) ≡ b → IsItem names c (tree.variable_declaration a ds)

@@ -1,5 +1,5 @@
 -- Functions with a body in braces: their parameters, their bodies, and functions as expressions and as declarations.
-use Rattle.std.proofs.Common.{◌≡◌, ℕ, Bool, true, false, not, codes, List, refl, sym, ap, ◌∙◌, subst}
+use Rattle.std.proofs.Common.{◌≡◌, ℕ, Bool, true, false, not, codes, List, refl, sym, ap, ◌∙◌, subst, ◌||◌}
 use Rattle.std.proofs.lemmas.Bool.{both_ways, or_parts}
 use Rattle.jsgen_syntax.specs.declared.precedence.Precedence.TheVariants as levels
 use Rattle.jsgen_syntax.specs.Escapes.{name_text}
@@ -14,15 +14,17 @@ use Rattle.jsgen_tree.specs.declared.functions.FunctionKind.{FunctionKind}
 use Rattle.jsgen_tree.specs.declared.functions.FunctionKind.TheVariants as kinds
 use Rattle.jsgen_model.specs.Punctuator.{Round, Brace, opening}
 use Rattle.jsgen_model.specs.Tokens.{Tokens, done, piece, group, ◌⧺◌, Word}
-use Rattle.jsgen_model.specs.Items.{Items, ◌⊕◌, word, brackets, soft_space, soft_line}
-use Rattle.jsgen_model.specs.Layout.{Pen, Start, nowhere, arrow_body, other_end, layout, written, unless_printed, statement, default_export}
-use Rattle.jsgen_model.specs.Grammar.{Allowed, ReadsParameters, ReadsParameter, ReadsFunction, ReadsItem, ReadsBody, in_function, function_of}
+use Rattle.jsgen_model.specs.Items.{Items, ◌⊕◌, word, brackets, soft_space, soft_line, a_declaration}
+use Rattle.jsgen_model.specs.Layout.{Pen, Start, nowhere, arrow_body, other_end, layout, written, unless_printed, statement, default_export, is_barred, written_if}
+use Rattle.jsgen_model.specs.Grammar.{Allowed, ReadsParameters, ReadsParameter, ReadsFunction, ReadsItem, ReadsBody, in_function, function_of, ReadsExpression}
 use Rattle.jsgen_model.specs.Grammar as grammar
 use Rattle.jsgen_model.specs.Normal.{normal, normal_maybe, nothing_of, unnumbered, function_values}
 use Rattle.jsgen_model.specs.Renamed.{renamed, renamed_maybe}
-use Rattle.jsgen_model.specs.Spell.{Settings, Place, spell, spell_if_given, spell_directives, spell_body, function_items, function_wraps, function_parameters, body_braces, bars_function, among_statements, within_statement, behind, in_brackets, within}
+use Rattle.jsgen_place.specs.declared.place.Place.{Place}
+use Rattle.jsgen_place.specs.Place.{among_statements, within_statement, child, in_brackets, within, with_calls}
+use Rattle.jsgen_model.specs.Spell.{spell, spell_if_given, spell_directives, spell_body, function_items, body_braces}
 use Rattle.jsgen_token_laws.proofs.Characters.{letters_spelled}
-use Rattle.jsgen_token_laws.proofs.Last.{Last, Open, After, line_of, Ready, Knows}
+use Rattle.jsgen_token_laws.proofs.Last.{Last, Open, After, line_of, Knows}
 use Rattle.jsgen_token_laws.proofs.Writes.{Writes, wrote_none, wrote_both}
 use Rattle.jsgen_token_laws.proofs.Steps.{Soft, wrote_word, wrote_name, soft_space_written, soft_line_written, within_brackets, brackets_written}
 use Rattle.jsgen_reading_laws.proofs.Levels.{level_of, under, from_primary}
@@ -30,7 +32,7 @@ use Rattle.jsgen_reading_laws.proofs.Families.{IsSynchronous, HasName}
 use Rattle.jsgen_reading_laws.proofs.Families as family
 use Rattle.jsgen_reading_laws.proofs.Names.{free_spelled}
 use Rattle.jsgen_reading_laws.proofs.Freed.{freed_list, freed_parameter}
-use Rattle.jsgen_reading_laws.proofs.Good.{Good, Printed, may_begin, good_wrapped}
+use Rattle.jsgen_reading_laws.proofs.Good.{Good, Printed, may_begin, PrintedFrom, wrapped_from}
 use Rattle.jsgen_reading_laws.proofs.Parameters.{ParameterOf, ParametersOf, only_parameter}
 use Rattle.jsgen_reading_laws.proofs.Ends.{ends_itself}
 use Rattle.jsgen_reading_laws.proofs.Stands.{StandsAt, SameTree, Listed, before_blank, indented_line}
@@ -48,6 +50,10 @@ pub record GoodGroup (names : Tables) (R : Tokens → Trees → Maybe → Type 0
   pub rest : Maybe
   pub reads : R tokens items rest
   pub same : normal (tree.formal_parameters (nothing_of 0) items rest) ≡ normal (renamed names t)
+
+-- where they stand
+abbrev pub function_parameters : Place → Place
+function_parameters place = with_calls (child levels.Comma place)
 
 abbrev pub GroupOf : Tables → (Tokens → Trees → Maybe → Type 0) → Tree → Type 0
 GroupOf names R t = (place : Place) (p : Pen) (l : Last) → p.pending_semicolon ≡ false → Knows names p l → GoodGroup names R p l (layout (brackets Round (spell t (function_parameters place))) p) t
@@ -140,14 +146,14 @@ body_of a ds ss g = record {
   same = let e = g.same.0 in let f = g.same.1 in λ i. tree.function_body (nothing_of 0) (e i) (f i);
 }
 
-pub good_function_body : {names : Tables} (a : Atoms) (ds ss : Trees) → ((settings : Settings) → StandsAt names (ReadsBoth in_function) (SameBoth names ds ss) (spell_directives ds settings ⊕ spell_body ss settings)) → BodyOf names (tree.function_body a ds ss)
-good_function_body a ds ss f place p l z k = body_of a ds ss (body_braced ds ss (spell_directives ds place.settings ⊕ spell_body ss place.settings) (f place.settings) p l z k)
+pub good_function_body : {names : Tables} (a : Atoms) (ds ss : Trees) → StandsAt names (ReadsBoth in_function) (SameBoth names ds ss) (spell_directives ds ⊕ spell_body ss) → BodyOf names (tree.function_body a ds ss)
+good_function_body a ds ss f place p l z k = body_of a ds ss (body_braced ds ss (spell_directives ds ⊕ spell_body ss) f p l z k)
 
 -- ---- parameters and a body
 
 -- what a method or an accessor has behind its key, and a function behind its name
 abbrev pub method_items : Tree → Tree → Place → Items
-method_items t u place = brackets Round (spell t (function_parameters place)) ⊕ (soft_space ⊕ spell u (within_statement place.settings))
+method_items t u place = brackets Round (spell t (function_parameters place)) ⊕ (soft_space ⊕ spell u within_statement)
 
 pub record GoodMethod (names : Tables) (R : Tokens → Trees → Maybe → Type 0) (p : Pen) (l : Last) (q : Pen) (t u : Tree) : Type 0 where
   pub head : Tokens
@@ -187,7 +193,7 @@ good_method_items t u f h place p l z k =
     let p2 : Pen = layout soft_space p1 in
     let g = f place p l z k in
     let s = soft_space_written p1 (Open false) g.writes.knows in
-    let b = h (within_statement place.settings) p2 s.last (s.semicolon ∙ g.semicolon) s.writes.knows in
+    let b = h within_statement p2 s.last (s.semicolon ∙ g.semicolon) s.writes.knows in
     method_parts t u g s b
 
 pub same_function : (a : Atoms) (kind : FunctionKind) (i j : Maybe) (ps : Trees) (rest : Maybe) (ds ss : Trees) (x y : Tree) → function_kind a ≡ kind → IsSynchronous a → normal_maybe j ≡ normal_maybe i → normal (tree.formal_parameters (nothing_of 0) ps rest) ≡ normal x → normal (tree.function_body (nothing_of 0) ds ss) ≡ normal y → normal (function_of kind j ps rest ds ss) ≡ normal (tree.function a i x (given y))
@@ -205,7 +211,7 @@ pub record GoodFunction (names : Tables) (kind : FunctionKind) (p : Pen) (l : La
   pub same : normal tree ≡ normal (renamed names t)
 
 abbrev whole_items : Maybe → Tree → Tree → Place → Items
-whole_items id t u place = word (codes "function") ⊕ (spell_if_given id (behind levels.Lowest place) ⊕ method_items t u place)
+whole_items id t u place = word (codes "function") ⊕ (spell_if_given id (child levels.Lowest place) ⊕ method_items t u place)
 
 abbrev FunctionAt : Tables → FunctionKind → Tree → Items → Type 0
 FunctionAt names kind t items = (p : Pen) (l : Last) → p.pending_semicolon ≡ false → Knows names p l → GoodFunction names kind p l (layout items p) t
@@ -215,7 +221,7 @@ good_whole_function {names} {kind} a t u h m (family.a_name {a = b} n) f g place
     let v : List ℕ = printed_name names (binding_named b) in
     let w : List ℕ = name_text p.style.ascii v in
     let p1 : Pen = layout (word (codes "function")) p in
-    let p2 : Pen = layout (spell (tree.binding_identifier b) (behind levels.Lowest place)) p1 in
+    let p2 : Pen = layout (spell (tree.binding_identifier b) (child levels.Lowest place)) p1 in
     let o = wrote_word (codes "function") p l (letters_spelled 102 (codes "unction") refl) k in
     let x = wrote_name (binding_named b) p1 (After (Word (codes "function"))) (free_spelled v n) o.knows in
     let r = good_method_items t u f g place p2 (After (Word w)) z x.knows in
@@ -242,20 +248,17 @@ good_whole_function {names} a t u h m family.no_name f g place p l z k =
 
 -- ---- in an expression
 
-function_begins : (v : Bool) (start : Start) (line : Bool) (b : Tokens) → (v ≡ false → bars_function start ≡ false) → may_begin (unless_printed v start) (piece line (Word (codes "function")) b) ≡ true
-function_begins true nowhere line b h = refl
-function_begins true statement line b h = refl
-function_begins true arrow_body line b h = refl
-function_begins true default_export line b h = refl
-function_begins false nowhere line b h = refl
-function_begins false arrow_body line b h = refl
+function_begins : (v : Bool) (start : Start) (line : Bool) (b : Tokens) → (v ≡ false → is_barred a_declaration start ≡ false) → may_begin (unless_printed v start) (piece line (Word (codes "function")) b) ≡ true
+function_begins true start line b h = refl
 function_begins false statement line b h = absurd (both_ways true (h refl) refl)
 function_begins false default_export line b h = absurd (both_ways true (h refl) refl)
+function_begins false nowhere line b h = refl
+function_begins false arrow_body line b h = refl
 
 pub good_function : {names : Tables} {id : Maybe} (c : Allowed) (a : Atoms) (t u : Tree) → function_kind a ≡ kinds.Expression → IsSynchronous a → HasName names kinds.Expression id → GroupOf names (ReadsParameters in_function) t → BodyOf names u → Printed names c (tree.function a id t (given u))
 good_function {names} {id} c a t u h m n f g place p l z y k =
-    subst (λ x. Good names p l (layout (function_items x (function_pife a) place items) p) (under place c) (level_of place) place.start whole) (sym h)
-    (good_wrapped c place grammar.Primary (function_wraps (function_pife a) place) (λ v. items) whole (λ d ts v r. from_primary (in_brackets levels.Lowest place) r) (λ e ts v r. from_primary place r) inner p l z y k)
+    subst (λ x. Good names p l (layout (function_items x (function_pife a) place items) p) (under place c) (level_of place) whole) (sym h)
+    (wrapped_from c place grammar.Primary wraps_it (λ v. items) whole p (λ d ts v r. from_primary (in_brackets levels.Lowest) r) (λ e ts v r. from_primary place r) inner l z y k)
   where
     whole : Tree
     whole = tree.function a id t (given u)
@@ -263,16 +266,19 @@ good_function {names} {id} c a t u h m n f g place p l z y k =
     items : Items
     items = whole_items id t u place
 
-    inner : (v : Bool) → function_wraps (function_pife a) place ≡ v → (p : Pen) (l : Last) → p.pending_semicolon ≡ false → Ready l → Knows names p l → Good names p l (layout items p) (under (within v place) c) grammar.Primary (unless_printed v place.start) whole
-    inner v e p l z y k =
-        let r = good_whole_function a t u h m n f g place p l z k in
+    wraps_it : Bool
+    wraps_it = function_pife a || is_barred a_declaration p.start
+
+    inner : (v : Bool) → wraps_it ≡ v → PrintedFrom (written_if v (opening Round) p) names (ReadsExpression (under (within v place) c) grammar.Primary) items whole
+    inner v e l z y k =
+        let r = good_whole_function a t u h m n f g place (written_if v (opening Round) p) l z k in
         record {
           last = Open false;
           tokens = piece (line_of l) (Word (codes "function")) r.tokens;
           writes = r.writes;
           operand = tt;
           semicolon = r.semicolon;
-          begins = λ b x. function_begins v place.start (line_of l) (r.tokens ⧺ b) (λ i. (or_parts (function_pife a) (bars_function place.start) (e ∙ i)).1);
+          begins = λ b x. function_begins v p.start (line_of l) (r.tokens ⧺ b) (λ i. (or_parts (function_pife a) (is_barred a_declaration p.start) (e ∙ i)).1);
           line = λ x. ap not x;
           tree = r.tree;
           reads = grammar.a_function r.reads;
@@ -282,12 +288,12 @@ good_function {names} {id} c a t u h m n f g place p l z y k =
 -- ---- among statements
 
 pub good_declaration : {names : Tables} {id : Maybe} (c : Allowed) (a : Atoms) (t u : Tree) → function_kind a ≡ kinds.Declaration → IsSynchronous a → HasName names kinds.Declaration id → GroupOf names (ReadsParameters in_function) t → BodyOf names u → Listed names c (tree.function a id t (given u))
-good_declaration {names} {id} c a t u h m n f g settings =
+good_declaration {names} {id} c a t u h m n f g =
     subst (λ x. StandsAt names (ReadsItem c) (SameTree names whole) (function_items x (function_pife a) place (whole_items id t u place))) (sym h)
     (indented_line (whole_items id t u place ⊕ soft_line) (before_blank (whole_items id t u place) soft_line inside soft_line_written))
   where
     place : Place
-    place = among_statements settings
+    place = among_statements
 
     whole : Tree
     whole = tree.function a id t (given u)

@@ -9,7 +9,8 @@ use Rattle.jsgen_model.specs.Items.{Items, ◌⊕◌, word, brackets, soft_space
 use Rattle.jsgen_model.specs.Layout.{Pen, layout}
 use Rattle.jsgen_model.specs.Grammar.{Allowed, ReadsExpression, with_in}
 use Rattle.jsgen_model.specs.Grammar as grammar
-use Rattle.jsgen_model.specs.Spell.{Place, spell, in_brackets}
+use Rattle.jsgen_place.specs.Place.{in_brackets}
+use Rattle.jsgen_model.specs.Spell.{spell}
 use Rattle.jsgen_token_laws.proofs.Last.{Last, Knows}
 use Rattle.jsgen_reading_laws.proofs.Good.{Printed}
 use Rattle.jsgen_reading_laws.proofs.Stands.{SameTree}
@@ -18,13 +19,13 @@ use Rattle.jsgen_reading_laws.proofs.Parentheses.{InsideAt, Headed, headed}
 abbrev pub GoodHead : Tables → List ℕ → Pen → Last → Pen → Allowed → Tree → Type 0
 GoodHead names w p l q c t = Headed names w (ReadsExpression (with_in c) grammar.Expression) (SameTree names t) p l q
 
-abbrev pub head_items : List ℕ → Tree → Place → Items
-head_items w t place = word w ⊕ (soft_space ⊕ brackets Round (spell t (in_brackets levels.Lowest place)))
+abbrev pub head_items : List ℕ → Tree → Items
+head_items w t = word w ⊕ (soft_space ⊕ brackets Round (spell t (in_brackets levels.Lowest)))
 
-pub good_head : {names : Tables} (w : List ℕ) → spells_name w ≡ true → (c : Allowed) (t : Tree) → Printed names c t → (place : Place) (p : Pen) (l : Last) → p.pending_semicolon ≡ false → Knows names p l → GoodHead names w p l (layout (head_items w t place) p) c t
-good_head {names} w n c t f place p l z k = headed w n (spell t (in_brackets levels.Lowest place)) inside p l z k
+pub good_head : {names : Tables} (w : List ℕ) → spells_name w ≡ true → (c : Allowed) (t : Tree) → Printed names c t → (p : Pen) (l : Last) → p.pending_semicolon ≡ false → Knows names p l → GoodHead names w p l (layout (head_items w t) p) c t
+good_head {names} w n c t f p l z k = headed w n (spell t (in_brackets levels.Lowest)) inside p l z k
   where
-    inside : InsideAt names (ReadsExpression (with_in c) grammar.Expression) (SameTree names t) (spell t (in_brackets levels.Lowest place))
+    inside : InsideAt names (ReadsExpression (with_in c) grammar.Expression) (SameTree names t) (spell t (in_brackets levels.Lowest))
     inside p l z y k =
-        let g = f (in_brackets levels.Lowest place) p l z y k in
+        let g = f (in_brackets levels.Lowest) p l z y k in
         record { last = g.last; tokens = g.tokens; writes = g.writes; semicolon = g.semicolon; reading = g.tree; reads = g.reads; same = g.same }

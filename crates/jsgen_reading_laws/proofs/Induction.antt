@@ -8,7 +8,9 @@ use Rattle.jsgen_tree.specs.Values.{object_property_kind}
 use Rattle.jsgen_tree.specs.Nodes as tree
 use Rattle.jsgen_model.specs.Grammar.{Allowed, ReadsParameters, in_function}
 use Rattle.jsgen_model.specs.Grammar as grammar
-use Rattle.jsgen_model.specs.Spell.{Settings, spell, spell_statements, among_statements, Place, spell_body}
+use Rattle.jsgen_place.specs.declared.place.Place.{Place}
+use Rattle.jsgen_place.specs.Place.{among_statements}
+use Rattle.jsgen_model.specs.Spell.{spell, spell_statements, spell_body}
 use Rattle.jsgen_reading_laws.proofs.Families.{IsExpression, IsParameters, AreParameters, IsParameter, IsRest, IsValue, IsLink, IsElement, AreArguments, AreElements, IsProperty, AreProperties, IsKey, AreParts, IsChain, IsChainBase, IsStatement, IsItem, AreStatements, AreCases, IsCase, AreEndsOfTry, IsHandler, IsBlock, IsBody, IsDeclarator, AreDeclarators, IsInit, IsLeft}
 use Rattle.jsgen_reading_laws.proofs.Families as family
 use Rattle.jsgen_reading_laws.proofs.Asked.{asked}
@@ -185,7 +187,7 @@ mutual
   pub stated : {names : Tables} {c : Allowed} {t : Tree} → IsStatement names c t → Stated names c t
   stated {names} {c} (family.an_expression_statement {a} {e} v) = good_expression_statement c a e (printed_expression v)
   stated {names} {c} (family.an_empty_statement {a}) = good_empty c a
-  stated {names} {c} (family.a_block {a} {ss} v) = good_block c a ss (λ settings. (rows v settings).0)
+  stated {names} {c} (family.a_block {a} {ss} v) = good_block c a ss ((rows v).0)
   stated {names} {c} (family.an_if {a} {t} {s} v w) = good_if c a t s (printed_expression v) (normal_open w) (empty_alone w) (stated w)
   stated {names} {c} (family.an_if_with_else {a} {t} {s} {u} v w x) = good_if_with_else c a t s u (printed_expression v) (normal_open w) (empty_alone w) (stated w) (empty_alone x) (stated x)
   stated {names} {c} (family.a_variable_statement {a} {ds} h m v) = good_variable_statement c a ds h (variables_from c a ds m (list_declared v))
@@ -231,7 +233,7 @@ mutual
 
   consequents : {names : Tables} {c : Allowed} {ss : Trees} → AreStatements names c ss → ConsequentOf names c ss
   consequents {names} {c} family.no_statement = no_consequent c
-  consequents {names} {c} (family.first_statement {s} {ss} v w) = some_consequents c s ss (only v) (λ settings. row_more s ss (spell s (among_statements settings)) (spell_statements ss settings) (listed v settings) (rows w settings).1)
+  consequents {names} {c} (family.first_statement {s} {ss} v w) = some_consequents c s ss (only v) (row_more s ss (spell s among_statements) (spell_statements ss) (listed v) (rows w).1)
 
   only : {names : Tables} {c : Allowed} {t : Tree} → IsItem names c t → OnlyOf names c t
   only {names} {c} {t} (family.a_statement v) = only_statement c t (empty_alone v) (stated v)
@@ -248,7 +250,7 @@ mutual
   handler_of {names} {c} (family.a_catch_by_name {a} {n} {t} v w) = good_catch_by_name c a n t (bound v) (block_of w)
 
   block_of : {names : Tables} {c : Allowed} {t : Tree} → IsBlock names c t → BlockOf names c t
-  block_of {names} {c} (family.some_block {a} {ss} v) = some_block c a ss (λ settings. (rows v settings).0)
+  block_of {names} {c} (family.some_block {a} {ss} v) = some_block c a ss ((rows v).0)
 
   pub listed : {names : Tables} {c : Allowed} {t : Tree} → IsItem names c t → Listed names c t
   listed {t = t} (family.a_statement v) = listed_statement t (stated v)
@@ -256,14 +258,14 @@ mutual
   listed {c = c} (family.a_declaration {a} {ds} h m v) = listed_declaration c a ds h (variables_from c a ds m (list_declared v))
 
   -- as a whole row, and as the rest of one
-  pub rows : {names : Tables} {c : Allowed} {ss : Trees} → AreStatements names c ss → (settings : Settings) → RowAt names c (spell_statements ss settings) ss × RestAt names c (spell_statements ss settings) ss
-  rows {names} {c} family.no_statement settings = (row_none (λ e. grammar.no_statement), rest_none (statements_join c))
-  rows {names} {c} (family.first_statement {s} {ss} v w) settings =
-      let f = listed v settings in
-      let r = (rows w settings).1 in
-      (row_more s ss (spell s (among_statements settings)) (spell_statements ss settings) f r, rest_more (statements_join c) s ss (spell s (among_statements settings)) (spell_statements ss settings) f r)
+  pub rows : {names : Tables} {c : Allowed} {ss : Trees} → AreStatements names c ss → RowAt names c (spell_statements ss) ss × RestAt names c (spell_statements ss) ss
+  rows {names} {c} family.no_statement = (row_none (λ e. grammar.no_statement), rest_none (statements_join c))
+  rows {names} {c} (family.first_statement {s} {ss} v w) =
+      let f = listed v in
+      let r = (rows w).1 in
+      (row_more s ss (spell s among_statements) (spell_statements ss) f r, rest_more (statements_join c) s ss (spell s among_statements) (spell_statements ss) f r)
 
   -- the statements of a body, of which the first is read as no directive
-  pub body_stated : {names : Tables} {c : Allowed} {ss : Trees} → AreStatements names c ss → (settings : Settings) → BodyAt names c (spell_body ss settings) ss
-  body_stated {c = c} family.no_statement settings = no_body c settings
-  body_stated {c = c} (family.first_statement {s} {ss} v w) settings = some_body c s ss settings (first_stated v (listed v) settings) (rows w settings).1
+  pub body_stated : {names : Tables} {c : Allowed} {ss : Trees} → AreStatements names c ss → BodyAt names c (spell_body ss) ss
+  body_stated {c = c} family.no_statement = no_body c
+  body_stated {c = c} (family.first_statement {s} {ss} v w) = some_body c s ss (first_stated v (listed v)) (rows w).1

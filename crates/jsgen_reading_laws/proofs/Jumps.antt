@@ -17,7 +17,9 @@ use Rattle.jsgen_model.specs.Grammar.{Allowed, EndsBy, ReadsStatement, ReadsLabe
 use Rattle.jsgen_model.specs.Grammar as grammar
 use Rattle.jsgen_model.specs.Normal.{normal_maybe, nothing_of, named}
 use Rattle.jsgen_model.specs.Renamed.{renamed_maybe}
-use Rattle.jsgen_model.specs.Spell.{Settings, Place, spell, spell_apart, among_statements, within_statement, in_brackets, behind, shape, body_items}
+use Rattle.jsgen_place.specs.declared.place.Place.{Place}
+use Rattle.jsgen_place.specs.Place.{among_statements, within_statement, in_brackets, child}
+use Rattle.jsgen_model.specs.Spell.{spell, spell_apart, shape, body_items}
 use Rattle.jsgen_token_laws.proofs.Characters.{letters_spelled}
 use Rattle.jsgen_token_laws.proofs.Last.{Last, After, line_of, Ready, Knows}
 use Rattle.jsgen_token_laws.proofs.Writes.{Writes, wrote_none, wrote_both}
@@ -32,25 +34,25 @@ use Rattle.jsgen_reading_laws.proofs.Bodies.{EmptyAlone, good_body}
 
 -- ---- labelled statements
 
-abbrev labelled_items : Atoms → Tree → Settings → Items
-labelled_items b s settings = name (as_written (label_identifier_name b)) ⊕ (punctuator colon ⊕ body_items (shape s) (spell s (within_statement settings)) (spell s (among_statements settings)))
+abbrev labelled_items : Atoms → Tree → Items
+labelled_items b s = name b.span (as_written (label_identifier_name b)) ⊕ (punctuator colon ⊕ body_items (shape s) (spell s within_statement) (spell s among_statements))
 
 pub good_labelled : {names : Tables} (c : Allowed) (a b : Atoms) (s : Tree) → is_free_name (label_identifier_name b) ≡ true → EmptyAlone names s → Stated names c s → Stated names c (tree.labeled_statement a (tree.label_identifier b) s)
-good_labelled {names} c a b s h m f = stated_among refl (λ settings. indented_line (labelled_items b s settings) (inside settings))
+good_labelled {names} c a b s h m f = stated_among refl (indented_line (labelled_items b s) inside)
   where
     v : List ℕ
     v = label_identifier_name b
 
-    inside : (settings : Settings) → StatedAt names c (tree.labeled_statement a (tree.label_identifier b) s) (labelled_items b s settings)
-    inside settings p l z y k =
+    inside : StatedAt names c (tree.labeled_statement a (tree.label_identifier b) s) (labelled_items b s)
+    inside p l z y k =
         let w : List ℕ = name_text p.style.ascii v in
-        let p1 : Pen = layout (name (as_written v)) p in
+        let p1 : Pen = layout (name b.span (as_written v)) p in
         let p2 : Pen = layout (punctuator colon) p1 in
         let n = wrote_written_name v p l (free_spelled v h) k in
         let o = wrote_punctuator colon p1 (After (Word w)) tt tt tt n.knows in
         let e : word_value w ≡ Some v = word_text_value p.style.ascii v (free_spelled v h) in
         behind_tokens (piece (line_of l) (Word w) (piece false (Sign colon) done)) (λ u. tree.labeled_statement (nothing_of 0) (tree.label_identifier (named v)) u) (wrote_both n o) (λ last ts u r before_else x. grammar.a_labelled_statement e h (r before_else x)) (λ u i. ap (λ t. tree.labeled_statement (nothing_of 0) (tree.label_identifier (named v)) t) i)
-        (good_body c s settings m f p2 (After (Sign colon)) z tt o.knows)
+        (good_body c s m f p2 (After (Sign colon)) z tt o.knows)
 
 -- ---- what a jump leads to
 
@@ -106,34 +108,34 @@ jump_unended c w made t place h f same v p l z y k =
     }
 
 -- where a label stands
-abbrev label_place : Settings → Place
-label_place settings = behind levels.Lowest (among_statements settings)
+abbrev label_place : Place
+label_place = child levels.Lowest among_statements
 
 pub good_continue : {names : Tables} {m : Maybe} (c : Allowed) (a : Atoms) → IsLabel m → Stated names c (tree.continue_statement a m)
 good_continue {names} {m} c a v =
-    stated_among refl (λ settings. whole_line (word (codes "continue") ⊕ spell_apart m (label_place settings)) (jump_unended c (codes "continue") (λ n. tree.continue_statement (nothing_of 0) n) (tree.continue_statement a m) (label_place settings) (letters_spelled 99 (codes "ontinue") refl) (λ last before_else mark ts b n e r. grammar.a_continue e r) (λ n i. ap (λ x. tree.continue_statement (nothing_of 0) x) i) v))
+    stated_among refl (whole_line (word (codes "continue") ⊕ spell_apart m label_place) (jump_unended c (codes "continue") (λ n. tree.continue_statement (nothing_of 0) n) (tree.continue_statement a m) label_place (letters_spelled 99 (codes "ontinue") refl) (λ last before_else mark ts b n e r. grammar.a_continue e r) (λ n i. ap (λ x. tree.continue_statement (nothing_of 0) x) i) v))
 
 pub good_break : {names : Tables} {m : Maybe} (c : Allowed) (a : Atoms) → IsLabel m → Stated names c (tree.break_statement a m)
 good_break {names} {m} c a v =
-    stated_among refl (λ settings. whole_line (word (codes "break") ⊕ spell_apart m (label_place settings)) (jump_unended c (codes "break") (λ n. tree.break_statement (nothing_of 0) n) (tree.break_statement a m) (label_place settings) (letters_spelled 98 (codes "reak") refl) (λ last before_else mark ts b n e r. grammar.a_break e r) (λ n i. ap (λ x. tree.break_statement (nothing_of 0) x) i) v))
+    stated_among refl (whole_line (word (codes "break") ⊕ spell_apart m label_place) (jump_unended c (codes "break") (λ n. tree.break_statement (nothing_of 0) n) (tree.break_statement a m) label_place (letters_spelled 98 (codes "reak") refl) (λ last before_else mark ts b n e r. grammar.a_break e r) (λ n i. ap (λ x. tree.break_statement (nothing_of 0) x) i) v))
 
 -- ---- `throw`
 
 pub good_throw : {names : Tables} (c : Allowed) (a : Atoms) (t : Tree) → Printed names c t → Stated names c (tree.throw_statement a t)
-good_throw {names} c a t f = stated_among refl (λ settings. whole_line (items settings) (inside settings))
+good_throw {names} c a t f = stated_among refl (whole_line items inside)
   where
-    argument : Settings → Place
-    argument settings = in_brackets levels.Lowest (among_statements settings)
+    argument : Place
+    argument = in_brackets levels.Lowest
 
-    items : Settings → Items
-    items settings = word (codes "throw") ⊕ (soft_space ⊕ spell t (argument settings))
+    items : Items
+    items = word (codes "throw") ⊕ (soft_space ⊕ spell t argument)
 
-    inside : (settings : Settings) → UnendedAt names (ReadsClosed c false) (SameTree names (tree.throw_statement a t)) (items settings)
-    inside settings p l z y k =
+    inside : UnendedAt names (ReadsClosed c false) (SameTree names (tree.throw_statement a t)) items
+    inside p l z y k =
         let p1 : Pen = layout (word (codes "throw")) p in
         let o = wrote_word (codes "throw") p l (letters_spelled 116 (codes "hrow") refl) k in
         let s = soft_space_written p1 (After (Word (codes "throw"))) o.knows in
-        let g = f (argument settings) (layout soft_space p1) s.last (s.semicolon ∙ z) (s.ready tt) s.writes.knows in
+        let g = f argument (layout soft_space p1) s.last (s.semicolon ∙ z) (s.ready tt) s.writes.knows in
         record {
           last = g.last;
           tokens = piece (line_of l) (Word (codes "throw")) g.tokens;
@@ -158,11 +160,11 @@ record GoodReturned (names : Tables) (p : Pen) (l : Last) (q : Pen) (c : Allowed
   reads : ReadsReturned c tokens reading
   same : normal_maybe reading ≡ normal_maybe (renamed_maybe names m)
 
-returned : {names : Tables} (c : Allowed) (m : Maybe) → PrintedIfGiven names c m → (place : Place) (p : Pen) (l : Last) → line_of l ≡ false → p.pending_semicolon ≡ false → Ready l → Knows names p l → GoodReturned names p l (layout (spell_apart m (in_brackets levels.Lowest place)) p) c m
+returned : {names : Tables} (c : Allowed) (m : Maybe) → PrintedIfGiven names c m → (place : Place) (p : Pen) (l : Last) → line_of l ≡ false → p.pending_semicolon ≡ false → Ready l → Knows names p l → GoodReturned names p l (layout (spell_apart m (in_brackets levels.Lowest)) p) c m
 returned c absent f place p l e z y k = record { last = l; tokens = done; writes = wrote_none p p l refl k; ready = y; semicolon = z; reading = absent; reads = grammar.nothing_returned; same = refl }
 returned c (given t) f place p l e z y k =
     let s = soft_space_written p l k in
-    let g = f (in_brackets levels.Lowest place) (layout soft_space p) s.last (s.semicolon ∙ z) (s.ready y) s.writes.knows in
+    let g = f (in_brackets levels.Lowest) (layout soft_space p) s.last (s.semicolon ∙ z) (s.ready y) s.writes.knows in
     record {
       last = g.last;
       tokens = g.tokens;
@@ -175,15 +177,15 @@ returned c (given t) f place p l e z y k =
     }
 
 pub good_return : {names : Tables} (c : Allowed) (a : Atoms) (m : Maybe) → c.return_statement ≡ true → PrintedIfGiven names c m → Stated names c (tree.return_statement a m)
-good_return {names} c a m h f = stated_among refl (λ settings. whole_line (items settings) (inside settings))
+good_return {names} c a m h f = stated_among refl (whole_line items inside)
   where
-    items : Settings → Items
-    items settings = word (codes "return") ⊕ spell_apart m (in_brackets levels.Lowest (among_statements settings))
+    items : Items
+    items = word (codes "return") ⊕ spell_apart m (in_brackets levels.Lowest)
 
-    inside : (settings : Settings) → UnendedAt names (ReadsClosed c false) (SameTree names (tree.return_statement a m)) (items settings)
-    inside settings p l z y k =
+    inside : UnendedAt names (ReadsClosed c false) (SameTree names (tree.return_statement a m)) items
+    inside p l z y k =
         let o = wrote_word (codes "return") p l (letters_spelled 114 (codes "eturn") refl) k in
-        let g = returned c m f (among_statements settings) (layout (word (codes "return")) p) (After (Word (codes "return"))) refl z tt o.knows in
+        let g = returned c m f among_statements (layout (word (codes "return")) p) (After (Word (codes "return"))) refl z tt o.knows in
         record {
           last = g.last;
           tokens = piece (line_of l) (Word (codes "return")) g.tokens;
@@ -198,7 +200,7 @@ good_return {names} c a m h f = stated_among refl (λ settings. whole_line (item
 -- ---- `debugger`
 
 pub good_debugger : {names : Tables} (c : Allowed) (a : Atoms) → Stated names c (tree.debugger_statement a)
-good_debugger {names} c a = stated_among refl (λ settings. whole_line (word (codes "debugger")) inside)
+good_debugger {names} c a = stated_among refl (whole_line (word (codes "debugger")) inside)
   where
     inside : UnendedAt names (ReadsClosed c false) (SameTree names (tree.debugger_statement a)) (word (codes "debugger"))
     inside p l z y k = record {

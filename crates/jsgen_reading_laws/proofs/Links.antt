@@ -13,20 +13,21 @@ use Rattle.jsgen_tree.specs.Nodes as tree
 use Rattle.jsgen_model.specs.Punctuator.{dot, ellipsis, Round, Square, opening, closing}
 use Rattle.jsgen_model.specs.Tokens.{Tokens, done, piece, group, ◌⧺◌, Word, Sign}
 use Rattle.jsgen_model.specs.Items.{Items, ◌⊕◌, brackets, member_dot, name, punctuator}
-use Rattle.jsgen_model.specs.Layout.{Pen, Start, other_end, layout, written, unless_printed}
+use Rattle.jsgen_model.specs.Layout.{Pen, other_end, layout, written}
 use Rattle.jsgen_model.specs.Grammar.{Allowed, Level, ReadsExpression, ReadsElement, ReadsArguments, ReadsArgumentList, with_in, is_word, on_same_line}
 use Rattle.jsgen_model.specs.Grammar as grammar
 use Rattle.jsgen_model.specs.Normal.{normal, normal_trees, nothing_of, named, link_values, call_values}
 use Rattle.jsgen_model.specs.Renamed.{renamed, renamed_trees}
 use Rattle.jsgen_model.specs.Quotes.{is_require_call, is_definition_call}
-use Rattle.jsgen_model.specs.Spell.{Place, spell, spell_list, spell_more, spell_arguments, spell_behind_first, within, linked, called, in_brackets, quoted_plainly, wraps, call_wraps, name_link, bracket_link}
+use Rattle.jsgen_place.specs.declared.place.Place.{Place}
+use Rattle.jsgen_place.specs.Place.{within, linked, called, in_brackets, quoted_plainly, wraps, call_wraps, with_calls}
+use Rattle.jsgen_model.specs.Spell.{spell, spell_list, spell_more, spell_arguments, spell_behind_first, name_link, bracket_link}
 use Rattle.jsgen_token_laws.proofs.Characters.{letters_spelled}
 use Rattle.jsgen_token_laws.proofs.Last.{Last, Open, After, line_of, Operand, Ready, begun_ready, Knows}
 use Rattle.jsgen_token_laws.proofs.Writes.{Writes, wrote_none, wrote_both}
 use Rattle.jsgen_token_laws.proofs.Steps.{wrote_word, wrote_written_name, wrote_dot, wrote_dots, within_brackets, brackets_written}
 use Rattle.jsgen_reading_laws.proofs.Levels.{number_of, operation_number, left_hand_side, level_of, under, weaken_member, read_left, lifted, unwrapped, from_left}
-use Rattle.jsgen_reading_laws.proofs.Good.{Good, Printed, TargetAt, TargetPrinted, is_word_alone, may_begin, begins_then, line_then, good_wrapped}
-use Rattle.jsgen_reading_laws.proofs.Prefixes.{word_begins}
+use Rattle.jsgen_reading_laws.proofs.Good.{Good, Printed, TargetAt, TargetPrinted, is_word_alone, may_begin, begins_then, line_then, good_wrapped, PrintedBy, begins_all}
 use Rattle.jsgen_reading_laws.proofs.Lists.{Elements, ElementAt, GivesMore, MoreAt, Joins, none_behind, one_behind, no_more, one_more, first_and_others}
 
 -- ---- a link behind a member or a call
@@ -42,13 +43,13 @@ linked_read true f h r = f r
 linked_read false f h r = behind_callee refl f h r
 
 -- Between two pens stands what a link may go on from: an expression that is a member or a call, or `super`.
-pub record Linkable (names : Tables) (p : Pen) (l : Last) (q : Pen) (c : Allowed) (no_call : Bool) (start : Start) (t : Tree) : Type 0 where
+pub record Linkable (names : Tables) (p : Pen) (l : Last) (q : Pen) (c : Allowed) (no_call : Bool) (t : Tree) : Type 0 where
   pub last : Last
   pub tokens : Tokens
   pub writes : Writes names p l q last tokens
   pub operand : Operand last
   pub semicolon : q.pending_semicolon ≡ false
-  pub begins : (b : Tokens) → is_word (codes "function") b ≡ false → may_begin start (tokens ⧺ b) ≡ true
+  pub begins : (b : Tokens) → is_word (codes "function") b ≡ false → may_begin p.start (tokens ⧺ b) ≡ true
   pub line : line_of l ≡ false → on_same_line tokens ≡ true
   pub base : Tree
   pub named : (w v : List ℕ) (mark next : Bool) → word_value w ≡ Some v → ReadsExpression c (left_hand_side no_call) (tokens ⧺ piece mark (Sign dot) (piece next (Word w) done)) (tree.static_member (link_values false) base (tree.identifier_name (named v)))
@@ -58,7 +59,7 @@ pub record Linkable (names : Tables) (p : Pen) (l : Last) (q : Pen) (c : Allowed
 
 -- printed before a link
 abbrev pub LinkPrinted : Tables → Allowed → Tree → Type 0
-LinkPrinted names c t = (place : Place) (p : Pen) (l : Last) → p.pending_semicolon ≡ false → Ready l → Knows names p l → Linkable names p l (layout (spell t (linked place)) p) (under place c) place.context.forbids_call place.start t
+LinkPrinted names c t = (place : Place) (p : Pen) (l : Last) → p.pending_semicolon ≡ false → Ready l → Knows names p l → Linkable names p l (layout (spell t (linked place)) p) (under place c) place.context.forbids_call t
 
 pub link_expression : {names : Tables} (c : Allowed) (t : Tree) → Printed names c t → LinkPrinted names c t
 link_expression c t f place p l z y k =
@@ -88,7 +89,7 @@ link_super c a place p l z y k =
       writes = wrote_word (codes "super") p l (letters_spelled 115 (codes "uper") refl) k;
       operand = tt;
       semicolon = z;
-      begins = λ b n. word_begins (codes "super") (λ ts. refl) place.start (line_of l) b;
+      begins = λ b n. begins_all p.start (piece (line_of l) (Word (codes "super")) b) refl;
       line = λ e. ap not e;
       base = tree.super (nothing_of 0);
       named = λ w v mark next x. weaken_member no_call (grammar.a_named_member_of_super w (line_of l) mark next x);
@@ -120,14 +121,14 @@ named_target {names} c a b o m h f place p l z y k =
     let g = f place p l z y k in
     let d = wrote_dot p1 g.last g.operand g.writes.knows in
     let n = wrote_written_name v p2 (After (Sign dot)) h d.knows in
-    subst (λ optional. TargetAt names p l (layout (name_link optional ⊕ name (as_written v)) p1) c place (tree.static_member a o (tree.identifier_name b))) (sym m) (
+    subst (λ optional. TargetAt names p l (layout (name_link optional ⊕ name b.span (as_written v)) p1) c place (tree.static_member a o (tree.identifier_name b))) (sym m) (
       record {
         last = After (Word w);
         tokens = g.tokens ⧺ piece (line_of g.last) (Sign dot) (piece false (Word w) done);
         writes = wrote_both g.writes (wrote_both d n);
         operand = tt;
         semicolon = g.semicolon;
-        begins = λ ts i. begins_then place.start g.tokens (piece (line_of g.last) (Sign dot) (piece false (Word w) done)) ts g.begins refl;
+        begins = λ ts i. begins_then p.start g.tokens (piece (line_of g.last) (Sign dot) (piece false (Word w) done)) ts g.begins refl;
         line = λ e. line_then g.tokens (piece (line_of g.last) (Sign dot) (piece false (Word w) done)) (g.line e);
         tree = tree.static_member (link_values false) g.base (tree.identifier_name (named v));
         reads = from_left place (g.named w v (line_of g.last) false x);
@@ -144,12 +145,12 @@ good_named_member c a b o m h f place p l z y k = (named_target c a b o m h f pl
 
 -- where the key of a member stands
 abbrev pub key_place : Place → Place
-key_place place = quoted_plainly place.plain_quotes (in_brackets levels.Lowest place)
+key_place place = quoted_plainly place.plain_quotes (in_brackets levels.Lowest)
 
 same_member : (a : Atoms) (u v x y : Tree) → computed_member_expression_optional a ≡ false → normal u ≡ normal x → normal v ≡ normal y → normal (tree.computed_member (link_values false) u v) ≡ normal (tree.computed_member a x y)
 same_member a u v x y m e f = λ i. tree.computed_member (link_values (sym m i)) (e i) (f i)
 
-computed_parts : {names : Tables} (c : Allowed) (a : Atoms) (o x : Tree) (place : Place) (p p1 q : Pen) (l : Last) → computed_member_expression_optional a ≡ false → (g : Linkable names p l p1 (under place c) place.context.forbids_call place.start o) → Good names (written (opening Square) other_end p1) (Open false) q (with_in c) grammar.Expression (key_place place).start x → TargetAt names p l (written (closing Square) other_end q) c place (tree.computed_member a o x)
+computed_parts : {names : Tables} (c : Allowed) (a : Atoms) (o x : Tree) (place : Place) (p p1 q : Pen) (l : Last) → computed_member_expression_optional a ≡ false → (g : Linkable names p l p1 (under place c) place.context.forbids_call o) → Good names (written (opening Square) other_end p1) (Open false) q (with_in c) grammar.Expression x → TargetAt names p l (written (closing Square) other_end q) c place (tree.computed_member a o x)
 computed_parts {names} c a o x place p p1 q l m g h = (
   record {
     last = Open false;
@@ -157,7 +158,7 @@ computed_parts {names} c a o x place p p1 q l m g h = (
     writes = wrote_both g.writes (brackets_written Square p1 q g.last h.last h.tokens h.writes);
     operand = tt;
     semicolon = h.semicolon;
-    begins = λ ts i. begins_then place.start g.tokens (group (line_of g.last) Square h.tokens done) ts g.begins refl;
+    begins = λ ts i. begins_then p.start g.tokens (group (line_of g.last) Square h.tokens done) ts g.begins refl;
     line = λ e. line_then g.tokens (group (line_of g.last) Square h.tokens done) (g.line e);
     tree = tree.computed_member (link_values false) g.base h.tree;
     reads = from_left place (g.computed (line_of g.last) h.tokens h.tree h.reads);
@@ -185,21 +186,21 @@ good_computed_member c a o x m f h place p l z y k = (computed_target c a o x m 
 -- ---- elements: expressions, and those whose values are spread
 
 -- in brackets; the test holds where it is a string that is never in backticks
-abbrev pub element_place : Bool → Place → Place
-element_place plain place = quoted_plainly plain (in_brackets levels.Comma place)
+abbrev pub element_place : Bool → Place
+element_place plain = quoted_plainly plain (in_brackets levels.Comma)
 
 abbrev pub ElementOf : Tables → Allowed → Tree → Type 0
-ElementOf names c e = (plain : Bool) (place : Place) → ElementAt names (ReadsElement (with_in c)) (element_place plain place) e
+ElementOf names c e = (plain : Bool) → ElementAt names (ReadsElement (with_in c)) (element_place plain) e
 
 pub good_element : {names : Tables} (c : Allowed) (e : Tree) → Printed names c e → ElementOf names c e
-good_element c e f plain place p l z b k =
-    let g = f (element_place plain place) p l z (begun_ready l b) k in
+good_element c e f plain p l z b k =
+    let g = f (element_place plain) p l z (begun_ready l b) k in
     record { last = g.last; tokens = g.tokens; writes = g.writes; operand = g.operand; semicolon = g.semicolon; tree = g.tree; reads = grammar.an_element g.reads; same = g.same }
 
 pub good_spread : {names : Tables} (c : Allowed) (a : Atoms) (e : Tree) → Printed names c e → ElementOf names c (tree.spread a e)
-good_spread c a e f plain place p l z b k =
+good_spread c a e f plain p l z b k =
     let o = wrote_dots p l b k in
-    let g = f (in_brackets levels.Comma place) (layout (punctuator ellipsis) p) (After (Sign ellipsis)) z tt o.knows in
+    let g = f (in_brackets levels.Comma) (layout (punctuator ellipsis) p) (After (Sign ellipsis)) z tt o.knows in
     record {
       last = g.last;
       tokens = piece (line_of l) (Sign ellipsis) g.tokens;
@@ -215,65 +216,65 @@ good_spread c a e f plain place p l z b k =
 
 -- behind an opening bracket; the tests hold where the first or the second is a string that is never in backticks
 abbrev pub ArgumentsAt : Tables → Allowed → Trees → Type 0
-ArgumentsAt names c es = (first second : Bool) (place : Place) (p : Pen) → p.pending_semicolon ≡ false → Knows names p (Open false) → Elements names (ReadsArguments (with_in c)) p (Open false) (layout (spell_arguments first second es (in_brackets levels.Comma place)) p) es
+ArgumentsAt names c es = (first second : Bool) (p : Pen) → p.pending_semicolon ≡ false → Knows names p (Open false) → Elements names (ReadsArguments (with_in c)) p (Open false) (layout (spell_arguments first second es (in_brackets levels.Comma)) p) es
 
 abbrev pub BehindFirstAt : Tables → Allowed → Trees → Type 0
-BehindFirstAt names c es = (second : Bool) (place : Place) → GivesMore names (ReadsElement (with_in c)) (ReadsArgumentList (with_in c)) (spell_behind_first second es (in_brackets levels.Comma place)) es
+BehindFirstAt names c es = (second : Bool) → GivesMore names (ReadsElement (with_in c)) (ReadsArgumentList (with_in c)) (spell_behind_first second es (in_brackets levels.Comma)) es
 
 abbrev pub MoreArgumentsAt : Tables → Allowed → Trees → Type 0
-MoreArgumentsAt names c es = (place : Place) → MoreAt names (ReadsElement (with_in c)) (ReadsArgumentList (with_in c)) (in_brackets levels.Comma place) es
+MoreArgumentsAt names c es = MoreAt names (ReadsElement (with_in c)) (ReadsArgumentList (with_in c)) (in_brackets levels.Comma) es
 
 arguments_join : (c : Allowed) → Joins (ReadsElement c) (ReadsArgumentList c)
 arguments_join c = record { one = λ ts e r. grammar.last_argument r; first = λ mark a b e es r s. grammar.first_argument mark refl r s }
 
 pub no_arguments : {names : Tables} (c : Allowed) → ArgumentsAt names c no_trees
-no_arguments c first second place p z k = record { last = Open false; tokens = done; writes = wrote_none p p (Open false) refl k; operand = tt; semicolon = z; trees = no_trees; reads = grammar.no_argument; same = refl }
+no_arguments c first second p z k = record { last = Open false; tokens = done; writes = wrote_none p p (Open false) refl k; operand = tt; semicolon = z; trees = no_trees; reads = grammar.no_argument; same = refl }
 
 pub first_of_arguments : {names : Tables} (c : Allowed) (e : Tree) (es : Trees) → ElementOf names c e → BehindFirstAt names c es → ArgumentsAt names c (more e es)
-first_of_arguments c e es f m first second place p z k =
-    let g = first_and_others (ReadsElement (with_in c)) (ReadsArgumentList (with_in c)) e es (spell e (element_place first place)) (spell_behind_first second es (in_brackets levels.Comma place)) (f first place) (m second place) p (Open false) z tt k in
+first_of_arguments c e es f m first second p z k =
+    let g = first_and_others (ReadsElement (with_in c)) (ReadsArgumentList (with_in c)) e es (spell e (element_place first)) (spell_behind_first second es (in_brackets levels.Comma)) (f first) (m second) p (Open false) z tt k in
     record { last = g.last; tokens = g.tokens; writes = g.writes; operand = g.operand; semicolon = g.semicolon; trees = g.trees; reads = grammar.some_arguments g.reads; same = g.same }
 
 pub none_behind_first : {names : Tables} (c : Allowed) → BehindFirstAt names c no_trees
-none_behind_first c second place = none_behind (ReadsElement (with_in c)) (ReadsArgumentList (with_in c)) (arguments_join (with_in c)).one
+none_behind_first c second = none_behind (ReadsElement (with_in c)) (ReadsArgumentList (with_in c)) (arguments_join (with_in c)).one
 
 pub second_argument : {names : Tables} (c : Allowed) (e : Tree) (es : Trees) → ElementOf names c e → MoreArgumentsAt names c es → BehindFirstAt names c (more e es)
-second_argument c e es f m second place = one_behind (ReadsElement (with_in c)) (ReadsArgumentList (with_in c)) (arguments_join (with_in c)).first e es (spell e (element_place second place)) (spell_more es (in_brackets levels.Comma place)) (f second place) (m place)
+second_argument c e es f m second = one_behind (ReadsElement (with_in c)) (ReadsArgumentList (with_in c)) (arguments_join (with_in c)).first e es (spell e (element_place second)) (spell_more es (in_brackets levels.Comma)) (f second) m
 
 pub no_more_arguments : {names : Tables} (c : Allowed) → MoreArgumentsAt names c no_trees
-no_more_arguments c place = no_more (ReadsElement (with_in c)) (ReadsArgumentList (with_in c)) (arguments_join (with_in c)) (in_brackets levels.Comma place)
+no_more_arguments c = no_more (ReadsElement (with_in c)) (ReadsArgumentList (with_in c)) (arguments_join (with_in c)) (in_brackets levels.Comma)
 
 pub one_more_argument : {names : Tables} (c : Allowed) (e : Tree) (es : Trees) → ElementOf names c e → MoreArgumentsAt names c es → MoreArgumentsAt names c (more e es)
-one_more_argument c e es f m place = one_more (ReadsElement (with_in c)) (ReadsArgumentList (with_in c)) (arguments_join (with_in c)) (in_brackets levels.Comma place) e es (f false place) (m place)
+one_more_argument c e es f m = one_more (ReadsElement (with_in c)) (ReadsArgumentList (with_in c)) (arguments_join (with_in c)) (in_brackets levels.Comma) e es (f false) m
 
 -- where neither test holds they are spelled as any list
-behind_as_list : (es : Trees) (place : Place) → spell_behind_first false es (in_brackets levels.Comma place) ≡ spell_more es (in_brackets levels.Comma place)
-behind_as_list no_trees place = refl
-behind_as_list (more e es) place = refl
-behind_as_list (hole es) place = behind_as_list es place
+behind_as_list : (es : Trees) → spell_behind_first false es (in_brackets levels.Comma) ≡ spell_more es (in_brackets levels.Comma)
+behind_as_list no_trees = refl
+behind_as_list (more e es) = refl
+behind_as_list (hole es) = behind_as_list es
 
-pub spelled_as_list : (es : Trees) (place : Place) → spell_arguments false false es (in_brackets levels.Comma place) ≡ spell_list es (in_brackets levels.Comma place)
-spelled_as_list no_trees place = refl
-spelled_as_list (more e es) place = ap (λ items. spell e (in_brackets levels.Comma place) ⊕ items) (behind_as_list es place)
-spelled_as_list (hole es) place = spelled_as_list es place
+pub spelled_as_list : (es : Trees) → spell_arguments false false es (in_brackets levels.Comma) ≡ spell_list es (in_brackets levels.Comma)
+spelled_as_list no_trees = refl
+spelled_as_list (more e es) = ap (λ items. spell e (in_brackets levels.Comma) ⊕ items) (behind_as_list es)
+spelled_as_list (hole es) = spelled_as_list es
 
 -- those of a call
-abbrev pub argument_items : Tree → Trees → Place → Items
-argument_items t es place = spell_arguments (is_require_call place.settings.minified t es) (is_definition_call place.settings.minified t es) es (in_brackets levels.Comma place)
+abbrev pub argument_items : Tree → Trees → Items
+argument_items t es = spell_arguments (is_require_call t es) (is_definition_call t es) es (in_brackets levels.Comma)
 
 -- ---- calls
 
 same_call : (a : Atoms) (u x : Tree) (us xs : Trees) → call_expression_optional a ≡ false → normal u ≡ normal x → normal_trees us ≡ normal_trees xs → normal (tree.call (call_values false) u us) ≡ normal (tree.call a x xs)
 same_call a u x us xs m e f = λ i. tree.call (call_values (sym m i)) (e i) (f i)
 
-call_parts : {names : Tables} (c : Allowed) (a : Atoms) (t : Tree) (es : Trees) (start : Start) (p p1 q : Pen) (l : Last) → call_expression_optional a ≡ false → (g : Linkable names p l p1 c false start t) → Elements names (ReadsArguments (with_in c)) (written (opening Round) other_end p1) (Open false) q es → Good names p l (written (closing Round) other_end q) c grammar.Call start (tree.call a t es)
-call_parts {names} c a t es start p p1 q l m g h = record {
+call_parts : {names : Tables} (c : Allowed) (a : Atoms) (t : Tree) (es : Trees) (p p1 q : Pen) (l : Last) → call_expression_optional a ≡ false → (g : Linkable names p l p1 c false t) → Elements names (ReadsArguments (with_in c)) (written (opening Round) other_end p1) (Open false) q es → Good names p l (written (closing Round) other_end q) c grammar.Call (tree.call a t es)
+call_parts {names} c a t es p p1 q l m g h = record {
   last = Open false;
   tokens = g.tokens ⧺ group (line_of g.last) Round h.tokens done;
   writes = wrote_both g.writes (brackets_written Round p1 q g.last h.last h.tokens h.writes);
   operand = tt;
   semicolon = h.semicolon;
-  begins = λ ts i. begins_then start g.tokens (group (line_of g.last) Round h.tokens done) ts g.begins refl;
+  begins = λ ts i. begins_then p.start g.tokens (group (line_of g.last) Round h.tokens done) ts g.begins refl;
   line = λ e. line_then g.tokens (group (line_of g.last) Round h.tokens done) (g.line e);
   tree = tree.call (call_values false) g.base h.trees;
   reads = g.called refl (line_of g.last) h.tokens h.trees h.reads;
@@ -288,15 +289,15 @@ unwrapped_call {c} {ts} {u} place e r =
 
 pub good_call : {names : Tables} (c : Allowed) (a : Atoms) (t : Tree) (es : Trees) → call_expression_optional a ≡ false → LinkPrinted names c t → ArgumentsAt names c es → Printed names c (tree.call a t es)
 good_call {names} c a t es m f h place =
-    good_wrapped c place grammar.Call (call_wraps place) (λ w. spell t (called (within w place)) ⊕ (bracket_link (call_expression_optional a) ⊕ brackets Round (argument_items t es place))) (tree.call a t es)
+    good_wrapped c place grammar.Call (call_wraps place) (λ w. spell t (called (within w place)) ⊕ (bracket_link (call_expression_optional a) ⊕ brackets Round (argument_items t es))) (tree.call a t es)
     (λ d ts u r. lifted false levels.Postfix levels.Lowest (omega arith) (grammar.a_called_call r)) (λ e ts u r. unwrapped_call place e r) inner
   where
-    inner : (v : Bool) → call_wraps place ≡ v → (p : Pen) (l : Last) → p.pending_semicolon ≡ false → Ready l → Knows names p l → Good names p l (layout (spell t (called (within v place)) ⊕ (bracket_link (call_expression_optional a) ⊕ brackets Round (argument_items t es place))) p) (under (within v place) c) grammar.Call (unless_printed v place.start) (tree.call a t es)
+    inner : (v : Bool) → call_wraps place ≡ v → PrintedBy names (under (within v place) c) grammar.Call (spell t (called (within v place)) ⊕ (bracket_link (call_expression_optional a) ⊕ brackets Round (argument_items t es))) (tree.call a t es)
     inner v e p l z y k =
         let p1 : Pen = layout (spell t (called (within v place))) p in
         let p2 : Pen = written (opening Round) other_end p1 in
         let at : Place = within v place in
-        let g = f (record at { context = record at.context { forbids_call = false } }) p l z y k in
-        let i = h (is_require_call place.settings.minified t es) (is_definition_call place.settings.minified t es) place p2 g.semicolon (within_brackets Round p1 g.last g.writes.knows) in
-        let q : Pen = layout (argument_items t es place) p2 in
-        subst (λ optional. Good names p l (layout (bracket_link optional ⊕ brackets Round (argument_items t es place)) p1) (under (within v place) c) grammar.Call (unless_printed v place.start) (tree.call a t es)) (sym m) (call_parts (under (within v place) c) a t es (unless_printed v place.start) p p1 q l m g i)
+        let g = f (with_calls (within v place)) p l z y k in
+        let i = h (is_require_call t es) (is_definition_call t es) p2 g.semicolon (within_brackets Round p1 g.last g.writes.knows) in
+        let q : Pen = layout (argument_items t es) p2 in
+        subst (λ optional. Good names p l (layout (bracket_link optional ⊕ brackets Round (argument_items t es)) p1) (under (within v place) c) grammar.Call (tree.call a t es)) (sym m) (call_parts (under (within v place) c) a t es p p1 q l m g i)

@@ -8,7 +8,8 @@ use Rattle.jsgen_model.specs.Items.{Items, nothing, ◌⊕◌, punctuator, soft_
 use Rattle.jsgen_model.specs.Layout.{Pen, layout}
 use Rattle.jsgen_model.specs.Normal.{normal, normal_trees}
 use Rattle.jsgen_model.specs.Renamed.{renamed, renamed_trees}
-use Rattle.jsgen_model.specs.Spell.{Place, spell, spell_list, spell_more}
+use Rattle.jsgen_place.specs.declared.place.Place.{Place}
+use Rattle.jsgen_model.specs.Spell.{spell, spell_list, spell_more}
 use Rattle.jsgen_token_laws.proofs.Last.{Last, After, line_of, Operand, Begun, Knows}
 use Rattle.jsgen_token_laws.proofs.Writes.{Writes, wrote_none, wrote_both, then_done}
 use Rattle.jsgen_token_laws.proofs.Steps.{Soft, wrote_punctuator, soft_space_written}

@@ -15,14 +15,16 @@ use Rattle.jsgen_tree.specs.Inside.{after_minus, unless_minus, behind_minus}
 use Rattle.jsgen_tree.specs.Values.{numeric_literal_kind, numeric_literal_negative, numeric_literal_digits, numeric_literal_text, big_int_literal_value}
 use Rattle.jsgen_model.specs.Punctuator.{minus}
 use Rattle.jsgen_model.specs.Numbers.{ends_in, spells_number, spells_whole, is_raw_number, is_big_integer, takes_no_dot}
-use Rattle.jsgen_model.specs.Tokens.{Tokens, done, piece, Number, Sign}
+use Rattle.jsgen_model.specs.Tokens.{done, piece, Number, Sign}
 use Rattle.jsgen_model.specs.Items.{nothing, ◌⊕◌, number, operator}
-use Rattle.jsgen_model.specs.Layout.{Pen, layout, Start, nowhere, statement, arrow_body, default_export, unless_printed}
+use Rattle.jsgen_model.specs.Layout.{Pen, layout}
 use Rattle.jsgen_model.specs.Grammar.{Allowed, ReadsExpression, ReadsKey, has_suffix}
 use Rattle.jsgen_model.specs.Grammar as grammar
 use Rattle.jsgen_model.specs.Normal.{normal, named, by_text, number_text, minus_before, big_integer}
 use Rattle.jsgen_model.specs.Renamed.{renamed}
-use Rattle.jsgen_model.specs.Spell.{Place, within, behind, wraps, negative, signed, number_items, big_text, big_integer_items}
+use Rattle.jsgen_place.specs.declared.place.Place.{Place}
+use Rattle.jsgen_place.specs.Place.{within, child, wraps}
+use Rattle.jsgen_model.specs.Spell.{negative, signed, number_items, big_text, big_integer_items}
 use Rattle.jsgen_token_laws.proofs.Characters.{whole_digits}
 use Rattle.jsgen_token_laws.proofs.Last.{Last, After, line_of, Ready, Knows}
 use Rattle.jsgen_token_laws.proofs.Literals.{whole_begins}
@@ -31,7 +33,7 @@ use Rattle.jsgen_token_laws.proofs.Steps.{wrote_whole, wrote_raw, wrote_big, wro
 use Rattle.jsgen_reading_laws.proofs.Levels.{level_of, under, from_primary, lifted, unwrapped}
 use Rattle.jsgen_reading_laws.proofs.Families.{has_value}
 use Rattle.jsgen_reading_laws.proofs.Numbers.{decimal_whole}
-use Rattle.jsgen_reading_laws.proofs.Good.{Good, Printed, may_begin, good_wrapped}
+use Rattle.jsgen_reading_laws.proofs.Good.{Printed, good_wrapped, PrintedBy, begins_all}
 use Rattle.jsgen_reading_laws.proofs.Prefixes.{sign_before, good_prefix, nothing_soft}
 
 -- ---- what a number ends in
@@ -85,12 +87,6 @@ big_whole (c ∷ w) o h e = by (c == 45) h e
 
 -- ---- the token of a number
 
-number_begins : (start : Start) (line : Bool) (w : List ℕ) (b : Tokens) → may_begin start (piece line (Number w) b) ≡ true
-number_begins nowhere line w b = refl
-number_begins statement line w b = refl
-number_begins arrow_body line w b = refl
-number_begins default_export line w b = refl
-
 -- the token of a number, which is read as a tree of this normal form
 pub record Numeral (names : Tables) (dot : Bool) (w : List ℕ) (t : Tree) : Type 0 where
   pub writes : (p : Pen) (l : Last) → Ready l → Knows names p l → Writes names p l (layout (number dot w) p) (After (Number w)) (piece (line_of l) (Number w) done)
@@ -135,14 +131,14 @@ big_numeral w h = record {
 as_read : {names : Tables} {dot : Bool} {w : List ℕ} {u : Tree} → (n : Numeral names dot w u) → normal (renamed names n.reading) ≡ u
 as_read n = ap normal n.unnamed ∙ n.same
 
-bare_numeral : {names : Tables} (c : Allowed) (place : Place) (dot : Bool) (w : List ℕ) (t u : Tree) → Numeral names dot w u → normal (renamed names t) ≡ u → (p : Pen) (l : Last) → p.pending_semicolon ≡ false → Ready l → Knows names p l → Good names p l (layout (number dot w) p) (under place c) (level_of place) place.start t
+bare_numeral : {names : Tables} (c : Allowed) (place : Place) (dot : Bool) (w : List ℕ) (t u : Tree) → Numeral names dot w u → normal (renamed names t) ≡ u → PrintedBy names (under place c) (level_of place) (number dot w) t
 bare_numeral c place dot w t u n e p l z y k = record {
   last = _;
   tokens = piece (line_of l) (Number w) done;
   writes = n.writes p l y k;
   operand = tt;
   semicolon = z;
-  begins = λ b h. number_begins place.start (line_of l) w b;
+  begins = λ b h. begins_all p.start (piece (line_of l) (Number w) b) refl;
   line = λ g. ap not g;
   tree = n.reading;
   reads = from_primary place n.reads;
@@ -150,15 +146,15 @@ bare_numeral c place dot w t u n e p l z y k = record {
 }
 
 -- a minus, and a number behind it
-negative_numeral : {names : Tables} (c : Allowed) (place : Place) (dot : Bool) (w : List ℕ) (t u : Tree) → Numeral names dot w u → normal (renamed names t) ≡ minus_before true u → (p : Pen) (l : Last) → p.pending_semicolon ≡ false → Ready l → Knows names p l → Good names p l (layout (negative dot w place) p) (under place c) (level_of place) place.start t
+negative_numeral : {names : Tables} (c : Allowed) (place : Place) (dot : Bool) (w : List ℕ) (t u : Tree) → Numeral names dot w u → normal (renamed names t) ≡ minus_before true u → PrintedBy names (under place c) (level_of place) (negative dot w place) t
 negative_numeral c place dot w t u n e =
     good_wrapped c place grammar.Unary (wraps levels.Prefix place) (λ v. operator minus ⊕ number dot w) t
     (λ d ts x r. lifted false levels.Exponentiation levels.Lowest (omega arith) r) (λ f ts x r. unwrapped levels.Prefix place f r)
-    (λ v f. good_prefix (operator minus) (Sign minus) nothing (number dot w) n.reading t (under (within v place) c) (unless_printed v place.start) grammar.Unary grammar.Unary (sign_before minus tt wrote_minus) nothing_soft
+    (λ v f. good_prefix (operator minus) (Sign minus) nothing (number dot w) n.reading t (under (within v place) c) grammar.Unary grammar.Unary (sign_before minus tt wrote_minus) nothing_soft
     (λ ts line x r s. (minus_before true x, grammar.a_unary_operation unary_operators.UnaryNegation r, ap (minus_before true) (s ∙ as_read n) ∙ sym e))
-    (bare_numeral c (behind levels.Exponentiation (within v place)) dot w n.reading u n (as_read n)))
+    (bare_numeral c (child levels.Exponentiation (within v place)) dot w n.reading u n (as_read n)))
 
-signed_numeral : {names : Tables} (c : Allowed) (place : Place) (dot sign : Bool) (w : List ℕ) (t u : Tree) → Numeral names dot w u → normal (renamed names t) ≡ minus_before sign u → (p : Pen) (l : Last) → p.pending_semicolon ≡ false → Ready l → Knows names p l → Good names p l (layout (signed dot sign w place) p) (under place c) (level_of place) place.start t
+signed_numeral : {names : Tables} (c : Allowed) (place : Place) (dot sign : Bool) (w : List ℕ) (t u : Tree) → Numeral names dot w u → normal (renamed names t) ≡ minus_before sign u → PrintedBy names (under place c) (level_of place) (signed dot sign w place) t
 signed_numeral c place dot true w t u n e = negative_numeral c place dot w t u n e
 signed_numeral c place dot false w t u n e = bare_numeral c place dot w t u n e
 
@@ -168,7 +164,7 @@ good_number {names} c a h place = by (numeric_literal_kind a) refl h
     form : (kind : NumericKind) → numeric_literal_kind a ≡ kind → normal (tree.numeric_literal a) ≡ minus_before (numeric_literal_negative a) (tree.numeric_literal (by_text (number_text kind a)))
     form kind e = ap (λ x. minus_before (numeric_literal_negative a) (tree.numeric_literal (by_text (number_text x a)))) e
 
-    by : (kind : NumericKind) → numeric_literal_kind a ≡ kind → has_value kind a ≡ true → (p : Pen) (l : Last) → p.pending_semicolon ≡ false → Ready l → Knows names p l → Good names p l (layout (number_items kind a place) p) (under place c) (level_of place) place.start (tree.numeric_literal a)
+    by : (kind : NumericKind) → numeric_literal_kind a ≡ kind → has_value kind a ≡ true → PrintedBy names (under place c) (level_of place) (number_items kind a place) (tree.numeric_literal a)
     by Whole e h = signed_numeral c place true (numeric_literal_negative a) (decimal (numeric_literal_digits a)) (tree.numeric_literal a) _ (whole_numeral (numeric_literal_digits a) h) (form Whole e)
     by Raw e h = signed_numeral c place (not (takes_no_dot (numeric_literal_text a))) (numeric_literal_negative a) (numeric_literal_text a) (tree.numeric_literal a) _ (raw_numeral (numeric_literal_text a) h) (form Raw e)
 
@@ -178,6 +174,6 @@ good_big_integer {names} c a h place = by (behind_minus (big_int_literal_value a
     v : List ℕ
     v = big_int_literal_value a
 
-    by : (o : Option (List ℕ)) → behind_minus v ≡ o → (p : Pen) (l : Last) → p.pending_semicolon ≡ false → Ready l → Knows names p l → Good names p l (layout (big_integer_items v o place) p) (under place c) (level_of place) place.start (tree.big_int_literal a)
+    by : (o : Option (List ℕ)) → behind_minus v ≡ o → PrintedBy names (under place c) (level_of place) (big_integer_items v o place) (tree.big_int_literal a)
     by (Some w) e = negative_numeral c place false (big_text w) (tree.big_int_literal a) _ (big_numeral w (big_whole v (Some w) h e)) (ap (big_integer v) e)
     by None e = bare_numeral c place false (big_text v) (tree.big_int_literal a) _ (big_numeral v (big_whole v None h e)) (ap (big_integer v) e)

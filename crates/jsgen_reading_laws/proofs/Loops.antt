@@ -5,7 +5,7 @@ use Rattle.jsgen_syntax.specs.Escapes.{name_text, word_value}
 use Rattle.jsgen_syntax.specs.Name.{spells_name, is_free_name}
 use Rattle.jsgen_syntax.specs.declared.precedence.Precedence.TheVariants as levels
 use Rattle.jsgen_syntax.proofs.Escapes.{word_text_value}
-use Rattle.jsgen_tree.specs.Atom.{no_value, declaration_kind}
+use Rattle.jsgen_tree.specs.Atom.{declaration_kind}
 use Rattle.jsgen_tree.specs.Inside.{ends_open, reference_named, looked_up_in}
 use Rattle.jsgen_tree.specs.Job.{Tables}
 use Rattle.jsgen_tree.specs.Named.{printed_name}
@@ -22,12 +22,14 @@ use Rattle.jsgen_tree.specs.declared.types.NodeType.TheVariants as types
 use Rattle.jsgen_model.specs.Punctuator.{semicolon, Round, opening}
 use Rattle.jsgen_model.specs.Tokens.{Tokens, done, piece, group, ◌⧺◌, Word, Sign}
 use Rattle.jsgen_model.specs.Items.{Items, ◌⊕◌, word, name, punctuator, soft_space, brackets}
-use Rattle.jsgen_model.specs.Layout.{Pen, nowhere, other_end, layout, written}
+use Rattle.jsgen_model.specs.Layout.{Pen, other_end, layout, written}
 use Rattle.jsgen_model.specs.Grammar.{Allowed, Level, ReadsExpression, ReadsBinding, ReadsInit, ReadsPart, ReadsLeft, declaring, with_in, may_precede_of}
 use Rattle.jsgen_model.specs.Grammar as grammar
-use Rattle.jsgen_model.specs.Normal.{normal, normal_maybe, nothing_of, unnumbered, declared_as}
+use Rattle.jsgen_model.specs.Normal.{normal, normal_maybe, nothing_of, unnumbered, declared_as, if_set}
 use Rattle.jsgen_model.specs.Renamed.{renamed, renamed_maybe}
-use Rattle.jsgen_model.specs.Spell.{Settings, Place, spell, spell_if_given, spell_apart, among_statements, within_statement, in_front, behind, in_brackets, loop_head, left_place, shape, body_items, apart_from_of}
+use Rattle.jsgen_place.specs.declared.place.Place.{Place}
+use Rattle.jsgen_place.specs.Place.{among_statements, within_statement, in_brackets, loop_head}
+use Rattle.jsgen_model.specs.Spell.{spell, spell_if_given, spell_apart, left_place, shape, body_items, apart_from_of}
 use Rattle.jsgen_token_laws.proofs.Characters.{letters_spelled}
 use Rattle.jsgen_token_laws.proofs.Last.{Last, Open, After, line_of}
 use Rattle.jsgen_token_laws.proofs.Writes.{Writes, wrote_none, wrote_both}
@@ -41,13 +43,13 @@ use Rattle.jsgen_reading_laws.proofs.Openings.{precedes_of}
 use Rattle.jsgen_reading_laws.proofs.Bindings.{Bound, PrintedIfGiven}
 use Rattle.jsgen_reading_laws.proofs.Properties.{same_laid}
 use Rattle.jsgen_reading_laws.proofs.Declarations.{kind_spelled, VariablesAt}
-use Rattle.jsgen_reading_laws.proofs.Stands.{StatedAt, Stated, stated_among, SameTree}
+use Rattle.jsgen_reading_laws.proofs.Stands.{Stated, stated_among, SameTree}
 use Rattle.jsgen_reading_laws.proofs.Bodies.{EmptyAlone, good_body}
 use Rattle.jsgen_reading_laws.proofs.Parentheses.{Inside, InsideAt, ReadsHead, SameHead, headed_line}
 
 -- the body of a loop, as it is printed behind its head
-abbrev body_of : Tree → Settings → Items
-body_of s settings = body_items (shape s) (spell s (within_statement settings)) (spell s (among_statements settings))
+abbrev body_of : Tree → Items
+body_of s = body_items (shape s) (spell s within_statement) (spell s among_statements)
 
 for_spelled : spells_name (codes "for") ≡ true
 for_spelled = letters_spelled 102 (codes "or") refl
@@ -58,38 +60,38 @@ abbrev SameMaybe : Tables → Maybe → Maybe → Type 0
 SameMaybe names m n = normal_maybe n ≡ normal_maybe (renamed_maybe names m)
 
 abbrev pub InitOf : Tables → Allowed → Maybe → Type 0
-InitOf names c m = (place : Place) → InsideAt names (ReadsInit c) (SameMaybe names m) (spell_if_given m (loop_head place))
+InitOf names c m = InsideAt names (ReadsInit c) (SameMaybe names m) (spell_if_given m loop_head)
 
 pub no_init : {names : Tables} (c : Allowed) → InitOf names c absent
-no_init c place p l z y k = record { last = l; tokens = done; writes = wrote_none p p l refl k; semicolon = z; reading = absent; reads = grammar.no_init; same = refl }
+no_init c p l z y k = record { last = l; tokens = done; writes = wrote_none p p l refl k; semicolon = z; reading = absent; reads = grammar.no_init; same = refl }
 
 pub init_expression : {names : Tables} (c : Allowed) (e : Tree) → Printed names c e → InitOf names c (given e)
-init_expression c e f place p l z y k =
-    let g = f (loop_head place) p l z y k in
+init_expression c e f p l z y k =
+    let g = f loop_head p l z y k in
     record { last = g.last; tokens = g.tokens; writes = g.writes; semicolon = g.semicolon; reading = given g.tree; reads = grammar.first_expression g.reads; same = ap (λ t. given t) g.same }
 
 pub init_variables : {names : Tables} (c : Allowed) (a : Atoms) (ds : Trees) → ((place : Place) → VariablesAt names c place a ds) → InitOf names c (given (tree.variable_declaration a ds))
-init_variables c a ds f place p l z y k =
-    let g = f (loop_head place) p l z k in
+init_variables c a ds f p l z y k =
+    let g = f loop_head p l z k in
     record { last = g.last; tokens = g.tokens; writes = g.writes; semicolon = g.semicolon; reading = given g.tree; reads = grammar.first_variables (variable_declaration_kind a) g.reads; same = ap (λ t. given t) g.same }
 
-abbrev PartOf : Tables → Allowed → Maybe → Place → Type 0
-PartOf names c m place = InsideAt names (ReadsPart (with_in c)) (SameMaybe names m) (spell_apart m (in_brackets levels.Lowest place))
+abbrev PartOf : Tables → Allowed → Maybe → Type 0
+PartOf names c m = InsideAt names (ReadsPart (with_in c)) (SameMaybe names m) (spell_apart m (in_brackets levels.Lowest))
 
-good_part : {names : Tables} (c : Allowed) (m : Maybe) → PrintedIfGiven names c m → (place : Place) → PartOf names c m place
-good_part c absent f place p l z y k = record { last = l; tokens = done; writes = wrote_none p p l refl k; semicolon = z; reading = absent; reads = grammar.nothing_there; same = refl }
-good_part c (given t) f place p l z y k =
+good_part : {names : Tables} (c : Allowed) (m : Maybe) → PrintedIfGiven names c m → PartOf names c m
+good_part c absent f p l z y k = record { last = l; tokens = done; writes = wrote_none p p l refl k; semicolon = z; reading = absent; reads = grammar.nothing_there; same = refl }
+good_part c (given t) f p l z y k =
     let s = soft_space_written p l k in
-    let g = f (in_brackets levels.Lowest place) (layout soft_space p) s.last (s.semicolon ∙ z) (s.ready y) s.writes.knows in
+    let g = f (in_brackets levels.Lowest) (layout soft_space p) s.last (s.semicolon ∙ z) (s.ready y) s.writes.knows in
     record { last = g.last; tokens = g.tokens; writes = wrote_both s.writes g.writes; semicolon = g.semicolon; reading = given g.tree; reads = grammar.an_expression_there g.reads; same = ap (λ u. given u) g.same }
 
 same_for : (m n o i j k : Maybe) (u v : Tree) → normal_maybe m ≡ normal_maybe i → normal_maybe n ≡ normal_maybe j → normal_maybe o ≡ normal_maybe k → normal u ≡ normal v → tree.for_statement (nothing_of 0) (normal_maybe m) (normal_maybe n) (normal_maybe o) (normal u) ≡ tree.for_statement (nothing_of 0) (normal_maybe i) (normal_maybe j) (normal_maybe k) (normal v)
 same_for m n o i j k u v e f g h = λ x. tree.for_statement (nothing_of 0) (e x) (f x) (g x) (h x)
 
 -- from the first part, a semicolon, the second, a semicolon and the third
-three_parts : {names : Tables} (c : Allowed) (a : Atoms) (init test update : Maybe) (p p1 p2 p3 p4 q : Pen) (l : Last) → (i : Inside names (ReadsInit c) (SameMaybe names init) p l p1) → Writes names p1 i.last p2 (After (Sign semicolon)) (piece (line_of i.last) (Sign semicolon) done) → (t : Inside names (ReadsPart (with_in c)) (SameMaybe names test) p2 (After (Sign semicolon)) p3) → Writes names p3 t.last p4 (After (Sign semicolon)) (piece (line_of t.last) (Sign semicolon) done)
+three_parts : {names : Tables} {c : Allowed} (a : Atoms) (init test update : Maybe) {p p1 p2 p3 p4 q : Pen} {l : Last} → (i : Inside names (ReadsInit c) (SameMaybe names init) p l p1) → Writes names p1 i.last p2 (After (Sign semicolon)) (piece (line_of i.last) (Sign semicolon) done) → (t : Inside names (ReadsPart (with_in c)) (SameMaybe names test) p2 (After (Sign semicolon)) p3) → Writes names p3 t.last p4 (After (Sign semicolon)) (piece (line_of t.last) (Sign semicolon) done)
     → Inside names (ReadsPart (with_in c)) (SameMaybe names update) p4 (After (Sign semicolon)) q → Inside names (ReadsHead c (codes "for")) (SameHead names (λ s. tree.for_statement a init test update s)) p l q
-three_parts {names} c a init test update p p1 p2 p3 p4 q l i x t y u = record {
+three_parts {names} a init test update i x t y u = record {
   last = u.last;
   tokens = i.tokens ⧺ piece (line_of i.last) (Sign semicolon) (t.tokens ⧺ piece (line_of t.last) (Sign semicolon) u.tokens);
   writes = wrote_both i.writes (wrote_both x (wrote_both t.writes (wrote_both y u.writes)));
@@ -99,29 +101,24 @@ three_parts {names} c a init test update p p1 p2 p3 p4 q l i x t y u = record {
   same = λ v s e. same_for i.reading t.reading u.reading (renamed_maybe names init) (renamed_maybe names test) (renamed_maybe names update) v (renamed names s) i.same t.same u.same e;
 }
 
-abbrev for_items : Maybe → Maybe → Maybe → Place → Items
-for_items init test update place = spell_if_given init (loop_head place) ⊕ (punctuator semicolon ⊕ (spell_apart test (in_brackets levels.Lowest place) ⊕ (punctuator semicolon ⊕ spell_apart update (in_brackets levels.Lowest place))))
+abbrev for_items : Maybe → Maybe → Maybe → Items
+for_items init test update = spell_if_given init loop_head ⊕ (punctuator semicolon ⊕ (spell_apart test (in_brackets levels.Lowest) ⊕ (punctuator semicolon ⊕ spell_apart update (in_brackets levels.Lowest))))
 
-for_inside : {names : Tables} (c : Allowed) (a : Atoms) (init test update : Maybe) → InitOf names c init → PrintedIfGiven names c test → PrintedIfGiven names c update → (place : Place) → InsideAt names (ReadsHead c (codes "for")) (SameHead names (λ s. tree.for_statement a init test update s)) (for_items init test update place)
-for_inside c a init test update f g h place p l z y k =
-    let p1 : Pen = layout (spell_if_given init (loop_head place)) p in
+for_inside : {names : Tables} (c : Allowed) (a : Atoms) (init test update : Maybe) → InitOf names c init → PrintedIfGiven names c test → PrintedIfGiven names c update → InsideAt names (ReadsHead c (codes "for")) (SameHead names (λ s. tree.for_statement a init test update s)) (for_items init test update)
+for_inside c a init test update f g h p l z y k =
+    let p1 : Pen = layout (spell_if_given init loop_head) p in
     let p2 : Pen = layout (punctuator semicolon) p1 in
-    let p3 : Pen = layout (spell_apart test (in_brackets levels.Lowest place)) p2 in
+    let p3 : Pen = layout (spell_apart test (in_brackets levels.Lowest)) p2 in
     let p4 : Pen = layout (punctuator semicolon) p3 in
-    let i = f place p l z y k in
+    let i = f p l z y k in
     let v = wrote_semicolon p1 p2 i.last refl refl i.writes.knows in
-    let t = good_part c test g place p2 (After (Sign semicolon)) i.semicolon tt v.knows in
+    let t = good_part c test g p2 (After (Sign semicolon)) i.semicolon tt v.knows in
     let w = wrote_semicolon p3 p4 t.last refl refl t.writes.knows in
-    let u = good_part c update h place p4 (After (Sign semicolon)) t.semicolon tt w.knows in
-    three_parts c a init test update p p1 p2 p3 p4 (layout (spell_apart update (in_brackets levels.Lowest place)) p4) l i v t w u
+    let u = good_part c update h p4 (After (Sign semicolon)) t.semicolon tt w.knows in
+    three_parts a init test update i v t w u
 
 pub good_for : {names : Tables} (c : Allowed) (a : Atoms) (init test update : Maybe) (s : Tree) → InitOf names c init → PrintedIfGiven names c test → PrintedIfGiven names c update → EmptyAlone names s → Stated names c s → Stated names c (tree.for_statement a init test update s)
-good_for {names} c a init test update s g h i m f = stated_among refl by
-  where
-    by : (settings : Settings) → StatedAt names c (tree.for_statement a init test update s) (spell (tree.for_statement a init test update s) (among_statements settings))
-    by settings =
-        let place : Place = among_statements settings in
-        headed_line c (codes "for") for_spelled (λ t. tree.for_statement a init test update t) s (ends_open s) (for_items init test update place) (body_of s settings) (for_inside c a init test update g h i place) (good_body c s settings m f)
+good_for {names} c a init test update s g h i m f = stated_among refl (headed_line c (codes "for") for_spelled (λ t. tree.for_statement a init test update t) s (ends_open s) (for_items init test update) (body_of s) (for_inside c a init test update g h i) (good_body c s m f))
 
 -- ---- what a loop gives its values
 
@@ -130,12 +127,12 @@ abbrev LeftAt : Tables → Allowed → Bool → Items → Tree → Type 0
 LeftAt names c before_of items t = InsideAt names (ReadsLeft (with_in c) before_of) (SameTree names t) items
 
 -- as it is printed there
-abbrev left_items : Bool → Tree → Place → Items
-left_items true t place = apart_from_of (looked_up_in t) (spell t (left_place (type_of t) place))
-left_items false t place = spell t (left_place (type_of t) place)
+abbrev left_items : Bool → Tree → Items
+left_items true t = apart_from_of (looked_up_in t) (spell t (left_place (type_of t)))
+left_items false t = spell t (left_place (type_of t))
 
 abbrev pub LeftOf : Tables → Allowed → Tree → Type 0
-LeftOf names c t = (before_of : Bool) (place : Place) → LeftAt names c before_of (left_items before_of t place) t
+LeftOf names c t = (before_of : Bool) → LeftAt names c before_of (left_items before_of t) t
 
 -- a name is bound whether `in` may stand or not
 bound_anywhere : {c d : Allowed} {ts : Tokens} {b : Tree} → ReadsBinding c ts b → ReadsBinding d ts b
@@ -146,21 +143,21 @@ kind_declares kinds.Const = refl
 kind_declares kinds.Let = refl
 kind_declares kinds.Var = refl
 
-same_declared : (a d : Atoms) (u v : Tree) → variable_declaration_declare a ≡ no_value → variable_declarator_definite d ≡ no_value → normal u ≡ normal v → normal (tree.variable_declaration (declared_as (variable_declaration_kind a)) (more (tree.variable_declarator (nothing_of 1) u absent) no_trees)) ≡ normal (tree.variable_declaration a (more (tree.variable_declarator d v absent) no_trees))
-same_declared a d u v h k e = λ i. tree.variable_declaration (bare (declaration_kind (variable_declaration_kind a) ∷ sym h i ∷ [])) (more (tree.variable_declarator (bare (sym k i ∷ [])) (e i) absent) no_trees)
+same_declared : (a d : Atoms) (u v : Tree) → variable_declaration_declare a ≡ false → variable_declarator_definite d ≡ false → normal u ≡ normal v → normal (tree.variable_declaration (declared_as (variable_declaration_kind a)) (more (tree.variable_declarator (nothing_of 1) u absent) no_trees)) ≡ normal (tree.variable_declaration a (more (tree.variable_declarator d v absent) no_trees))
+same_declared a d u v h k e = λ i. tree.variable_declaration (bare (declaration_kind (variable_declaration_kind a) ∷ if_set (sym h i) ∷ [])) (more (tree.variable_declarator (bare (if_set (sym k i) ∷ [])) (e i) absent) no_trees)
 
-abbrev declared_items : Atoms → Tree → Place → Items
-declared_items a b place = word (declaration_word (variable_declaration_kind a)) ⊕ (soft_space ⊕ spell b (in_front levels.Lowest (behind levels.Lowest (loop_head place))))
+abbrev declared_items : Atoms → Tree → Items
+declared_items a b = word (declaration_word (variable_declaration_kind a)) ⊕ (soft_space ⊕ spell b loop_head)
 
 -- one name, which is declared
-declared_left : {names : Tables} (c : Allowed) (a d : Atoms) (b : Tree) (before_of : Bool) → variable_declaration_declare a ≡ no_value → variable_declarator_definite d ≡ no_value → Bound names c b → (place : Place) → LeftAt names c before_of (declared_items a b place) (tree.variable_declaration a (more (tree.variable_declarator d b absent) no_trees))
-declared_left {names} c a d b before_of m n f place p l z y k =
+declared_left : {names : Tables} (c : Allowed) (a d : Atoms) (b : Tree) (before_of : Bool) → variable_declaration_declare a ≡ false → variable_declarator_definite d ≡ false → Bound names c b → LeftAt names c before_of (declared_items a b) (tree.variable_declaration a (more (tree.variable_declarator d b absent) no_trees))
+declared_left {names} c a d b before_of m n f p l z y k =
     let kind : VariableDeclarationKind = variable_declaration_kind a in
     let w : List ℕ = declaration_word kind in
     let p1 : Pen = layout (word w) p in
     let o = wrote_word w p l (kind_spelled kind) k in
     let s = soft_space_written p1 (After (Word w)) o.knows in
-    let g = f (in_front levels.Lowest (behind levels.Lowest (loop_head place))) (layout soft_space p1) s.last (s.semicolon ∙ z) (s.ready tt) s.writes.knows in
+    let g = f loop_head (layout soft_space p1) s.last (s.semicolon ∙ z) (s.ready tt) s.writes.knows in
     let u : Tree = tree.variable_declaration (declared_as kind) (more (tree.variable_declarator (nothing_of 1) g.tree absent) no_trees) in
     record {
       last = g.last;
@@ -172,24 +169,24 @@ declared_left {names} c a d b before_of m n f place p l z y k =
       same = same_declared a d g.tree (renamed names b) m n g.same;
     }
 
-pub left_declared : {names : Tables} (c : Allowed) (a d : Atoms) (b : Tree) → variable_declaration_declare a ≡ no_value → variable_declarator_definite d ≡ no_value → Bound names c b → LeftOf names c (tree.variable_declaration a (more (tree.variable_declarator d b absent) no_trees))
-left_declared c a d b m n f true place = declared_left c a d b true m n f place
-left_declared c a d b m n f false place = declared_left c a d b false m n f place
+pub left_declared : {names : Tables} (c : Allowed) (a d : Atoms) (b : Tree) → variable_declaration_declare a ≡ false → variable_declarator_definite d ≡ false → Bound names c b → LeftOf names c (tree.variable_declaration a (more (tree.variable_declarator d b absent) no_trees))
+left_declared c a d b m n f true = declared_left c a d b true m n f
+left_declared c a d b m n f false = declared_left c a d b false m n f
 
 -- what is given a value stands where nothing is forbidden
-target_place : (type : NodeType) (place : Place) → is_simple_assignment_target type ≡ true → left_place type place ≡ in_brackets levels.Comma place
-target_place types.IdentifierReference place h = refl
-target_place types.StaticMemberExpression place h = refl
-target_place types.ComputedMemberExpression place h = refl
-target_place type place h = absurd (both_ways false refl h)
+target_place : (type : NodeType) → is_simple_assignment_target type ≡ true → left_place type ≡ in_brackets levels.Comma
+target_place types.IdentifierReference h = refl
+target_place types.StaticMemberExpression h = refl
+target_place types.ComputedMemberExpression h = refl
+target_place type h = absurd (both_ways false refl h)
 
 -- a target that may stand there
-target_left : {names : Tables} (c : Allowed) (before_of : Bool) (t : Tree) → is_simple_assignment_target (type_of t) ≡ true → (before_of ≡ true → looked_up_in t ≡ None) → TargetPrinted names c t → (place : Place) → LeftAt names c before_of (spell t (left_place (type_of t) place)) t
-target_left {names} c before_of t s n f place = subst (λ at. LeftAt names c before_of (spell t at) t) (sym (target_place (type_of t) place s)) inside
+target_left : {names : Tables} (c : Allowed) (before_of : Bool) (t : Tree) → is_simple_assignment_target (type_of t) ≡ true → (before_of ≡ true → looked_up_in t ≡ None) → TargetPrinted names c t → LeftAt names c before_of (spell t (left_place (type_of t))) t
+target_left {names} c before_of t s n f = subst (λ at. LeftAt names c before_of (spell t at) t) (sym (target_place (type_of t) s)) inside
   where
-    inside : LeftAt names c before_of (spell t (in_brackets levels.Comma place)) t
+    inside : LeftAt names c before_of (spell t (in_brackets levels.Comma)) t
     inside p l z y k =
-        let g = f (in_brackets levels.Comma place) p l z y k in
+        let g = f (in_brackets levels.Comma) p l z y k in
         record { last = g.0.last; tokens = g.0.tokens; writes = g.0.writes; semicolon = g.0.semicolon; reading = g.0.tree; reads = grammar.a_target (may before_of n g.3 g.4) g.3 g.1; same = g.0.same }
       where
         may : (b : Bool) → (b ≡ true → looked_up_in t ≡ None) → {ts : Tokens} {u : Tree} → ReadsExpression (with_in c) grammar.LeftHandSide ts u → (looked_up_in t ≡ None → is_word_alone ts ≡ false) → (not b || may_precede_of ts) ≡ true
@@ -197,14 +194,14 @@ target_left {names} c before_of t s n f place = subst (λ at. LeftAt names c bef
         may false n r a = refl
 
 -- a name, in parentheses where it is printed `async`
-name_left : {names : Tables} (c : Allowed) (a : Atoms) → is_free_name (printed_name names (reference_named a)) ≡ true → (place : Place) → LeftAt names c true (left_items true (tree.identifier_reference a) place) (tree.identifier_reference a)
-name_left {names} c a h place p l z y k = subst (λ q. Inside names (ReadsLeft (with_in c) true) (SameTree names (tree.identifier_reference a)) p l q) (sym (same_laid p (codes "async") (reference_named a) (brackets Round alone) alone k.tables)) (by (bytes_eq v (codes "async")) refl)
+name_left : {names : Tables} (c : Allowed) (a : Atoms) → is_free_name (printed_name names (reference_named a)) ≡ true → LeftAt names c true (left_items true (tree.identifier_reference a)) (tree.identifier_reference a)
+name_left {names} c a h p l z y k = subst (λ q. Inside names (ReadsLeft (with_in c) true) (SameTree names (tree.identifier_reference a)) p l q) (sym (same_laid p (codes "async") (reference_named a) (brackets Round alone) alone k.tables)) (by (bytes_eq v (codes "async")) refl)
   where
     v : List ℕ
     v = printed_name names (reference_named a)
 
     alone : Items
-    alone = name (reference_named a)
+    alone = name a.span (reference_named a)
 
     u : Tree
     u = tree.identifier_reference (unnumbered v)
@@ -225,7 +222,7 @@ name_left {names} c a h place p l z y k = subst (λ q. Inside names (ReadsLeft (
           writes = brackets_written Round p (layout alone p1) l (After (Word w)) (piece false (Word w) done) o;
           semicolon = z;
           reading = u;
-          reads = grammar.a_target refl (grammar.a_new (grammar.a_member (grammar.a_primary (grammar.in_parentheses (from_primary (in_brackets levels.Lowest place) (grammar.a_reference valued h)))))) refl;
+          reads = grammar.a_target refl (grammar.a_new (grammar.a_member (grammar.a_primary (grammar.in_parentheses (from_primary (in_brackets levels.Lowest) (grammar.a_reference valued h)))))) refl;
           same = refl;
         }
     by false e = record {
@@ -239,11 +236,11 @@ name_left {names} c a h place p l z y k = subst (λ q. Inside names (ReadsLeft (
     }
 
 pub left_target : {names : Tables} {c : Allowed} {t : Tree} → IsExpression names c t → is_simple_assignment_target (type_of t) ≡ true → TargetPrinted names c t → LeftOf names c t
-left_target {c = c} {t} v s f false place = target_left c false t s (λ e. absurd (both_ways false refl e)) f place
-left_target {c = c} (family.a_reference {a} h) s f true place = name_left c a h place
-left_target {c = c} {t} (family.a_named_member m v h) s f true place = target_left c true t s (λ e. refl) f place
-left_target {c = c} {t} (family.a_computed_member m v w) s f true place = target_left c true t s (λ e. refl) f place
-left_target v s f true place = absurd (both_ways false refl s)
+left_target {c = c} {t} v s f false = target_left c false t s (λ e. absurd (both_ways false refl e)) f
+left_target {c = c} (family.a_reference {a} h) s f true = name_left c a h
+left_target {c = c} {t} (family.a_named_member m v h) s f true = target_left c true t s (λ e. refl) f
+left_target {c = c} {t} (family.a_computed_member m v w) s f true = target_left c true t s (λ e. refl) f
+left_target v s f true = absurd (both_ways false refl s)
 
 -- ---- over keys and over values
 
@@ -251,7 +248,7 @@ left_target v s f true place = absurd (both_ways false refl s)
 over_parts : {names : Tables} (c : Allowed) (k : List ℕ) (before_of : Bool) (left right : Tree) (made : Tree → Tree) (whole : Tree → Tree → Tree → Tree) (level : Level) (p p1 p2 p3 p4 q : Pen) (l : Last)
     → ((a b : Tokens) (mark : Bool) (u v : Tree) → ReadsLeft (with_in c) before_of a u → ReadsExpression (with_in c) level b v → ReadsHead c (codes "for") (a ⧺ piece mark (Word k) b) (λ s. whole u v s))
     → ((u v : Tree) → normal u ≡ normal (renamed names left) → normal v ≡ normal (renamed names right) → SameHead names made (λ s. whole u v s))
-    → (g : Inside names (ReadsLeft (with_in c) before_of) (SameTree names left) p l p1) (s : Soft names p1 g.last p2) → Writes names p2 s.last p3 (After (Word k)) (piece (line_of s.last) (Word k) done) → (n : Soft names p3 (After (Word k)) p4) → Good names p4 n.last q (with_in c) level nowhere right → Inside names (ReadsHead c (codes "for")) (SameHead names made) p l q
+    → (g : Inside names (ReadsLeft (with_in c) before_of) (SameTree names left) p l p1) (s : Soft names p1 g.last p2) → Writes names p2 s.last p3 (After (Word k)) (piece (line_of s.last) (Word k) done) → (n : Soft names p3 (After (Word k)) p4) → Good names p4 n.last q (with_in c) level right → Inside names (ReadsHead c (codes "for")) (SameHead names made) p l q
 over_parts c k before_of left right made whole level p p1 p2 p3 p4 q l join same g s o n h = record {
   last = h.last;
   tokens = g.tokens ⧺ piece (line_of s.last) (Word k) h.tokens;
@@ -268,49 +265,39 @@ over_items k left right = left ⊕ (soft_space ⊕ (word k ⊕ (soft_space ⊕ r
 same_for_in : (names : Tables) (a : Atoms) (t e u v : Tree) → normal u ≡ normal (renamed names t) → normal v ≡ normal (renamed names e) → SameHead names (λ s. tree.for_in_statement a t e s) (λ s. tree.for_in_statement (nothing_of 0) u v s)
 same_for_in names a t e u v f g x s h = λ i. tree.for_in_statement (nothing_of 0) (f i) (g i) (h i)
 
-for_in_inside : {names : Tables} (c : Allowed) (a : Atoms) (t e : Tree) → LeftOf names c t → Printed names c e → (place : Place) → InsideAt names (ReadsHead c (codes "for")) (SameHead names (λ s. tree.for_in_statement a t e s)) (over_items (codes "in") (left_items false t place) (spell e (in_brackets levels.Lowest place)))
-for_in_inside {names} c a t e f h place p l z y k =
-    let p1 : Pen = layout (left_items false t place) p in
+for_in_inside : {names : Tables} (c : Allowed) (a : Atoms) (t e : Tree) → LeftOf names c t → Printed names c e → InsideAt names (ReadsHead c (codes "for")) (SameHead names (λ s. tree.for_in_statement a t e s)) (over_items (codes "in") (left_items false t) (spell e (in_brackets levels.Lowest)))
+for_in_inside {names} c a t e f h p l z y k =
+    let p1 : Pen = layout (left_items false t) p in
     let p2 : Pen = layout soft_space p1 in
     let p3 : Pen = layout (word (codes "in")) p2 in
     let p4 : Pen = layout soft_space p3 in
-    let g = f false place p l z y k in
+    let g = f false p l z y k in
     let s = soft_space_written p1 g.last g.writes.knows in
     let o = wrote_word (codes "in") p2 s.last (letters_spelled 105 (codes "n") refl) s.writes.knows in
     let n = soft_space_written p3 (After (Word (codes "in"))) o.knows in
-    let i = h (in_brackets levels.Lowest place) p4 n.last (n.semicolon ∙ (s.semicolon ∙ g.semicolon)) (n.ready tt) n.writes.knows in
-    over_parts c (codes "in") false t e (λ x. tree.for_in_statement a t e x) (λ u v x. tree.for_in_statement (nothing_of 0) u v x) grammar.Expression p p1 p2 p3 p4 (layout (spell e (in_brackets levels.Lowest place)) p4) l
+    let i = h (in_brackets levels.Lowest) p4 n.last (n.semicolon ∙ (s.semicolon ∙ g.semicolon)) (n.ready tt) n.writes.knows in
+    over_parts c (codes "in") false t e (λ x. tree.for_in_statement a t e x) (λ u v x. tree.for_in_statement (nothing_of 0) u v x) grammar.Expression p p1 p2 p3 p4 (layout (spell e (in_brackets levels.Lowest)) p4) l
     (λ x b mark u v r j last before_else first next ts w q. grammar.a_for_in mark refl r j q) (λ u v j m. same_for_in names a t e u v j m) g s o n i
 
 pub good_for_in : {names : Tables} (c : Allowed) (a : Atoms) (l e s : Tree) → LeftOf names c l → Printed names c e → EmptyAlone names s → Stated names c s → Stated names c (tree.for_in_statement a l e s)
-good_for_in {names} c a l e s g h m f = stated_among refl by
-  where
-    by : (settings : Settings) → StatedAt names c (tree.for_in_statement a l e s) (spell (tree.for_in_statement a l e s) (among_statements settings))
-    by settings =
-        let place : Place = among_statements settings in
-        headed_line c (codes "for") for_spelled (λ t. tree.for_in_statement a l e t) s (ends_open s) (over_items (codes "in") (left_items false l place) (spell e (in_brackets levels.Lowest place))) (body_of s settings) (for_in_inside c a l e g h place) (good_body c s settings m f)
+good_for_in {names} c a l e s g h m f = stated_among refl (headed_line c (codes "for") for_spelled (λ t. tree.for_in_statement a l e t) s (ends_open s) (over_items (codes "in") (left_items false l) (spell e (in_brackets levels.Lowest))) (body_of s) (for_in_inside c a l e g h) (good_body c s m f))
 
-same_for_of : (names : Tables) (a : Atoms) (t e u v : Tree) → for_of_statement_is_await a ≡ no_value → normal u ≡ normal (renamed names t) → normal v ≡ normal (renamed names e) → SameHead names (λ s. tree.for_of_statement a t e s) (λ s. tree.for_of_statement (nothing_of 1) u v s)
-same_for_of names a t e u v m f g x s h = λ i. tree.for_of_statement (bare (sym m i ∷ [])) (f i) (g i) (h i)
+same_for_of : (names : Tables) (a : Atoms) (t e u v : Tree) → for_of_statement_is_await a ≡ false → normal u ≡ normal (renamed names t) → normal v ≡ normal (renamed names e) → SameHead names (λ s. tree.for_of_statement a t e s) (λ s. tree.for_of_statement (nothing_of 1) u v s)
+same_for_of names a t e u v m f g x s h = λ i. tree.for_of_statement (bare (if_set (sym m i) ∷ [])) (f i) (g i) (h i)
 
-for_of_inside : {names : Tables} (c : Allowed) (a : Atoms) (t e : Tree) → for_of_statement_is_await a ≡ no_value → LeftOf names c t → Printed names c e → (place : Place) → InsideAt names (ReadsHead c (codes "for")) (SameHead names (λ s. tree.for_of_statement a t e s)) (over_items (codes "of") (left_items true t place) (spell e (in_brackets levels.Comma place)))
-for_of_inside {names} c a t e w f h place p l z y k =
-    let p1 : Pen = layout (left_items true t place) p in
+for_of_inside : {names : Tables} (c : Allowed) (a : Atoms) (t e : Tree) → for_of_statement_is_await a ≡ false → LeftOf names c t → Printed names c e → InsideAt names (ReadsHead c (codes "for")) (SameHead names (λ s. tree.for_of_statement a t e s)) (over_items (codes "of") (left_items true t) (spell e (in_brackets levels.Comma)))
+for_of_inside {names} c a t e w f h p l z y k =
+    let p1 : Pen = layout (left_items true t) p in
     let p2 : Pen = layout soft_space p1 in
     let p3 : Pen = layout (word (codes "of")) p2 in
     let p4 : Pen = layout soft_space p3 in
-    let g = f true place p l z y k in
+    let g = f true p l z y k in
     let s = soft_space_written p1 g.last g.writes.knows in
     let o = wrote_word (codes "of") p2 s.last (letters_spelled 111 (codes "f") refl) s.writes.knows in
     let n = soft_space_written p3 (After (Word (codes "of"))) o.knows in
-    let i = h (in_brackets levels.Comma place) p4 n.last (n.semicolon ∙ (s.semicolon ∙ g.semicolon)) (n.ready tt) n.writes.knows in
-    over_parts c (codes "of") true t e (λ x. tree.for_of_statement a t e x) (λ u v x. tree.for_of_statement (nothing_of 1) u v x) grammar.Assignment p p1 p2 p3 p4 (layout (spell e (in_brackets levels.Comma place)) p4) l
+    let i = h (in_brackets levels.Comma) p4 n.last (n.semicolon ∙ (s.semicolon ∙ g.semicolon)) (n.ready tt) n.writes.knows in
+    over_parts c (codes "of") true t e (λ x. tree.for_of_statement a t e x) (λ u v x. tree.for_of_statement (nothing_of 1) u v x) grammar.Assignment p p1 p2 p3 p4 (layout (spell e (in_brackets levels.Comma)) p4) l
     (λ x b mark u v r j last before_else first next ts v2 q. grammar.a_for_of mark refl r j q) (λ u v j m. same_for_of names a t e u v w j m) g s o n i
 
-pub good_for_of : {names : Tables} (c : Allowed) (a : Atoms) (l e s : Tree) → for_of_statement_is_await a ≡ no_value → LeftOf names c l → Printed names c e → EmptyAlone names s → Stated names c s → Stated names c (tree.for_of_statement a l e s)
-good_for_of {names} c a l e s n g h m f = stated_among refl by
-  where
-    by : (settings : Settings) → StatedAt names c (tree.for_of_statement a l e s) (spell (tree.for_of_statement a l e s) (among_statements settings))
-    by settings =
-        let place : Place = among_statements settings in
-        headed_line c (codes "for") for_spelled (λ t. tree.for_of_statement a l e t) s (ends_open s) (over_items (codes "of") (left_items true l place) (spell e (in_brackets levels.Comma place))) (body_of s settings) (for_of_inside c a l e n g h place) (good_body c s settings m f)
+pub good_for_of : {names : Tables} (c : Allowed) (a : Atoms) (l e s : Tree) → for_of_statement_is_await a ≡ false → LeftOf names c l → Printed names c e → EmptyAlone names s → Stated names c s → Stated names c (tree.for_of_statement a l e s)
+good_for_of {names} c a l e s n g h m f = stated_among refl (headed_line c (codes "for") for_spelled (λ t. tree.for_of_statement a l e t) s (ends_open s) (over_items (codes "of") (left_items true l) (spell e (in_brackets levels.Comma))) (body_of s) (for_of_inside c a l e n g h) (good_body c s m f))

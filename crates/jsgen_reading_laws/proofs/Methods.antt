@@ -18,7 +18,8 @@ use Rattle.jsgen_model.specs.Grammar.{Allowed, ReadsKey, ReadsProperty, ReadsPar
 use Rattle.jsgen_model.specs.Grammar as grammar
 use Rattle.jsgen_model.specs.Normal.{normal, nothing_of, property_values, is_written_as_method, is_computed, is_proto_shorthand}
 use Rattle.jsgen_model.specs.Renamed.{renamed}
-use Rattle.jsgen_model.specs.Spell.{Place, spell, in_brackets, needs_brackets, key_items, key_place, accessor_word}
+use Rattle.jsgen_place.specs.Place.{in_brackets}
+use Rattle.jsgen_model.specs.Spell.{spell, needs_brackets, key_items, accessor_word}
 use Rattle.jsgen_token_laws.proofs.Characters.{letters_spelled}
 use Rattle.jsgen_token_laws.proofs.Last.{Last, Open, After, line_of, Begun, Knows}
 use Rattle.jsgen_token_laws.proofs.Writes.{Writes, wrote_both}
@@ -31,11 +32,11 @@ use Rattle.jsgen_reading_laws.proofs.Functions.{GroupOf, BodyOf, GoodMethod, Rea
 
 -- ---- what is spelled
 
-abbrev key_at : Bool → PropertyKind → Tree → Place → Items
-key_at computed kind x place = key_items (needs_brackets computed x) x (spell x (in_brackets levels.Comma place)) (spell x (key_place kind place))
+abbrev key_at : Bool → Tree → Items
+key_at computed x = key_items (needs_brackets computed x) x (spell x (in_brackets levels.Comma))
 
-abbrev whole_items : PropertyKind → Bool → Tree → Tree → Tree → Place → Items
-whole_items kind computed x t u place = accessor_word kind ⊕ (key_at computed kind x place ⊕ method_items t u place)
+abbrev whole_items : PropertyKind → Bool → Tree → Tree → Tree → Items
+whole_items kind computed x t u = accessor_word kind ⊕ (key_at computed x ⊕ method_items t u (in_brackets levels.Comma))
 
 -- ---- what counts of it
 
@@ -99,15 +100,11 @@ keyed_parts x t u g r = record {
   same_body = r.same_body;
 }
 
--- at the place of a property, where nothing begins
-abbrev around : Place → Place
-around place = in_brackets levels.Comma place
-
-keyed : {names : Tables} {R : Tokens → Trees → Maybe → Type 0} (c : Allowed) (computed : Bool) (x t u : Tree) → KeyOf names c computed x → GroupOf names R t → BodyOf names u → (place : Place) (p : Pen) (l : Last) → p.pending_semicolon ≡ false → Begun l → Knows names p l → KeyedMethod names R p l (layout (key_at computed property_kinds.Init x (around place) ⊕ method_items t u (around place)) p) (with_in c) (needs_brackets computed x) x t u
-keyed c computed x t u key f h place p l z b k =
-    let p1 : Pen = layout (key_at computed property_kinds.Init x (around place)) p in
-    let g = key (around place) p l z b k in
-    let r = good_method_items t u f h (around place) p1 g.last g.semicolon g.writes.knows in
+keyed : {names : Tables} {R : Tokens → Trees → Maybe → Type 0} (c : Allowed) (computed : Bool) (x t u : Tree) → KeyOf names c computed x → GroupOf names R t → BodyOf names u → (p : Pen) (l : Last) → p.pending_semicolon ≡ false → Begun l → Knows names p l → KeyedMethod names R p l (layout (key_at computed x ⊕ method_items t u (in_brackets levels.Comma)) p) (with_in c) (needs_brackets computed x) x t u
+keyed c computed x t u key f h p l z b k =
+    let p1 : Pen = layout (key_at computed x) p in
+    let g = key p l z b k in
+    let r = good_method_items t u f h (in_brackets levels.Comma) p1 g.last g.semicolon g.writes.knows in
     keyed_parts x t u g r
 
 -- the function's normal form
@@ -129,10 +126,10 @@ GroupsOf names property_kinds.Set t = GroupOf names ReadsOne t
 abbrev ElementOf : Tables → Allowed → Items → Tree → Type 0
 ElementOf names c items t = (p : Pen) (l : Last) → p.pending_semicolon ≡ false → Begun l → Knows names p l → Element names (ReadsProperty (with_in c)) p l (layout items p) t
 
-plain_method : {names : Tables} (c : Allowed) (a b : Atoms) (x t u : Tree) (place : Place) → object_property_kind a ≡ property_kinds.Init → is_method (object_property_kind a) (object_property_method a) ≡ true → KeyOf names c (object_property_computed a) x → function_kind b ≡ kinds.Expression → IsSynchronous b → GroupOf names (ReadsParameters in_function) t → BodyOf names u → ElementOf names c (whole_items property_kinds.Init (object_property_computed a) x t u (around place)) (tree.object_property a x (tree.function b absent t (given u)))
-plain_method {names} c a b x t u place e m key h n f g p l z y k =
+plain_method : {names : Tables} (c : Allowed) (a b : Atoms) (x t u : Tree) → object_property_kind a ≡ property_kinds.Init → is_method (object_property_kind a) (object_property_method a) ≡ true → KeyOf names c (object_property_computed a) x → function_kind b ≡ kinds.Expression → IsSynchronous b → GroupOf names (ReadsParameters in_function) t → BodyOf names u → ElementOf names c (whole_items property_kinds.Init (object_property_computed a) x t u) (tree.object_property a x (tree.function b absent t (given u)))
+plain_method {names} c a b x t u e m key h n f g p l z y k =
     let computed : Bool = object_property_computed a in
-    let r = keyed c computed x t u key f g place p l z y k in
+    let r = keyed c computed x t u key f g p l z y k in
     let brackets : Bool = needs_brackets computed x in
     record {
       last = Open false;
@@ -158,11 +155,11 @@ worded w h p l z k =
     let s = soft_space_written (layout (word w) p) (After (Word w)) o.knows in
     record { last = s.last; writes = wrote_both o s.writes; begun = s.begun tt; semicolon = s.semicolon ∙ z }
 
-getter : {names : Tables} (c : Allowed) (a b : Atoms) (x t u : Tree) (place : Place) → object_property_kind a ≡ property_kinds.Get → is_method (object_property_kind a) (object_property_method a) ≡ true → KeyOf names c (object_property_computed a) x → function_kind b ≡ kinds.Expression → IsSynchronous b → GroupOf names ReadsNone t → BodyOf names u → ElementOf names c (whole_items property_kinds.Get (object_property_computed a) x t u (around place)) (tree.object_property a x (tree.function b absent t (given u)))
-getter {names} c a b x t u place e m key h n f g p l z y k =
+getter : {names : Tables} (c : Allowed) (a b : Atoms) (x t u : Tree) → object_property_kind a ≡ property_kinds.Get → is_method (object_property_kind a) (object_property_method a) ≡ true → KeyOf names c (object_property_computed a) x → function_kind b ≡ kinds.Expression → IsSynchronous b → GroupOf names ReadsNone t → BodyOf names u → ElementOf names c (whole_items property_kinds.Get (object_property_computed a) x t u) (tree.object_property a x (tree.function b absent t (given u)))
+getter {names} c a b x t u e m key h n f g p l z y k =
     let computed : Bool = object_property_computed a in
     let w = worded (codes "get") (letters_spelled 103 (codes "et") refl) p l z k in
-    let r = keyed c computed x t u key f g place (layout (accessor_word property_kinds.Get) p) w.last w.semicolon w.begun w.writes.knows in
+    let r = keyed c computed x t u key f g (layout (accessor_word property_kinds.Get) p) w.last w.semicolon w.begun w.writes.knows in
     let brackets : Bool = needs_brackets computed x in
     let none : normal (tree.formal_parameters (nothing_of 0) no_trees absent) ≡ normal (renamed names t) = (λ i. normal (tree.formal_parameters (nothing_of 0) (sym r.reads_head.1 i) (sym r.reads_head.2 i))) ∙ r.same_head in
     record {
@@ -176,11 +173,11 @@ getter {names} c a b x t u place e m key h n f g p l z y k =
       same = same_method a property_kinds.Get brackets r.key (method_of no_trees absent r.directives r.statements) (renamed names x) (renamed names (tree.function b absent t (given u))) e m (same_computed names computed x r.reads_key) r.same_key (same_value names b t u no_trees absent r.directives r.statements h n none r.same_body);
     }
 
-setter : {names : Tables} (c : Allowed) (a b : Atoms) (x t u : Tree) (place : Place) → object_property_kind a ≡ property_kinds.Set → is_method (object_property_kind a) (object_property_method a) ≡ true → KeyOf names c (object_property_computed a) x → function_kind b ≡ kinds.Expression → IsSynchronous b → GroupOf names ReadsOne t → BodyOf names u → ElementOf names c (whole_items property_kinds.Set (object_property_computed a) x t u (around place)) (tree.object_property a x (tree.function b absent t (given u)))
-setter {names} c a b x t u place e m key h n f g p l z y k =
+setter : {names : Tables} (c : Allowed) (a b : Atoms) (x t u : Tree) → object_property_kind a ≡ property_kinds.Set → is_method (object_property_kind a) (object_property_method a) ≡ true → KeyOf names c (object_property_computed a) x → function_kind b ≡ kinds.Expression → IsSynchronous b → GroupOf names ReadsOne t → BodyOf names u → ElementOf names c (whole_items property_kinds.Set (object_property_computed a) x t u) (tree.object_property a x (tree.function b absent t (given u)))
+setter {names} c a b x t u e m key h n f g p l z y k =
     let computed : Bool = object_property_computed a in
     let w = worded (codes "set") (letters_spelled 115 (codes "et") refl) p l z k in
-    let r = keyed c computed x t u key f g place (layout (accessor_word property_kinds.Set) p) w.last w.semicolon w.begun w.writes.knows in
+    let r = keyed c computed x t u key f g (layout (accessor_word property_kinds.Set) p) w.last w.semicolon w.begun w.writes.knows in
     let brackets : Bool = needs_brackets computed x in
     let one : Trees = more r.reads_head.0 no_trees in
     let alone : normal (tree.formal_parameters (nothing_of 0) one absent) ≡ normal (renamed names t) = (λ i. normal (tree.formal_parameters (nothing_of 0) (sym r.reads_head.1 i) (sym r.reads_head.2 i))) ∙ r.same_head in
@@ -196,10 +193,10 @@ setter {names} c a b x t u place e m key h n f g p l z y k =
     }
 
 pub good_method : {names : Tables} (c : Allowed) (a b : Atoms) (x t u : Tree) → is_method (object_property_kind a) (object_property_method a) ≡ true → KeyOf names c (object_property_computed a) x → function_kind b ≡ kinds.Expression → IsSynchronous b → GroupsOf names (object_property_kind a) t → BodyOf names u → PropertyOf names c (tree.object_property a x (tree.function b absent t (given u)))
-good_method {names} c a b x t u m key h n f g place p l z y k =
-    subst (λ i. Element names (ReadsProperty (with_in c)) p l (layout i p) (tree.object_property a x (tree.function b absent t (given u)))) (sym (property_spelled a x (tree.function b absent t (given u)) (around place) true m)) (by (object_property_kind a) refl f p l z y k)
+good_method {names} c a b x t u m key h n f g p l z y k =
+    subst (λ i. Element names (ReadsProperty (with_in c)) p l (layout i p) (tree.object_property a x (tree.function b absent t (given u)))) (sym (property_spelled a x (tree.function b absent t (given u)) true m)) (by (object_property_kind a) refl f p l z y k)
   where
-    by : (kind : PropertyKind) → object_property_kind a ≡ kind → GroupsOf names kind t → ElementOf names c (whole_items kind (object_property_computed a) x t u (around place)) (tree.object_property a x (tree.function b absent t (given u)))
-    by property_kinds.Init e f = plain_method c a b x t u place e m key h n f g
-    by property_kinds.Get e f = getter c a b x t u place e m key h n f g
-    by property_kinds.Set e f = setter c a b x t u place e m key h n f g
+    by : (kind : PropertyKind) → object_property_kind a ≡ kind → GroupsOf names kind t → ElementOf names c (whole_items kind (object_property_computed a) x t u) (tree.object_property a x (tree.function b absent t (given u)))
+    by property_kinds.Init e f = plain_method c a b x t u e m key h n f g
+    by property_kinds.Get e f = getter c a b x t u e m key h n f g
+    by property_kinds.Set e f = setter c a b x t u e m key h n f g

@@ -7,9 +7,9 @@ use Rattle.std.proofs.lemmas.Option.{same_Some}
 use Rattle.jsgen_syntax.specs.Escapes.{word_value}
 use Rattle.jsgen_syntax.specs.Name.{spells_name, is_reserved, is_strict_reserved, is_free_name}
 use Rattle.jsgen_model.specs.Tokens.{Tokens, done, piece, Word}
-use Rattle.jsgen_model.specs.Layout.{Start, nowhere, statement, arrow_body, default_export}
+use Rattle.jsgen_model.specs.Layout.{Start}
 use Rattle.jsgen_model.specs.Grammar.{is_word, on_same_line, starts_in_square, starts_declaration, may_precede_of}
-use Rattle.jsgen_reading_laws.proofs.Good.{may_begin}
+use Rattle.jsgen_reading_laws.proofs.Good.{may_begin, begins_all}
 
 -- a free name is a name in neither list
 record Free (w : List ℕ) : Type 0 where
@@ -58,7 +58,4 @@ free_precedes_of mark w v e h n = and_from (not (bytes_eq w (codes "let"))) (not
 
 -- it begins a statement and what else may begin so, where no `function` follows
 pub name_begins : (start : Start) (line : Bool) (w v : List ℕ) (b : Tokens) → word_value w ≡ Some v → is_free_name v ≡ true → is_word (codes "function") b ≡ false → may_begin start (piece line (Word w) b) ≡ true
-name_begins nowhere line w v b e h n = refl
-name_begins statement line w v b e h n = ap not (free_starts_none w v b e h n)
-name_begins arrow_body line w v b e h n = refl
-name_begins default_export line w v b e h n = ap not (free_starts_none w v b e h n)
+name_begins start line w v b e h n = begins_all start (piece line (Word w) b) (ap not (free_starts_none w v b e h n))

@@ -1,18 +1,18 @@
 -- A normal form is its own.
 use Rattle.std.specs.Option.{option_map_or}
-use Rattle.std.proofs.Common.{◌≡◌, ℕ, List, Bool, true, false, ◌&&◌, ◌||◌, cond, [], ◌∷◌, Option, Some, None, is_some, option_and_then, if◌then◌else◌, refl, sym, ap, subst, ◌∙◌}
+use Rattle.std.proofs.Common.{◌≡◌, ℕ, List, [], Bool, true, false, ◌&&◌, ◌||◌, cond, ◌∷◌, Option, Some, None, is_some, option_and_then, if◌then◌else◌, refl, sym, ap, subst, ◌∙◌}
 use Rattle.jsgen_syntax.specs.declared.operator.LogicalOperator.{LogicalOperator}
 use Rattle.jsgen_tree.specs.Atom.{no_value, declaration_kind, binary_operator, logical_operator, unary_operator, update_operator, assignment_operator, flag}
 use Rattle.jsgen_tree.specs.Tree.{Tree, node, Slots, no_slots, one, maybe, many, maybe_many, Maybe, absent, given, Trees, no_trees, more, hole, MaybeTrees, no_list, listed}
 use Rattle.jsgen_tree.specs.Places.{bare}
-use Rattle.jsgen_tree.specs.Values.{variable_declaration_kind, variable_declaration_declare, variable_declarator_definite, for_of_statement_is_await, static_member_expression_optional, computed_member_expression_optional, call_expression_optional, binary_expression_operator, logical_expression_operator, unary_expression_operator, update_expression_operator, update_expression_prefix, identifier_name_name, numeric_literal_kind, numeric_literal_negative, big_int_literal_value, object_property_kind, object_property_method, object_property_shorthand, object_property_computed, assignment_expression_operator, function_kind, function_is_async, function_generator, function_declare, formal_parameter_is_override, formal_parameter_readonly, formal_parameter_optional, arrow_function_expression_is_async}
+use Rattle.jsgen_tree.specs.Values.{variable_declaration_kind, variable_declaration_declare, variable_declarator_definite, for_of_statement_is_await, static_member_expression_optional, computed_member_expression_optional, call_expression_optional, binary_expression_operator, logical_expression_operator, unary_expression_operator, update_expression_operator, update_expression_prefix, identifier_name_name, numeric_literal_kind, numeric_literal_negative, big_int_literal_value, object_property_kind, object_property_method, object_property_shorthand, object_property_computed, assignment_expression_operator, function_kind, function_is_async, function_generator, function_declare, formal_parameter_is_override, formal_parameter_readonly, formal_parameter_optional, arrow_function_expression_is_async, as_flag}
 use Rattle.jsgen_tree.specs.Inside.{ends_open, written_name_in, is_proto, is_method, after_minus, unless_minus, behind_minus, is_negative_number}
 use Rattle.jsgen_tree.specs.declared.collections.PropertyKind.{PropertyKind}
 use Rattle.jsgen_tree.specs.declared.collections.PropertyKind.TheVariants as property_kinds
 use Rattle.jsgen_tree.specs.Nodes as tree
 use Rattle.std.proofs.lemmas.Bool.{both_ways}
 use Rattle.std.proofs.lemmas.Option.{same_Some}
-use Rattle.jsgen_model.specs.Normal.{normal, normal_slots, normal_maybe, normal_trees, normal_maybe_trees, unbraced, nothing_of, by_text, number_text, minus_before, big_integer, is_computed, property_values, is_written_as_method, is_proto_shorthand, chain, same_operator, joined, links, parts_of, flattened, link_values, call_values, function_values}
+use Rattle.jsgen_model.specs.Normal.{normal, normal_slots, normal_maybe, normal_trees, normal_maybe_trees, unbraced, nothing_of, by_text, number_text, minus_before, big_integer, is_computed, property_values, is_written_as_method, is_proto_shorthand, chain, same_operator, joined, links, parts_of, flattened, link_values, call_values, function_values, if_set}
 use Rattle.jsgen_reading_laws.proofs.Joined.{joined_normal, joined_nothing, flattened_joined}
 
 -- ---- chains
@@ -141,6 +141,11 @@ no_negative_number t e = refl
 computed_again : (computed : Bool) (key : Tree) → normal (normal key) ≡ normal key → is_computed (is_computed computed key) (normal key) ≡ is_computed computed key
 computed_again computed key e = ap (λ b. (computed || is_negative_number key) || b) (no_negative_number (normal key) e) ∙ or_again computed (is_negative_number key)
 
+-- a flag stays one that is set, or one that is not
+flag_again : (b : Bool) → as_flag (if_set b) ≡ b
+flag_again true = refl
+flag_again false = refl
+
 -- ---- the whole
 
 mutual
@@ -148,8 +153,8 @@ mutual
   normal_again (tree.program a comments directives body) = let e = normal_trees_again directives in let f = normal_trees_again body in λ i. tree.program (nothing_of 4) no_trees (e i) (f i)
   normal_again (tree.directive a) = refl
   normal_again (tree.expression_statement a expression) = ap (λ e. tree.expression_statement (nothing_of 0) e) (normal_again expression)
-  normal_again (tree.variable_declaration a declarations) = ap (λ ts. tree.variable_declaration (bare (declaration_kind (variable_declaration_kind a) ∷ variable_declaration_declare a ∷ [])) ts) (normal_trees_again declarations)
-  normal_again (tree.variable_declarator a id init) = let e = normal_again id in let f = normal_maybe_again init in λ i. tree.variable_declarator (bare (variable_declarator_definite a ∷ [])) (e i) (f i)
+  normal_again (tree.variable_declaration a declarations) = let s = flag_again (variable_declaration_declare a) in let e = normal_trees_again declarations in λ i. tree.variable_declaration (bare (declaration_kind (variable_declaration_kind a) ∷ if_set (s i) ∷ [])) (e i)
+  normal_again (tree.variable_declarator a id init) = let s = flag_again (variable_declarator_definite a) in let e = normal_again id in let f = normal_maybe_again init in λ i. tree.variable_declarator (bare (if_set (s i) ∷ [])) (e i) (f i)
   normal_again (tree.binding_identifier a) = refl
   normal_again (tree.identifier_reference a) = refl
   normal_again (tree.this_expression a) = refl
@@ -166,7 +171,7 @@ mutual
   normal_again (tree.empty_statement a) = refl
   normal_again (tree.for_statement a init test update_child body) = let e = normal_maybe_again init in let f = normal_maybe_again test in let g = normal_maybe_again update_child in let h = normal_again body in λ i. tree.for_statement (nothing_of 0) (e i) (f i) (g i) (h i)
   normal_again (tree.for_in_statement a left right body) = let e = normal_again left in let f = normal_again right in let g = normal_again body in λ i. tree.for_in_statement (nothing_of 0) (e i) (f i) (g i)
-  normal_again (tree.for_of_statement a left right body) = let e = normal_again left in let f = normal_again right in let g = normal_again body in λ i. tree.for_of_statement (bare (for_of_statement_is_await a ∷ [])) (e i) (f i) (g i)
+  normal_again (tree.for_of_statement a left right body) = let s = flag_again (for_of_statement_is_await a) in let e = normal_again left in let f = normal_again right in let g = normal_again body in λ i. tree.for_of_statement (bare (if_set (s i) ∷ [])) (e i) (f i) (g i)
   normal_again (tree.while_statement a test body) = let e = normal_again test in let f = normal_again body in λ i. tree.while_statement (nothing_of 0) (e i) (f i)
   normal_again (tree.do_while_statement a body test) = let e = normal_again body in let f = normal_again test in λ i. tree.do_while_statement (nothing_of 0) (e i) (f i)
   normal_again (tree.label_identifier a) = refl
@@ -205,11 +210,11 @@ mutual
   normal_again (tree.conditional a test consequent alternate) = let e = normal_again test in let f = normal_again consequent in let g = normal_again alternate in λ i. tree.conditional (nothing_of 0) (e i) (f i) (g i)
   normal_again (tree.sequence a expressions) = ap (λ ts. tree.sequence (nothing_of 0) ts) (flattened_again expressions)
   normal_again (tree.assignment a left right) = let e = normal_again left in let f = normal_again right in λ i. tree.assignment (bare (assignment_operator (assignment_expression_operator a) ∷ [])) (e i) (f i)
-  normal_again (tree.formal_parameter a pattern initializer) = let e = normal_again pattern in let f = normal_maybe_again initializer in λ i. tree.formal_parameter (bare (formal_parameter_is_override a ∷ formal_parameter_readonly a ∷ formal_parameter_optional a ∷ [])) (e i) (f i)
+  normal_again (tree.formal_parameter a pattern initializer) = let s = flag_again (formal_parameter_is_override a) in let u = flag_again (formal_parameter_readonly a) in let v = flag_again (formal_parameter_optional a) in let e = normal_again pattern in let f = normal_maybe_again initializer in λ i. tree.formal_parameter (bare (if_set (s i) ∷ if_set (u i) ∷ if_set (v i) ∷ [])) (e i) (f i)
   normal_again (tree.formal_parameter_rest a argument) = ap (λ e. tree.formal_parameter_rest (nothing_of 0) e) (normal_again argument)
   normal_again (tree.formal_parameters a items rest) = let e = normal_trees_again items in let f = normal_maybe_again rest in λ i. tree.formal_parameters (nothing_of 0) (e i) (f i)
-  normal_again (tree.arrow_function a params body) = let e = normal_again params in let f = normal_again body in λ i. tree.arrow_function (bare (arrow_function_expression_is_async a ∷ no_value ∷ no_value ∷ [])) (e i) (f i)
-  normal_again (tree.function a id params body) = let e = normal_maybe_again id in let f = normal_again params in let g = normal_maybe_again body in λ i. tree.function (function_values (function_kind a) (function_is_async a) (function_generator a) (function_declare a)) (e i) (f i) (g i)
+  normal_again (tree.arrow_function a params body) = let s = flag_again (arrow_function_expression_is_async a) in let e = normal_again params in let f = normal_again body in λ i. tree.arrow_function (bare (if_set (s i) ∷ no_value ∷ no_value ∷ [])) (e i) (f i)
+  normal_again (tree.function a id params body) = let s = flag_again (function_is_async a) in let u = flag_again (function_generator a) in let v = flag_again (function_declare a) in let e = normal_maybe_again id in let f = normal_again params in let g = normal_maybe_again body in λ i. tree.function (function_values (function_kind a) (s i) (u i) (v i)) (e i) (f i) (g i)
   normal_again (tree.function_body a directives statements) = let e = normal_trees_again directives in let f = normal_trees_again statements in λ i. tree.function_body (nothing_of 0) (e i) (f i)
   normal_again (tree.return_statement a argument) = ap (λ m. tree.return_statement (nothing_of 0) m) (normal_maybe_again argument)
   normal_again (node type a slots) = ap (λ s. node type (bare a.values) s) (normal_slots_again slots)

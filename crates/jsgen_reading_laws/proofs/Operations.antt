@@ -16,20 +16,22 @@ use Rattle.jsgen_tree.specs.Nodes as tree
 use Rattle.jsgen_model.specs.Punctuator.{Punctuator}
 use Rattle.jsgen_model.specs.Tokens.{Tokens, piece, ◌⧺◌, Word, Sign}
 use Rattle.jsgen_model.specs.Items.{◌⊕◌, soft_space, word, operator}
-use Rattle.jsgen_model.specs.Layout.{Pen, layout, unless_printed}
+use Rattle.jsgen_model.specs.Layout.{layout}
 use Rattle.jsgen_model.specs.Grammar.{Allowed, Level, ReadsExpression, operation_level, next_level, operator_piece, may_stand}
 use Rattle.jsgen_model.specs.Grammar as grammar
 use Rattle.jsgen_model.specs.Normal.{normal}
 use Rattle.jsgen_model.specs.Renamed.{renamed}
 use Rattle.jsgen_model.specs.Quotes.{is_export_mark}
-use Rattle.jsgen_model.specs.Spell.{Place, spell, within, left_of, behind, quoted_plainly, wraps, is_forbidden, binary_wraps, left_level, right_level, is_prefixed}
+use Rattle.jsgen_place.specs.declared.place.Place.{Place}
+use Rattle.jsgen_place.specs.Place.{within, left_operand, child, quoted_plainly, wraps, is_forbidden, binary_wraps}
+use Rattle.jsgen_model.specs.Spell.{spell, left_level, right_level, is_prefixed}
 use Rattle.jsgen_model.specs.Operators.{operator_item}
 use Rattle.jsgen_token_laws.proofs.Characters.{letters_spelled}
-use Rattle.jsgen_token_laws.proofs.Last.{Last, After, Ready, Knows, NoDot}
+use Rattle.jsgen_token_laws.proofs.Last.{After, Ready, NoDot}
 use Rattle.jsgen_token_laws.proofs.Steps.{wrote_word, wrote_operator}
 use Rattle.jsgen_reading_laws.proofs.Levels.{number_of, operation_number, read_at, under, looser, lifted, unwrapped}
 use Rattle.jsgen_reading_laws.proofs.Asked.{is_unary, is_signed}
-use Rattle.jsgen_reading_laws.proofs.Good.{Good, Printed, Between, good_at, good_since, good_wrapped, good_infix}
+use Rattle.jsgen_reading_laws.proofs.Good.{Good, Printed, Between, good_at, good_since, good_wrapped, good_infix, PrintedBy}
 
 -- ---- the token between the operands
 
@@ -84,22 +86,22 @@ not_prefixed t h = refl
 abbrev IsToldByForm : Tables → Tree → Type 0
 IsToldByForm names t = is_unary (normal (renamed names t)) ≡ is_signed (without_parentheses t)
 
-power_left : {names : Tables} (plain : Bool) (c : Allowed) (t : Tree) → IsToldByForm names t → Printed names c t → (place : Place) (p : Pen) (l : Last) → p.pending_semicolon ≡ false → Ready l → Knows names p l → Good names p l (layout (spell t (quoted_plainly plain (left_of (left_level operators.Exponential t) place))) p) (under place c) grammar.Update place.start t
+power_left : {names : Tables} (plain : Bool) (c : Allowed) (t : Tree) → IsToldByForm names t → Printed names c t → (place : Place) → PrintedBy names (under place c) grammar.Update (spell t (quoted_plainly plain (left_operand (left_level operators.Exponential t) place))) t
 power_left {names} plain c t h f place p l z y k = go (is_prefixed (without_parentheses t)) refl
   where
-    go : (b : Bool) → is_prefixed (without_parentheses t) ≡ b → Good names p l (layout (spell t (quoted_plainly plain (left_of (cond b levels.Call levels.Exponentiation) place))) p) (under place c) grammar.Update place.start t
-    go true e = good_at (λ ts u. lifted place.context.forbids_call levels.Call levels.Prefix (omega arith)) (f (quoted_plainly plain (left_of levels.Call place)) p l z y k)
-    go false e = good_since (λ ts u s r. no_unary refl (ap is_unary s ∙ h ∙ not_prefixed (without_parentheses t) e) r) (f (quoted_plainly plain (left_of levels.Exponentiation place)) p l z y k)
+    go : (b : Bool) → is_prefixed (without_parentheses t) ≡ b → Good names p l (layout (spell t (quoted_plainly plain (left_operand (cond b levels.Call levels.Exponentiation) place))) p) (under place c) grammar.Update t
+    go true e = good_at (λ ts u. lifted place.context.forbids_call levels.Call levels.Prefix (omega arith)) (f (quoted_plainly plain (left_operand levels.Call place)) p l z y k)
+    go false e = good_since (λ ts u s r. no_unary refl (ap is_unary s ∙ h ∙ not_prefixed (without_parentheses t) e) r) (f (quoted_plainly plain (left_operand levels.Exponentiation place)) p l z y k)
 
 -- ---- the operands
 
-left_operand : {names : Tables} (o : BinaryOperator) (plain : Bool) (c : Allowed) (t : Tree) → IsToldByForm names t → Printed names c t → (place : Place) (p : Pen) (l : Last) → p.pending_semicolon ≡ false → Ready l → Knows names p l → Good names p l (layout (spell t (quoted_plainly plain (left_of (left_level o t) place))) p) (under place c) (left_goal o) place.start t
-left_operand operators.Exponential plain c t h f place = power_left plain c t h f place
-left_operand o plain c t h f place = f (quoted_plainly plain (left_of (left_level o t) place))
+left_printed : {names : Tables} (o : BinaryOperator) (plain : Bool) (c : Allowed) (t : Tree) → IsToldByForm names t → Printed names c t → (place : Place) → PrintedBy names (under place c) (left_goal o) (spell t (quoted_plainly plain (left_operand (left_level o t) place))) t
+left_printed operators.Exponential plain c t h f place = power_left plain c t h f place
+left_printed o plain c t h f place = f (quoted_plainly plain (left_operand (left_level o t) place))
 
-right_operand : {names : Tables} (o : BinaryOperator) (plain : Bool) (c : Allowed) (t : Tree) → Printed names c t → (place : Place) (p : Pen) (l : Last) → p.pending_semicolon ≡ false → Ready l → Knows names p l → Good names p l (layout (spell t (quoted_plainly plain (behind (right_level o) place))) p) (under place c) (next_level (operation_level o)) (behind (right_level o) place).start t
-right_operand operators.Exponential plain c t f place = f (quoted_plainly plain (behind levels.Multiply place))
-right_operand o plain c t f place = f (quoted_plainly plain (behind (right_level o) place))
+right_printed : {names : Tables} (o : BinaryOperator) (plain : Bool) (c : Allowed) (t : Tree) → Printed names c t → (place : Place) → PrintedBy names (under place c) (next_level (operation_level o)) (spell t (quoted_plainly plain (child (right_level o) place))) t
+right_printed operators.Exponential plain c t f place = f (quoted_plainly plain (child levels.Multiply place))
+right_printed o plain c t f place = f (quoted_plainly plain (child (right_level o) place))
 
 -- ---- the whole
 
@@ -109,9 +111,9 @@ same_operation o u v x y e f = λ i. tree.binary (bare (binary_operator o ∷ []
 pub good_operation : {names : Tables} (c : Allowed) (a : Atoms) (x y : Tree) → IsToldByForm names x → Printed names c x → Printed names c y → Printed names c (tree.binary a x y)
 good_operation {names} c a x y h f g place =
     let o : BinaryOperator = binary_expression_operator a in
-    let left : Bool = is_export_mark place.settings.minified o x in
-    let right : Bool = is_export_mark place.settings.minified o y in
-    good_wrapped c place (operation_level o) (binary_wraps o place) (λ w. spell x (quoted_plainly left (left_of (left_level o x) (within w place))) ⊕ (soft_space ⊕ (operator_item o ⊕ (soft_space ⊕ spell y (quoted_plainly right (behind (right_level o) (within w place))))))) (tree.binary a x y)
+    let left : Bool = is_export_mark o x in
+    let right : Bool = is_export_mark o y in
+    good_wrapped c place (operation_level o) (binary_wraps o place) (λ w. spell x (quoted_plainly left (left_operand (left_level o x) (within w place))) ⊕ (soft_space ⊕ (operator_item o ⊕ (soft_space ⊕ spell y (quoted_plainly right (child (right_level o) (within w place))))))) (tree.binary a x y)
     (λ d ts u r. lifted false (looser (binary_level o)) levels.Lowest (omega arith) (own_level false o r)) (λ e ts u r. unwrapped (binary_level o) place (or_parts (wraps (binary_level o) place) (is_forbidden o place) e).0 (own_level place.context.forbids_call o r))
-    (λ v e. good_infix (operator_item o) (operator_piece o) (spell x (quoted_plainly left (left_of (left_level o x) (within v place)))) (spell y (quoted_plainly right (behind (right_level o) (within v place)))) x y (tree.binary a x y) (under (within v place) c) (unless_printed v place.start) (left_goal o) (next_level (operation_level o)) (operation_level o) (operator_between o)
-    (λ ts us line u w ru rw eu ew. (tree.binary (bare (binary_operator o ∷ [])) u w, operation_reads o line (stands_there o c place v e) ru rw, same_operation o u w (renamed names x) (renamed names y) eu ew)) (left_operand o left c x h f (within v place)) (right_operand o right c y g (within v place)))
+    (λ v e. good_infix (operator_item o) (operator_piece o) (spell x (quoted_plainly left (left_operand (left_level o x) (within v place)))) (spell y (quoted_plainly right (child (right_level o) (within v place)))) x y (tree.binary a x y) (under (within v place) c) (left_goal o) (next_level (operation_level o)) (operation_level o) (operator_between o)
+    (λ ts us line u w ru rw eu ew. (tree.binary (bare (binary_operator o ∷ [])) u w, operation_reads o line (stands_there o c place v e) ru rw, same_operation o u w (renamed names x) (renamed names y) eu ew)) (left_printed o left c x h f (within v place)) (right_printed o right c y g (within v place)))

@@ -1,44 +1,45 @@
 -- Parameters, and the one that takes the rest.
 use Rattle.std.proofs.Common.{◌≡◌, ℕ, Bool, true, false, not, Some, List, [], ◌∷◌, refl, sym, ap, ◌∙◌, subst}
-use Rattle.std.proofs.lemmas.Bool.{both_ways, and_parts}
+use Rattle.std.proofs.lemmas.Bool.{both_ways}
 use Rattle.jsgen_syntax.specs.Escapes.{name_text, word_value}
 use Rattle.jsgen_syntax.specs.Name.{is_free_name}
 use Rattle.jsgen_syntax.specs.declared.precedence.Precedence.TheVariants as levels
 use Rattle.jsgen_syntax.proofs.Escapes.{word_text_value}
 use Rattle.jsgen_tree.specs.Job.{Tables}
-use Rattle.jsgen_tree.specs.Atom.{no_value}
 use Rattle.jsgen_tree.specs.Tree.{Tree, Maybe, absent, given, Trees, no_trees, more, Atoms}
 use Rattle.jsgen_tree.specs.Places.{bare}
 use Rattle.jsgen_tree.specs.Values.{formal_parameter_is_override, formal_parameter_readonly, formal_parameter_optional}
 use Rattle.jsgen_tree.specs.Inside.{binding_named}
 use Rattle.jsgen_tree.specs.Named.{Named, printed_name}
 use Rattle.jsgen_tree.specs.Nodes as tree
-use Rattle.jsgen_model.specs.Punctuator.{ellipsis, comma, Round, opening}
+use Rattle.jsgen_model.specs.Punctuator.{ellipsis, comma, Round, opening, closing}
 use Rattle.jsgen_model.specs.Tokens.{Tokens, done, piece, group, Word, Sign}
-use Rattle.jsgen_model.specs.Items.{Items, ◌⊕◌, name, punctuator, soft_space, brackets}
-use Rattle.jsgen_model.specs.Layout.{Pen, other_end, layout, written}
+use Rattle.jsgen_model.specs.Items.{Items, ◌⊕◌, punctuator, soft_space, brackets}
+use Rattle.jsgen_model.specs.Layout.{Pen, other_end, layout, written, written_if, with_name}
 use Rattle.jsgen_model.specs.Grammar.{Allowed, ReadsArrowParameters, ReadsParameters, ReadsParameter}
 use Rattle.jsgen_model.specs.Grammar as grammar
-use Rattle.jsgen_model.specs.Normal.{normal, normal_maybe, nothing_of, unnumbered}
+use Rattle.jsgen_model.specs.Normal.{normal, normal_maybe, nothing_of, unnumbered, if_set}
 use Rattle.jsgen_model.specs.Renamed.{renamed, renamed_maybe}
-use Rattle.jsgen_model.specs.Spell.{Place, spell, spell_list, spell_more, spell_if_given, behind, is_name_alone, is_bare, parameter_items, parameters_place, comma_between}
+use Rattle.jsgen_place.specs.declared.place.Place.{Place}
+use Rattle.jsgen_place.specs.Place.{child, within}
+use Rattle.jsgen_model.specs.Spell.{spell, spell_list, spell_more, spell_if_given, is_name_alone, parameter_items, comma_between}
 use Rattle.jsgen_token_laws.proofs.Last.{Last, Open, After, line_of, Ready, Knows}
 use Rattle.jsgen_token_laws.proofs.Writes.{wrote_none, wrote_both}
-use Rattle.jsgen_token_laws.proofs.Steps.{wrote_name, wrote_comma, wrote_dots, soft_space_written, within_brackets, brackets_written}
+use Rattle.jsgen_token_laws.proofs.Steps.{wrote_name, wrote_comma, wrote_dots, soft_space_written, within_brackets, brackets_written, unopened}
 use Rattle.jsgen_reading_laws.proofs.Levels.{under}
 use Rattle.jsgen_reading_laws.proofs.Families.{IsParameters}
 use Rattle.jsgen_reading_laws.proofs.Families as family
 use Rattle.jsgen_reading_laws.proofs.Names.{free_spelled, name_begins}
-use Rattle.jsgen_reading_laws.proofs.Good.{GoodAs, parentheses_begin}
+use Rattle.jsgen_reading_laws.proofs.Good.{GoodAs, begins_all, unwritten_round}
 use Rattle.jsgen_reading_laws.proofs.Lists.{Elements, ElementAt, GivesMore, JoinsOne, JoinsFirst, none_behind, one_behind, first_and_others}
 use Rattle.jsgen_reading_laws.proofs.Bindings.{Bound, PrintedIfGiven, Holds, good_held}
 
 -- ---- one parameter
 
-same_parameter : (a : Atoms) (b u : Tree) (m n : Maybe) → formal_parameter_is_override a ≡ no_value → formal_parameter_readonly a ≡ no_value → formal_parameter_optional a ≡ no_value → normal b ≡ normal u → normal_maybe m ≡ normal_maybe n → normal (tree.formal_parameter (nothing_of 3) b m) ≡ normal (tree.formal_parameter a u n)
-same_parameter a b u m n h i j e f = λ x. tree.formal_parameter (bare (sym h x ∷ sym i x ∷ sym j x ∷ [])) (e x) (f x)
+same_parameter : (a : Atoms) (b u : Tree) (m n : Maybe) → formal_parameter_is_override a ≡ false → formal_parameter_readonly a ≡ false → formal_parameter_optional a ≡ false → normal b ≡ normal u → normal_maybe m ≡ normal_maybe n → normal (tree.formal_parameter (nothing_of 3) b m) ≡ normal (tree.formal_parameter a u n)
+same_parameter a b u m n h i j e f = λ x. tree.formal_parameter (bare (if_set (sym h x) ∷ if_set (sym i x) ∷ if_set (sym j x) ∷ [])) (e x) (f x)
 
-parameter_holds : {names : Tables} (c : Allowed) (a : Atoms) → formal_parameter_is_override a ≡ no_value → formal_parameter_readonly a ≡ no_value → formal_parameter_optional a ≡ no_value → Holds names c (ReadsParameter c) (λ b m. tree.formal_parameter a b m)
+parameter_holds : {names : Tables} (c : Allowed) (a : Atoms) → formal_parameter_is_override a ≡ false → formal_parameter_readonly a ≡ false → formal_parameter_optional a ≡ false → Holds names c (ReadsParameter c) (λ b m. tree.formal_parameter a b m)
 parameter_holds {names} c a h i j = record {
   reading = λ b m. tree.formal_parameter (nothing_of 3) b m;
   alone = λ ts b r. grammar.a_parameter r;
@@ -49,7 +50,7 @@ parameter_holds {names} c a h i j = record {
 abbrev pub ParameterOf : Tables → Allowed → Tree → Type 0
 ParameterOf names c t = (place : Place) → ElementAt names (ReadsParameter (under place c)) place t
 
-pub good_parameter : {names : Tables} (c : Allowed) (a : Atoms) (b : Tree) (m : Maybe) → formal_parameter_is_override a ≡ no_value → formal_parameter_readonly a ≡ no_value → formal_parameter_optional a ≡ no_value → Bound names c b → PrintedIfGiven names c m → ParameterOf names c (tree.formal_parameter a b m)
+pub good_parameter : {names : Tables} (c : Allowed) (a : Atoms) (b : Tree) (m : Maybe) → formal_parameter_is_override a ≡ false → formal_parameter_readonly a ≡ false → formal_parameter_optional a ≡ false → Bound names c b → PrintedIfGiven names c m → ParameterOf names c (tree.formal_parameter a b m)
 good_parameter c a b m h i j f v place = good_held c (ReadsParameter (under place c)) (λ x n. tree.formal_parameter a x n) b m place (parameter_holds (under place c) a h i j) f v
 
 -- ---- the one that takes the rest
@@ -64,7 +65,7 @@ RestOf names c (given t) = (place : Place) → ElementAt names (ReadsRest (under
 pub good_rest : {names : Tables} (c : Allowed) (a : Atoms) (b : Tree) → Bound names c b → RestOf names c (given (tree.formal_parameter_rest a b))
 good_rest c a b f place p l z y k =
     let o = wrote_dots p l y k in
-    let g = f (behind levels.Lowest place) (layout (punctuator ellipsis) p) (After (Sign ellipsis)) z tt o.knows in
+    let g = f (child levels.Lowest place) (layout (punctuator ellipsis) p) (After (Sign ellipsis)) z tt o.knows in
     record {
       last = g.last;
       tokens = piece (line_of l) (Sign ellipsis) g.tokens;
@@ -149,14 +150,18 @@ only_parameter {names} c t f place p z k = first_and_others (ReadsParameter (und
 
 -- ---- before an arrow
 
+-- where they stand
+abbrev pub parameters_place : Place → Place
+parameters_place place = child levels.Comma (within true place)
+
 -- printed at an arrow function's place, and read where it stands in parentheses or not; no line end follows them
 abbrev pub ArrowParametersOf : Tables → Allowed → Tree → Type 0
-ArrowParametersOf names c t = (place at : Place) (p : Pen) (l : Last) → p.pending_semicolon ≡ false → Ready l → Knows names p l → (g : GoodAs names (ReadsArrowParameters (under at c)) p l (layout (parameter_items (is_bare place.settings t) (spell t (parameters_place place))) p) at.start t) × (line_of g.last ≡ false)
+ArrowParametersOf names c t = (place at : Place) (p : Pen) (l : Last) → p.pending_semicolon ≡ false → Ready l → Knows names p l → (g : GoodAs names (ReadsArrowParameters (under at c)) p l (layout (parameter_items (is_name_alone t) (spell t (parameters_place place))) p) t) × (line_of g.last ≡ false)
 
 -- one parameter, which is a name alone
 pub record NameAlone (names : Tables) (t : Tree) : Type 0 where
   pub value : Named
-  pub spelled : (place : Place) (p : Pen) → layout (spell t place) p ≡ layout (name value) p
+  pub spelled : (place : Place) (p : Pen) → layout (spell t place) p ≡ with_name (printed_name p.style.tables value) p
   pub free : is_free_name (printed_name names value) ≡ true
   pub form : normal (renamed names t) ≡ tree.formal_parameters (nothing_of 0) (more (tree.formal_parameter (nothing_of 3) (tree.binding_identifier (unnumbered (printed_name names value))) absent) no_trees) absent
 
@@ -165,26 +170,26 @@ name_alone {names} (family.all_parameters (family.first_parameter (family.a_para
   value = binding_named a;
   spelled = λ place p. refl;
   free = f;
-  form = λ x. tree.formal_parameters (nothing_of 0) (more (tree.formal_parameter (bare (h x ∷ i x ∷ j x ∷ [])) (tree.binding_identifier (unnumbered (printed_name names (binding_named a)))) absent) no_trees) absent;
+  form = λ x. tree.formal_parameters (nothing_of 0) (more (tree.formal_parameter (bare (if_set (h x) ∷ if_set (i x) ∷ if_set (j x) ∷ [])) (tree.binding_identifier (unnumbered (printed_name names (binding_named a)))) absent) no_trees) absent;
 }
 name_alone (family.all_parameters (family.first_parameter (family.a_parameter h i j (family.a_bound_name f) family.no_value) family.no_parameter) (family.a_rest r)) e = absurd (both_ways false refl e)
 name_alone (family.all_parameters (family.first_parameter (family.a_parameter h i j (family.a_bound_name f) family.no_value) (family.first_parameter v w)) r) e = absurd (both_ways false refl e)
 name_alone (family.all_parameters (family.first_parameter (family.a_parameter h i j (family.a_bound_name f) (family.a_value v)) w) r) e = absurd (both_ways false refl e)
 name_alone (family.all_parameters family.no_parameter r) e = absurd (both_ways false refl e)
 
-bare_parameter : {names : Tables} (c : Allowed) (t : Tree) → NameAlone names t → (place at : Place) (p : Pen) (l : Last) → p.pending_semicolon ≡ false → Knows names p l → (g : GoodAs names (ReadsArrowParameters (under at c)) p l (layout (spell t (parameters_place place)) p) at.start t) × (line_of g.last ≡ false)
+bare_parameter : {names : Tables} (c : Allowed) (t : Tree) → NameAlone names t → (place at : Place) (p : Pen) (l : Last) → p.pending_semicolon ≡ false → Knows names p l → (g : GoodAs names (ReadsArrowParameters (under at c)) p l (layout (spell t (parameters_place place)) p) t) × (line_of g.last ≡ false)
 bare_parameter {names} c t n place at p l z k =
     let v : List ℕ = printed_name names n.value in
     let w : List ℕ = name_text p.style.ascii v in
     let e : word_value w ≡ Some v = word_text_value p.style.ascii v (free_spelled v n.free) in
-    subst (λ q. (g : GoodAs names (ReadsArrowParameters (under at c)) p l q at.start t) × (line_of g.last ≡ false)) (sym (n.spelled (parameters_place place) p)) (
+    subst (λ q. (g : GoodAs names (ReadsArrowParameters (under at c)) p l q t) × (line_of g.last ≡ false)) (sym (n.spelled (parameters_place place) p)) (
       record {
         last = After (Word w);
         tokens = piece (line_of l) (Word w) done;
         writes = wrote_name n.value p l (free_spelled v n.free) k;
         operand = tt;
         semicolon = z;
-        begins = λ b h. name_begins at.start (line_of l) w v b e n.free h;
+        begins = λ b h. name_begins p.start (line_of l) w v b e n.free h;
         line = λ h. ap not h;
         tree = tree.formal_parameters (nothing_of 0) (more (tree.formal_parameter (nothing_of 3) (tree.binding_identifier (unnumbered v)) absent) no_trees) absent;
         reads = grammar.a_parameter_name e n.free;
@@ -193,7 +198,7 @@ bare_parameter {names} c t n place at p l z k =
       refl,
     )
 
-grouped_parameters : {names : Tables} (c : Allowed) (a : Atoms) (ps : Trees) (rest : Maybe) → ParametersOf names c ps rest → let t = tree.formal_parameters a ps rest in (place at : Place) (p : Pen) (l : Last) → p.pending_semicolon ≡ false → Knows names p l → (g : GoodAs names (ReadsArrowParameters (under at c)) p l (layout (brackets Round (spell t (parameters_place place))) p) at.start t) × (line_of g.last ≡ false)
+grouped_parameters : {names : Tables} (c : Allowed) (a : Atoms) (ps : Trees) (rest : Maybe) → ParametersOf names c ps rest → let t = tree.formal_parameters a ps rest in (place at : Place) (p : Pen) (l : Last) → p.pending_semicolon ≡ false → Knows names p l → (g : GoodAs names (ReadsArrowParameters (under at c)) p l (layout (brackets Round (spell t (parameters_place place))) p) t) × (line_of g.last ≡ false)
 grouped_parameters c a ps rest f place at p l z k =
     let p1 : Pen = written (opening Round) other_end p in
     let q : Pen = layout (spell (tree.formal_parameters a ps rest) (parameters_place place)) p1 in
@@ -204,7 +209,7 @@ grouped_parameters c a ps rest f place at p l z k =
         writes = brackets_written Round p q l g.last g.tokens g.writes;
         operand = tt;
         semicolon = g.semicolon;
-        begins = λ b h. parentheses_begin at.start (line_of l) g.tokens b;
+        begins = λ b h. begins_all p.start (group (line_of l) Round g.tokens b) refl;
         line = λ h. ap not h;
         tree = tree.formal_parameters (nothing_of 0) g.trees g.reads.0;
         reads = grammar.grouped_parameters g.reads.1;
@@ -214,11 +219,24 @@ grouped_parameters c a ps rest f place at p l z k =
     )
 
 pub good_arrow_parameters : {names : Tables} (c : Allowed) (a : Atoms) (ps : Trees) (rest : Maybe) → (is_name_alone (tree.formal_parameters a ps rest) ≡ true → NameAlone names (tree.formal_parameters a ps rest)) → ParametersOf names c ps rest → ArrowParametersOf names c (tree.formal_parameters a ps rest)
-good_arrow_parameters {names} c a ps rest alone f place at p l z y k = by (is_bare place.settings t) refl
+good_arrow_parameters {names} c a ps rest alone f place at p l z y k = by (is_name_alone t) refl
   where
     t : Tree
     t = tree.formal_parameters a ps rest
 
-    by : (b : Bool) → is_bare place.settings t ≡ b → (g : GoodAs names (ReadsArrowParameters (under at c)) p l (layout (parameter_items b (spell t (parameters_place place))) p) at.start t) × (line_of g.last ≡ false)
-    by true e = bare_parameter c t (alone (and_parts place.settings.minified (is_name_alone t) e).1) place at p l z k
+    items : Items
+    items = spell t (parameters_place place)
+
+    -- minified text has no parentheses round it
+    by_style : is_name_alone t ≡ true → (minified : Bool) → (g : GoodAs names (ReadsArrowParameters (under at c)) p l (written_if (not minified) (closing Round) (layout items (written_if (not minified) (opening Round) p))) t) × (line_of g.last ≡ false)
+    by_style e true =
+        let p1 : Pen = written_if false (opening Round) p in
+        let a = unopened p l (opening Round) k in
+        let g = bare_parameter c t (alone e) place at p1 a.last (a.semicolon ∙ z) a.writes.knows in
+        let b = unopened (layout items p1) g.0.last (closing Round) g.0.writes.knows in
+        (unwritten_round a g.0 b, b.line g.1)
+    by_style e false = grouped_parameters c a ps rest f place at p l z k
+
+    by : (b : Bool) → is_name_alone t ≡ b → (g : GoodAs names (ReadsArrowParameters (under at c)) p l (layout (parameter_items b items) p) t) × (line_of g.last ≡ false)
+    by true e = by_style e p.style.minified
     by false e = grouped_parameters c a ps rest f place at p l z k

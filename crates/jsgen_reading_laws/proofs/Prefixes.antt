@@ -1,5 +1,5 @@
 -- An operator before its operand.
-use Rattle.std.proofs.Common.{◌≡◌, Bool, true, false, not, codes, List, ℕ, [], ◌∷◌, refl, ap, ◌∙◌, arith}
+use Rattle.std.proofs.Common.{◌≡◌, Bool, true, false, not, codes, List, [], ℕ, ◌∷◌, refl, ap, ◌∙◌, arith}
 use Rattle.jsgen_syntax.specs.Name.{spells_name}
 use Rattle.jsgen_syntax.specs.declared.operator.UnaryOperator.{UnaryOperator}
 use Rattle.jsgen_syntax.specs.declared.operator.UnaryOperator.TheVariants as unary_operators
@@ -13,26 +13,27 @@ use Rattle.jsgen_tree.specs.Nodes as tree
 use Rattle.jsgen_model.specs.Punctuator.{Punctuator, bang, tilde}
 use Rattle.jsgen_model.specs.Tokens.{Tokens, done, piece, ◌⧺◌, Piece, Word, Sign}
 use Rattle.jsgen_model.specs.Items.{Items, ◌⊕◌, word, operator}
-use Rattle.jsgen_model.specs.Layout.{Pen, Start, nowhere, statement, arrow_body, default_export, layout, unless_printed}
-use Rattle.jsgen_model.specs.Grammar.{Allowed, Level, ReadsExpression, unary_piece, starts_declaration}
+use Rattle.jsgen_model.specs.Layout.{Pen, layout}
+use Rattle.jsgen_model.specs.Grammar.{Allowed, Level, ReadsExpression, unary_piece, starts_declaration, starts_statement}
 use Rattle.jsgen_model.specs.Grammar as grammar
 use Rattle.jsgen_model.specs.Normal.{normal}
 use Rattle.jsgen_model.specs.Renamed.{renamed}
-use Rattle.jsgen_model.specs.Spell.{spell, within, behind, wraps}
+use Rattle.jsgen_place.specs.Place.{within, child, wraps}
+use Rattle.jsgen_model.specs.Spell.{spell}
 use Rattle.jsgen_model.specs.Operators.{unary_sign, behind_unary}
 use Rattle.jsgen_token_laws.proofs.Characters.{letters_spelled}
 use Rattle.jsgen_token_laws.proofs.Last.{Last, After, line_of, Ready, Knows}
 use Rattle.jsgen_token_laws.proofs.Writes.{Writes, wrote_both}
 use Rattle.jsgen_token_laws.proofs.Steps.{Soft, no_soft, soft_space_written, wrote_word, wrote_plus, wrote_minus, wrote_prefix}
 use Rattle.jsgen_reading_laws.proofs.Levels.{under, lifted, unwrapped}
-use Rattle.jsgen_reading_laws.proofs.Good.{Good, Printed, may_begin, good_wrapped}
+use Rattle.jsgen_reading_laws.proofs.Good.{Good, Printed, good_wrapped, PrintedBy, begins_all}
 
 -- the item writes this one token behind anything, and an operand may follow
 pub record Before (names : Tables) (item : Items) (x : Piece) : Type 0 where
   pub writes : (p : Pen) (l : Last) → Knows names p l → Writes names p l (layout item p) (After x) (piece (line_of l) x done)
   pub semicolon : (p : Pen) → (layout item p).pending_semicolon ≡ p.pending_semicolon
   pub ready : Ready (After x)
-  pub begins : (start : Start) (line : Bool) (ts : Tokens) → may_begin start (piece line x ts) ≡ true
+  pub begins : (line : Bool) (ts : Tokens) → starts_statement (piece line x ts) ≡ true
 
 -- these items write blanks, or nothing
 abbrev pub Softens : Tables → Items → Type 0
@@ -42,8 +43,8 @@ Softens names items = (p : Pen) (l : Last) → Knows names p l → Soft names p 
 abbrev pub Builds : Tables → Piece → Allowed → Level → Level → Tree → Tree → Type 0
 Builds names x c g h e t = (a : Tokens) (line : Bool) (u : Tree) → ReadsExpression c g a u → normal u ≡ normal (renamed names e) → (w : Tree) × ReadsExpression c h (piece line x a) w × (normal w ≡ normal (renamed names t))
 
-prefix_parts : {names : Tables} (item : Items) (x : Piece) (e t : Tree) (c : Allowed) (start : Start) (g h : Level) (p p1 p2 q : Pen) (l : Last) → Before names item x → Builds names x c g h e t → Writes names p l p1 (After x) (piece (line_of l) x done) → (n : Soft names p1 (After x) p2) → Good names p2 n.last q c g nowhere e → Good names p l q c h start t
-prefix_parts item x e t c start g h p p1 p2 q l before build w n b =
+prefix_parts : {names : Tables} {item : Items} {x : Piece} {e t : Tree} {c : Allowed} {g h : Level} {p p1 p2 q : Pen} {l : Last} → Before names item x → Builds names x c g h e t → Writes names p l p1 (After x) (piece (line_of l) x done) → (n : Soft names p1 (After x) p2) → Good names p2 n.last q c g e → Good names p l q c h t
+prefix_parts {x = x} {p = p} {l = l} before build w n b =
     let r = build b.tokens (line_of l) b.tree b.reads b.same in
     record {
       last = b.last;
@@ -51,42 +52,28 @@ prefix_parts item x e t c start g h p p1 p2 q l before build w n b =
       writes = wrote_both w (wrote_both n.writes b.writes);
       operand = b.operand;
       semicolon = b.semicolon;
-      begins = λ d i. before.begins start (line_of l) (b.tokens ⧺ d);
+      begins = λ d i. begins_all p.start (piece (line_of l) x (b.tokens ⧺ d)) (before.begins (line_of l) (b.tokens ⧺ d));
       line = λ i. ap not i;
       tree = r.0;
       reads = r.1;
       same = r.2;
     }
 
-pub good_prefix : {names : Tables} (item : Items) (x : Piece) (gap operand : Items) (e t : Tree) (c : Allowed) (start : Start) (g h : Level) → Before names item x → Softens names gap → Builds names x c g h e t → ((p : Pen) (l : Last) → p.pending_semicolon ≡ false → Ready l → Knows names p l → Good names p l (layout operand p) c g nowhere e)
-    → (p : Pen) (l : Last) → p.pending_semicolon ≡ false → Ready l → Knows names p l → Good names p l (layout (item ⊕ (gap ⊕ operand)) p) c h start t
-good_prefix item x gap operand e t c start g h before soft build f p l z y k =
+pub good_prefix : {names : Tables} (item : Items) (x : Piece) (gap operand : Items) (e t : Tree) (c : Allowed) (g h : Level) → Before names item x → Softens names gap → Builds names x c g h e t → PrintedBy names c g operand e → PrintedBy names c h (item ⊕ (gap ⊕ operand)) t
+good_prefix item x gap operand e t c g h before soft build f p l z y k =
     let p1 : Pen = layout item p in
-    let p2 : Pen = layout gap p1 in
     let w = before.writes p l k in
     let n = soft p1 (After x) w.knows in
-    let b = f p2 n.last (n.semicolon ∙ (before.semicolon p ∙ z)) (n.ready before.ready) n.writes.knows in
-    prefix_parts item x e t c start g h p p1 p2 (layout operand p2) l before build w n b
+    let b = f (layout gap p1) n.last (n.semicolon ∙ (before.semicolon p ∙ z)) (n.ready before.ready) n.writes.knows in
+    prefix_parts before build w n b
 
 -- ---- signs and words
 
-pub sign_begins : (s : Punctuator) (start : Start) (line : Bool) (ts : Tokens) → may_begin start (piece line (Sign s) ts) ≡ true
-sign_begins s nowhere line ts = refl
-sign_begins s statement line ts = refl
-sign_begins s arrow_body line ts = refl
-sign_begins s default_export line ts = refl
-
-pub word_begins : (w : List ℕ) → ((ts : Tokens) → starts_declaration w ts ≡ false) → (start : Start) (line : Bool) (ts : Tokens) → may_begin start (piece line (Word w) ts) ≡ true
-word_begins w h nowhere line ts = refl
-word_begins w h statement line ts = ap not (h ts)
-word_begins w h arrow_body line ts = refl
-word_begins w h default_export line ts = ap not (h ts)
-
 pub sign_before : {names : Tables} (s : Punctuator) → Ready (After (Sign s)) → ((p : Pen) (l : Last) → Knows names p l → Writes names p l (layout (operator s) p) (After (Sign s)) (piece (line_of l) (Sign s) done)) → Before names (operator s) (Sign s)
-sign_before s y w = record { writes = w; semicolon = λ p. refl; ready = y; begins = sign_begins s }
+sign_before s y w = record { writes = w; semicolon = λ p. refl; ready = y; begins = λ line ts. refl }
 
 pub word_before : {names : Tables} (w : List ℕ) → spells_name w ≡ true → ((ts : Tokens) → starts_declaration w ts ≡ false) → Before names (word w) (Word w)
-word_before w h n = record { writes = λ p l k. wrote_word w p l h k; semicolon = λ p. refl; ready = tt; begins = word_begins w n }
+word_before w h n = record { writes = λ p l k. wrote_word w p l h k; semicolon = λ p. refl; ready = tt; begins = λ line ts. ap not (n ts) }
 
 -- ---- unary operations
 
@@ -111,7 +98,7 @@ behind_soft o = nothing_soft
 pub good_unary_operation : {names : Tables} (c : Allowed) (a : Atoms) (t : Tree) → Printed names c t → Printed names c (tree.unary a t)
 good_unary_operation c a t f place =
     let o : UnaryOperator = unary_expression_operator a in
-    good_wrapped c place grammar.Unary (wraps levels.Prefix place) (λ w. unary_sign o ⊕ (behind_unary o ⊕ spell t (behind levels.Exponentiation (within w place)))) (tree.unary a t)
+    good_wrapped c place grammar.Unary (wraps levels.Prefix place) (λ w. unary_sign o ⊕ (behind_unary o ⊕ spell t (child levels.Exponentiation (within w place)))) (tree.unary a t)
     (λ d ts u r. lifted false levels.Exponentiation levels.Lowest (omega arith) r) (λ e ts u r. unwrapped levels.Prefix place e r)
-    (λ v e. good_prefix (unary_sign o) (unary_piece o) (behind_unary o) (spell t (behind levels.Exponentiation (within v place))) t (tree.unary a t) (under (within v place) c) (unless_printed v place.start) grammar.Unary grammar.Unary (unary_before o) (behind_soft o)
-    (λ ts line u r s. (tree.unary (bare (unary_operator o ∷ [])) u, grammar.a_unary_operation o r, ap (λ x. tree.unary (bare (unary_operator o ∷ [])) x) s)) (f (behind levels.Exponentiation (within v place))))
+    (λ v e. good_prefix (unary_sign o) (unary_piece o) (behind_unary o) (spell t (child levels.Exponentiation (within v place))) t (tree.unary a t) (under (within v place) c) grammar.Unary grammar.Unary (unary_before o) (behind_soft o)
+    (λ ts line u r s. (tree.unary (bare (unary_operator o ∷ [])) u, grammar.a_unary_operation o r, ap (λ x. tree.unary (bare (unary_operator o ∷ [])) x) s)) (f (child levels.Exponentiation (within v place))))

@@ -18,7 +18,8 @@ use Rattle.jsgen_model.specs.Grammar.{Allowed, ReadsBody}
 use Rattle.jsgen_model.specs.Grammar as grammar
 use Rattle.jsgen_model.specs.Normal.{normal_trees, directive_units}
 use Rattle.jsgen_model.specs.Renamed.{renamed_trees}
-use Rattle.jsgen_model.specs.Spell.{Settings, spell, spell_directives, spell_body, among_statements}
+use Rattle.jsgen_place.specs.Place.{among_statements}
+use Rattle.jsgen_model.specs.Spell.{spell, spell_directives, spell_body}
 use Rattle.jsgen_token_laws.proofs.Last.{Last, After, line_of, Ready, Knows}
 use Rattle.jsgen_token_laws.proofs.Writes.{Writes, wrote_none, wrote_both, wrote_and_none}
 use Rattle.jsgen_token_laws.proofs.Steps.{wrote_quoted, wrote_semicolon, indentation_written, soft_line_written}
@@ -51,8 +52,8 @@ record GoodDirective (names : Tables) (p : Pen) (l : Last) (q : Pen) (a : Atoms)
   plain : is_backtick quote ≡ false
   value : string_value quote text ≡ Some (directive_units (directive_directive a))
 
-good_directive : {names : Tables} (a : Atoms) (us : List ℕ) (settings : Settings) → directive_value (as_text (directive_directive a)) ≡ Some us → directive_units (directive_directive a) ≡ us → (p : Pen) (l : Last) → p.pending_semicolon ≡ false → Ready l → Knows names p l → GoodDirective names p l (layout (spell (tree.directive a) (among_statements settings)) p) a
-good_directive a us settings h e p l z y k =
+good_directive : {names : Tables} (a : Atoms) (us : List ℕ) → directive_value (as_text (directive_directive a)) ≡ Some us → directive_units (directive_directive a) ≡ us → (p : Pen) (l : Last) → p.pending_semicolon ≡ false → Ready l → Knows names p l → GoodDirective names p l (layout (spell (tree.directive a) among_statements) p) a
+good_directive a us h e p l z y k =
     let raw : List ℕ = as_text (directive_directive a) in
     let p1 : Pen = layout indentation p in
     let p2 : Pen = layout (directive raw) p1 in
@@ -92,12 +93,12 @@ more_directives {names} a ds p p1 q l d g = record {
   same = same_more (tree.directive (bare (units (directive_units (directive_directive a)) ∷ []))) (tree.directive a) g.trees (renamed_trees names ds) refl g.same;
 }
 
-directives_written : {names : Tables} {ds : Trees} → AreDirectives ds → (settings : Settings) (p : Pen) (l : Last) → p.pending_semicolon ≡ false → Ready l → Knows names p l → GoodDirectives names p l (layout (spell_directives ds settings) p) ds
-directives_written family.no_directive settings p l z y k = no_directives p l z y k
-directives_written (family.first_directive {a} {ds} us h e v) settings p l z y k =
-    let p1 : Pen = layout (spell (tree.directive a) (among_statements settings)) p in
-    let d = good_directive a us settings h e p l z y k in
-    more_directives a ds p p1 (layout (spell_directives ds settings) p1) l d (directives_written v settings p1 d.last d.semicolon_left d.ready d.writes.knows)
+directives_written : {names : Tables} {ds : Trees} → AreDirectives ds → (p : Pen) (l : Last) → p.pending_semicolon ≡ false → Ready l → Knows names p l → GoodDirectives names p l (layout (spell_directives ds) p) ds
+directives_written family.no_directive p l z y k = no_directives p l z y k
+directives_written (family.first_directive {a} {ds} us h e v) p l z y k =
+    let p1 : Pen = layout (spell (tree.directive a) among_statements) p in
+    let d = good_directive a us h e p l z y k in
+    more_directives a ds p p1 (layout (spell_directives ds) p1) l d (directives_written v p1 d.last d.semicolon_left d.ready d.writes.knows)
 
 -- ---- bodies, of modules and of functions
 
@@ -111,7 +112,7 @@ SameBoth names ds ss b = (normal_trees b.0 ≡ normal_trees (renamed_trees names
 body_of : {names : Tables} {p q r : Pen} {l : Last} {c : Allowed} (ds ss : Trees) → (g : GoodDirectives names p l q ds) → Stands names (λ e ts us. ReadsBody c e ts no_trees us) (SameTrees names ss) q g.last r → Stands names (ReadsBoth c) (SameBoth names ds ss) p l r
 body_of {c = c} ds ss g h = behind_tokens g.tokens (λ us. (g.trees, us)) g.writes (λ e ts us r. g.reads c e ts us r) (λ us s. (g.same, s)) h
 
-pub whole_body : {names : Tables} {c : Allowed} (ds ss : Trees) → AreDirectives ds → ((settings : Settings) → BodyAt names c (spell_body ss settings) ss) → (settings : Settings) → StandsAt names (ReadsBoth c) (SameBoth names ds ss) (spell_directives ds settings ⊕ spell_body ss settings)
-whole_body ds ss v f settings p l z y k =
-    let g = directives_written v settings p l z y k in
-    body_of ds ss g (f settings (layout (spell_directives ds settings) p) g.last g.semicolon g.ready g.writes.knows)
+pub whole_body : {names : Tables} {c : Allowed} (ds ss : Trees) → AreDirectives ds → BodyAt names c (spell_body ss) ss → StandsAt names (ReadsBoth c) (SameBoth names ds ss) (spell_directives ds ⊕ spell_body ss)
+whole_body ds ss v f p l z y k =
+    let g = directives_written v p l z y k in
+    body_of ds ss g (f (layout (spell_directives ds) p) g.last g.semicolon g.ready g.writes.knows)

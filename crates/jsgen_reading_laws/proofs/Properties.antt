@@ -28,17 +28,19 @@ use Rattle.jsgen_model.specs.declared.fault.TreeFault.{TreeFault}
 use Rattle.jsgen_model.specs.Punctuator.{colon, ellipsis, Square, opening}
 use Rattle.jsgen_model.specs.Numbers.{takes_no_dot, is_big_integer}
 use Rattle.jsgen_model.specs.Tokens.{Tokens, done, piece, group, ◌⧺◌, Word, Number, Quoted, Sign}
-use Rattle.jsgen_model.specs.Items.{Items, ◌⊕◌, where_same, name, number, string, punctuator, soft_space}
-use Rattle.jsgen_model.specs.Layout.{Pen, Style, other_end, are_same, layout, written, chosen_quote, but_backticks}
+use Rattle.jsgen_model.specs.Items.{Items, ◌⊕◌, where_same, number, string, punctuator, soft_space, nothing}
+use Rattle.jsgen_model.specs.Layout.{Pen, Style, other_end, are_same, layout, written, chosen_quote, but_backticks, with_name}
 use Rattle.jsgen_model.specs.Grammar.{Allowed, ReadsExpression, ReadsKey, ReadsProperty, with_in}
 use Rattle.jsgen_model.specs.Grammar as grammar
 use Rattle.jsgen_model.specs.Normal.{normal, nothing_of, named, unnumbered, by_text, number_text, minus_before, big_integer, property_values, is_written_as_method, is_computed, is_proto_shorthand}
 use Rattle.jsgen_model.specs.Renamed.{renamed}
-use Rattle.jsgen_model.specs.Spell.{Place, spell, in_brackets, in_front, key_text, needs_brackets, key_items, with_key, alone_if, alone_where_said, property_items, accessor_word, key_place, method_or_property, spell_method, signed, number_items, big_text, big_integer_items}
+use Rattle.jsgen_place.specs.declared.place.Place.{Place}
+use Rattle.jsgen_place.specs.Place.{in_brackets}
+use Rattle.jsgen_model.specs.Spell.{spell, key_text, needs_brackets, key_items, accessor_word, method_or_property, spell_method, signed, number_items, big_text, big_integer_items, before_value, items_unless, unless_said}
 use Rattle.jsgen_model.specs.Valid.{named_faults, shorthand_faults}
 use Rattle.jsgen_token_laws.proofs.Last.{Last, Open, After, line_of, Operand, Begun, begun_ready, Knows}
 use Rattle.jsgen_token_laws.proofs.Writes.{Writes, wrote_both}
-use Rattle.jsgen_token_laws.proofs.Steps.{printed_as_written, wrote_name, wrote_written_name, wrote_quoted, wrote_punctuator, wrote_dots, within_brackets, brackets_written, soft_space_written}
+use Rattle.jsgen_token_laws.proofs.Steps.{printed_as_written, wrote_name, wrote_written_name, wrote_quoted, wrote_punctuator, wrote_dots, within_brackets, brackets_written, soft_space_written, Soft}
 use Rattle.jsgen_reading_laws.proofs.Families.{IsExpression, IsKey, has_value}
 use Rattle.jsgen_reading_laws.proofs.Faultless.{none_unless}
 use Rattle.jsgen_reading_laws.proofs.Families as family
@@ -63,15 +65,15 @@ pub record GoodKey (names : Tables) (p : Pen) (l : Last) (q : Pen) (c : Allowed)
   pub reads : ReadsKey c computed tokens tree
   pub same : normal tree ≡ normal (renamed names t)
 
--- in brackets or alone, at the place of its property
+-- in brackets or alone
 abbrev KeyAt : Tables → Allowed → Bool → Tree → Type 0
-KeyAt names c brackets t = (place : Place) (p : Pen) (l : Last) → p.pending_semicolon ≡ false → Begun l → Knows names p l → GoodKey names p l (layout (key_items brackets t (spell t (in_brackets levels.Comma place)) (spell t (in_front levels.Comma place))) p) (with_in c) brackets t
+KeyAt names c brackets t = (p : Pen) (l : Last) → p.pending_semicolon ≡ false → Begun l → Knows names p l → GoodKey names p l (layout (key_items brackets t (spell t (in_brackets levels.Comma))) p) (with_in c) brackets t
 
 abbrev pub KeyOf : Tables → Allowed → Bool → Tree → Type 0
 KeyOf names c computed t = KeyAt names c (needs_brackets computed t) t
 
 pub good_name_key : {names : Tables} (c : Allowed) (a : Atoms) → spells_name (identifier_name_name a) ≡ true → KeyOf names c false (tree.identifier_name a)
-good_name_key c a h place p l z b k =
+good_name_key c a h p l z b k =
     let v : List ℕ = identifier_name_name a in
     record {
       last = _;
@@ -102,7 +104,7 @@ no_backticks style us = go style.minified
     go false = other_plain style.quote
 
 pub good_string_key : {names : Tables} (c : Allowed) (a : Atoms) → are_units (string_literal_value a) ≡ true → KeyOf names c false (tree.string_literal a)
-good_string_key c a h place p l z b k =
+good_string_key c a h p l z b k =
     let us : List ℕ = string_literal_value a in
     let q : Quote = chosen_quote p.style false us in
     let w : List ℕ = escaped q p.style.ascii us in
@@ -120,10 +122,10 @@ good_string_key c a h place p l z b k =
 
 -- a key in brackets is an expression, but no string in backticks
 abbrev ComputedText : Tables → Allowed → Tree → Type 0
-ComputedText names c t = (place : Place) (p : Pen) → p.pending_semicolon ≡ false → Knows names p (Open false) → Element names (ReadsExpression (with_in c) grammar.Assignment) p (Open false) (layout (key_text t (spell t (in_brackets levels.Comma place))) p) t
+ComputedText names c t = (p : Pen) → p.pending_semicolon ≡ false → Knows names p (Open false) → Element names (ReadsExpression (with_in c) grammar.Assignment) p (Open false) (layout (key_text t (spell t (in_brackets levels.Comma))) p) t
 
 computed_text : {names : Tables} {c : Allowed} {t : Tree} → IsExpression names c t → Printed names c t → ComputedText names c t
-computed_text {names} {c} (family.a_string {a} h) f place p z k =
+computed_text {names} {c} (family.a_string {a} h) f p z k =
     let us : List ℕ = string_literal_value a in
     let q : Quote = chosen_quote p.style false us in
     let w : List ℕ = escaped q p.style.ascii us in
@@ -135,21 +137,21 @@ computed_text {names} {c} (family.a_string {a} h) f place p z k =
       operand = tt;
       semicolon = z;
       tree = tree.string_literal (bare (units us ∷ []));
-      reads = from_primary (in_brackets levels.Comma place) (grammar.a_string e);
+      reads = from_primary (in_brackets levels.Comma) (grammar.a_string e);
       same = refl;
     }
-computed_text {names} {c} v f place p z k =
-    let g = f (in_brackets levels.Comma place) p (Open false) z tt k in
+computed_text {names} {c} v f p z k =
+    let g = f (in_brackets levels.Comma) p (Open false) z tt k in
     record { last = g.last; tokens = g.tokens; writes = g.writes; operand = g.operand; semicolon = g.semicolon; tree = g.tree; reads = g.reads; same = g.same }
 
 pub good_computed_key : {names : Tables} {c : Allowed} {t : Tree} → IsExpression names c t → Printed names c t → KeyOf names c true t
-good_computed_key {names} {c} {t} v f place p l z b k =
+good_computed_key {names} {c} {t} v f p l z b k =
     let p1 : Pen = written (opening Square) other_end p in
-    let g = computed_text v f place p1 z (within_brackets Square p l k) in
+    let g = computed_text v f p1 z (within_brackets Square p l k) in
     record {
       last = Open false;
       tokens = group (line_of l) Square g.tokens done;
-      writes = brackets_written Square p (layout (key_text t (spell t (in_brackets levels.Comma place))) p1) l g.last g.tokens g.writes;
+      writes = brackets_written Square p (layout (key_text t (spell t (in_brackets levels.Comma))) p1) l g.last g.tokens g.writes;
       operand = tt;
       semicolon = g.semicolon;
       tree = g.tree;
@@ -173,15 +175,15 @@ numeral_key c dot w t u n e p l z b k = record {
 }
 
 positive_key : {names : Tables} (c : Allowed) (a : Atoms) → has_value (numeric_literal_kind a) a ≡ true → numeric_literal_negative a ≡ false → KeyAt names c false (tree.numeric_literal a)
-positive_key {names} c a h m place = by (numeric_literal_kind a) refl h
+positive_key {names} c a h m = by (numeric_literal_kind a) refl h
   where
     form : (kind : NumericKind) → numeric_literal_kind a ≡ kind → normal (tree.numeric_literal a) ≡ tree.numeric_literal (by_text (number_text kind a))
     form kind e = ap (λ x. minus_before x (tree.numeric_literal (by_text (number_text (numeric_literal_kind a) a)))) m ∙ ap (λ x. tree.numeric_literal (by_text (number_text x a))) e
 
-    bare : (dot : Bool) (w : List ℕ) → normal (tree.numeric_literal a) ≡ tree.numeric_literal (by_text w) → Numeral names dot w (tree.numeric_literal (by_text w)) → (p : Pen) (l : Last) → p.pending_semicolon ≡ false → Begun l → Knows names p l → GoodKey names p l (layout (signed dot (numeric_literal_negative a) w (in_front levels.Comma place)) p) (with_in c) false (tree.numeric_literal a)
-    bare dot w e n p l z b k = subst (λ x. GoodKey names p l (layout (signed dot x w (in_front levels.Comma place)) p) (with_in c) false (tree.numeric_literal a)) (sym m) (numeral_key c dot w (tree.numeric_literal a) _ n e p l z b k)
+    bare : (dot : Bool) (w : List ℕ) → normal (tree.numeric_literal a) ≡ tree.numeric_literal (by_text w) → Numeral names dot w (tree.numeric_literal (by_text w)) → (p : Pen) (l : Last) → p.pending_semicolon ≡ false → Begun l → Knows names p l → GoodKey names p l (layout (signed dot (numeric_literal_negative a) w (in_brackets levels.Comma)) p) (with_in c) false (tree.numeric_literal a)
+    bare dot w e n p l z b k = subst (λ x. GoodKey names p l (layout (signed dot x w (in_brackets levels.Comma)) p) (with_in c) false (tree.numeric_literal a)) (sym m) (numeral_key c dot w (tree.numeric_literal a) _ n e p l z b k)
 
-    by : (kind : NumericKind) → numeric_literal_kind a ≡ kind → has_value kind a ≡ true → (p : Pen) (l : Last) → p.pending_semicolon ≡ false → Begun l → Knows names p l → GoodKey names p l (layout (number_items kind a (in_front levels.Comma place)) p) (with_in c) false (tree.numeric_literal a)
+    by : (kind : NumericKind) → numeric_literal_kind a ≡ kind → has_value kind a ≡ true → (p : Pen) (l : Last) → p.pending_semicolon ≡ false → Begun l → Knows names p l → GoodKey names p l (layout (number_items kind a (in_brackets levels.Comma)) p) (with_in c) false (tree.numeric_literal a)
     by Whole e h = bare true (decimal (numeric_literal_digits a)) (form Whole e) (whole_numeral (numeric_literal_digits a) h)
     by Raw e h = bare (not (takes_no_dot (numeric_literal_text a))) (numeric_literal_text a) (form Raw e) (raw_numeral (numeric_literal_text a) h)
 
@@ -194,24 +196,24 @@ good_number_key {names} c a h = by (numeric_literal_negative a) refl
     by false e = subst (λ x. KeyAt names c x (tree.numeric_literal a)) (sym e) (positive_key c a h e)
 
 pub good_big_integer_key : {names : Tables} (c : Allowed) (a : Atoms) → is_big_integer (big_int_literal_value a) ≡ true → is_negative_big_integer (tree.big_int_literal a) ≡ false → KeyOf names c false (tree.big_int_literal a)
-good_big_integer_key {names} c a h m place = by (behind_minus (big_int_literal_value a)) refl m
+good_big_integer_key {names} c a h m = by (behind_minus (big_int_literal_value a)) refl m
   where
     v : List ℕ
     v = big_int_literal_value a
 
-    by : (o : Option (List ℕ)) → behind_minus v ≡ o → is_some o ≡ false → (p : Pen) (l : Last) → p.pending_semicolon ≡ false → Begun l → Knows names p l → GoodKey names p l (layout (big_integer_items v o (in_front levels.Comma place)) p) (with_in c) false (tree.big_int_literal a)
+    by : (o : Option (List ℕ)) → behind_minus v ≡ o → is_some o ≡ false → (p : Pen) (l : Last) → p.pending_semicolon ≡ false → Begun l → Knows names p l → GoodKey names p l (layout (big_integer_items v o (in_brackets levels.Comma)) p) (with_in c) false (tree.big_int_literal a)
     by (Some w) e m = absurd (both_ways true m refl)
     by None e m = numeral_key c false (big_text v) (tree.big_int_literal a) _ (big_numeral v (big_whole v None h e)) (ap (big_integer v) e)
 
 -- ---- properties
 
 abbrev pub PropertyOf : Tables → Allowed → Tree → Type 0
-PropertyOf names c t = (place : Place) → ElementAt names (ReadsProperty (with_in c)) (in_brackets levels.Comma place) t
+PropertyOf names c t = ElementAt names (ReadsProperty (with_in c)) (in_brackets levels.Comma) t
 
 pub good_spread_property : {names : Tables} (c : Allowed) (a : Atoms) (e : Tree) → Printed names c e → PropertyOf names c (tree.spread a e)
-good_spread_property c a e f place p l z b k =
+good_spread_property c a e f p l z b k =
     let o = wrote_dots p l b k in
-    let g = f (in_brackets levels.Comma place) (layout (punctuator ellipsis) p) (After (Sign ellipsis)) z tt o.knows in
+    let g = f (in_brackets levels.Comma) (layout (punctuator ellipsis) p) (After (Sign ellipsis)) z tt o.knows in
     record {
       last = g.last;
       tokens = piece (line_of l) (Sign ellipsis) g.tokens;
@@ -248,34 +250,45 @@ same_laid {names} p w value alone whole t = ap (λ b. if b then layout alone p e
     go true = refl
     go false = refl
 
-property_laid : {names : Tables} (p : Pen) (shorthand : Bool) (o : Option (List ℕ)) (value : Option Named) (alone whole : Items) → p.style.tables ≡ names → layout (property_items shorthand o value alone whole) p ≡ layout (if option_map_or (λ w. says_name shorthand w (option_map (λ n. printed_name names n) value)) o false then alone else whole) p
-property_laid p shorthand None value alone whole t = refl
-property_laid {names} p shorthand (Some w) value alone whole t = by (is_proto w) value
+-- what stands before the value
+before_laid : {names : Tables} (p : Pen) (shorthand : Bool) (o : Option (List ℕ)) (value : Option Named) (key : Items) → p.style.tables ≡ names → layout (before_value shorthand o value key) p ≡ layout (if option_map_or (λ w. says_name shorthand w (option_map (λ n. printed_name names n) value)) o false then nothing else key ⊕ (punctuator colon ⊕ soft_space)) p
+before_laid p shorthand None value key t = refl
+before_laid {names} p shorthand (Some w) value key t = by (is_proto w) value
   where
-    by : (b : Bool) (r : Option Named) → layout (if b then alone_if shorthand alone whole else alone_where_said w r alone whole) p ≡ layout (if (if b then shorthand else option_map_or (λ v. bytes_eq v w) (option_map (λ n. printed_name names n) r) false) then alone else whole) p
+    items : Items
+    items = key ⊕ (punctuator colon ⊕ soft_space)
+
+    by : (b : Bool) (r : Option Named) → layout (if b then items_unless shorthand items else unless_said w r items) p ≡ layout (if (if b then shorthand else option_map_or (λ v. bytes_eq v w) (option_map (λ n. printed_name names n) r) false) then nothing else items) p
     by true r = go shorthand
       where
-        go : (b : Bool) → layout (alone_if b alone whole) p ≡ layout (if b then alone else whole) p
+        go : (b : Bool) → layout (items_unless b items) p ≡ layout (if b then nothing else items) p
         go true = refl
         go false = refl
     by false None = refl
-    by false (Some v) = same_laid p w v alone whole t
+    by false (Some v) = same_laid p w v nothing items t
 
 -- a method and an accessor are spelled by the word, the key and the function, other properties by the key and the value
-abbrev pub method_items : Atoms → Tree → Tree → Place → Items
-method_items a x v place = accessor_word (object_property_kind a) ⊕ (key_items (needs_brackets (object_property_computed a) x) x (spell x (in_brackets levels.Comma place)) (spell x (key_place (object_property_kind a) place)) ⊕ spell_method v place)
+abbrev pub method_items : Atoms → Tree → Tree → Items
+method_items a x v = accessor_word (object_property_kind a) ⊕ (key_items (needs_brackets (object_property_computed a) x) x (spell x (in_brackets levels.Comma)) ⊕ spell_method v (in_brackets levels.Comma))
 
-abbrev pub plain_items : Atoms → Tree → Tree → Place → Items
-plain_items a x v place =
-    property_items (object_property_shorthand a) (written_name_in x) (looked_up_in (without_parentheses v)) (spell v (in_front levels.Comma place))
-    (with_key (key_items (needs_brackets (object_property_computed a) x) x (spell x (in_brackets levels.Comma place)) (spell x (in_front levels.Comma place))) (spell v (in_brackets levels.Comma place)))
+abbrev before_items : Atoms → Tree → Tree → Items
+before_items a x v = before_value (object_property_shorthand a) (written_name_in x) (looked_up_in (without_parentheses v)) (key_items (needs_brackets (object_property_computed a) x) x (spell x (in_brackets levels.Comma)))
 
-pub property_spelled : (a : Atoms) (x v : Tree) (place : Place) (m : Bool) → is_method (object_property_kind a) (object_property_method a) ≡ m → spell (tree.object_property a x v) place ≡ method_or_property m (method_items a x v place) (plain_items a x v place)
-property_spelled a x v place m h = ap (λ b. method_or_property b (method_items a x v place) (plain_items a x v place)) h
+abbrev pub plain_items : Atoms → Tree → Tree → Items
+plain_items a x v = before_items a x v ⊕ spell v (in_brackets levels.Comma)
+
+pub property_spelled : (a : Atoms) (x v : Tree) (m : Bool) → is_method (object_property_kind a) (object_property_method a) ≡ m → spell (tree.object_property a x v) (in_brackets levels.Comma) ≡ method_or_property m (method_items a x v) (plain_items a x v)
+property_spelled a x v m h = ap (λ b. method_or_property b (method_items a x v) (plain_items a x v)) h
+
+-- a property that is no method, where the value stands alone or not
+property_laid : {names : Tables} (p : Pen) (a : Atoms) (x v : Tree) (short : Bool) → is_method (object_property_kind a) (object_property_method a) ≡ false → p.style.tables ≡ names → is_short names (object_property_shorthand a) x v ≡ short → layout (spell (tree.object_property a x v) (in_brackets levels.Comma)) p ≡ layout (spell v (in_brackets levels.Comma)) (layout (if short then nothing else key_items (needs_brackets (object_property_computed a) x) x (spell x (in_brackets levels.Comma)) ⊕ (punctuator colon ⊕ soft_space)) p)
+property_laid p a x v short m t s =
+    let key : Items = key_items (needs_brackets (object_property_computed a) x) x (spell x (in_brackets levels.Comma)) in
+    ap (λ i. layout i p) (property_spelled a x v false m) ∙ ap (layout (spell v (in_brackets levels.Comma))) (before_laid p (object_property_shorthand a) (written_name_in x) (looked_up_in (without_parentheses v)) key t ∙ ap (λ y. layout (if y then nothing else key ⊕ (punctuator colon ⊕ soft_space)) p) s)
 
 -- an expression that is a reference of this name, in parentheses or not
 record Refers (names : Tables) (t : Tree) (n : Named) : Type 0 where
-  spelled : (place : Place) → spell t place ≡ name n
+  laid : (place : Place) (p : Pen) → layout (spell t place) p ≡ with_name (printed_name p.style.tables n) p
   free : is_free_name (printed_name names n) ≡ true
   form : normal (renamed names t) ≡ tree.identifier_reference (unnumbered (printed_name names n))
 
@@ -285,10 +298,10 @@ none_is_some v e = both_ways false refl (ap is_some e)
 referred : {names : Tables} {c : Allowed} {t : Tree} → IsExpression names c t → (n : Named) → looked_up_in (without_parentheses t) ≡ Some n → Refers names t n
 referred {names} (family.a_reference {a} h) n s =
     let e = same_Some (reference_named a) n s in
-    record { spelled = λ place. ap (λ m. name m) e; free = subst (λ m. is_free_name (printed_name names m) ≡ true) e h; form = ap (λ m. tree.identifier_reference (unnumbered (printed_name names m))) e }
+    record { laid = λ place p. ap (λ m. with_name (printed_name p.style.tables m) p) e; free = subst (λ m. is_free_name (printed_name names m) ≡ true) e h; form = ap (λ m. tree.identifier_reference (unnumbered (printed_name names m))) e }
 referred (family.in_parentheses {a} {t} w) n s =
     let r = referred w n (sym ((asked w).parenthesized a).3 ∙ s) in
-    record { spelled = r.spelled; free = r.free; form = r.form }
+    record { laid = r.laid; free = r.free; form = r.form }
 referred w n s = absurd (none_is_some n s)
 
 -- the value is a reference that is printed as the key
@@ -342,20 +355,17 @@ same_property a s b k v x y m h d e f =
     λ i. tree.object_property (property_values (n i) (w i) (g i) (d i)) (e i) (f i)
 
 good_short_property : {names : Tables} (c : Allowed) (a b : Atoms) (v : Tree) → is_method (object_property_kind a) (object_property_method a) ≡ false → object_property_computed a ≡ false → shorthand_faults names (object_property_shorthand a) (tree.identifier_name b) v ≡ [] → is_short names (object_property_shorthand a) (tree.identifier_name b) v ≡ true → IsExpression names c v → PropertyOf names c (tree.object_property a (tree.identifier_name b) v)
-good_short_property {names} c a b v m d f h value place p l z y k =
+good_short_property {names} c a b v m d f h value p l z y k =
     let w : List ℕ = identifier_name_name b in
     let says = said {names = names} (object_property_shorthand a) b v f h in
     let r = referred value says.named says.reference in
     let free : is_free_name w ≡ true = subst (λ x. is_free_name x ≡ true) says.printed r.free in
     let form : normal (renamed names v) ≡ tree.identifier_reference (unnumbered w) = r.form ∙ ap (λ x. tree.identifier_reference (unnumbered x)) says.printed in
-    let around : Place = in_brackets levels.Comma place in
-    let alone : Items = spell v (in_front levels.Comma around) in
-    let whole : Items = with_key (key_items (needs_brackets (object_property_computed a) (tree.identifier_name b)) (tree.identifier_name b) (name (as_written w)) (name (as_written w))) (spell v (in_brackets levels.Comma around)) in
-    let laid : layout (spell (tree.object_property a (tree.identifier_name b) v) around) p ≡ layout (name says.named) p = ap (λ i. layout i p) (property_spelled a (tree.identifier_name b) v around false m) ∙ property_laid p (object_property_shorthand a) (Some w) (looked_up_in (without_parentheses v)) alone whole k.tables ∙ (ap (λ s. layout (if s then alone else whole) p) h ∙ ap (λ i. layout i p) (r.spelled (in_front levels.Comma around))) in
-    subst (λ q. Element names (ReadsProperty (with_in c)) p l q (tree.object_property a (tree.identifier_name b) v)) (sym laid) (record {
+    let q : Pen = with_name (printed_name p.style.tables says.named) p in
+    subst (λ q. Element names (ReadsProperty (with_in c)) p l q (tree.object_property a (tree.identifier_name b) v)) (sym (property_laid p a (tree.identifier_name b) v true m k.tables h ∙ r.laid (in_brackets levels.Comma) p)) (record {
       last = _;
       tokens = piece (line_of l) (Word (name_text p.style.ascii w)) done;
-      writes = subst (λ x. Writes names p l (layout (name says.named) p) (After (Word (name_text p.style.ascii x))) (piece (line_of l) (Word (name_text p.style.ascii x)) done)) says.printed (wrote_name says.named p l (free_spelled (printed_name names says.named) r.free) k);
+      writes = subst (λ x. Writes names p l q (After (Word (name_text p.style.ascii x))) (piece (line_of l) (Word (name_text p.style.ascii x)) done)) says.printed (wrote_name says.named p l (free_spelled (printed_name names says.named) r.free) k);
       operand = tt;
       semicolon = z;
       tree = tree.object_property (property_values kinds.Init false true false) (tree.identifier_name (named w)) (tree.identifier_reference (unnumbered w));
@@ -401,11 +411,11 @@ read_computed (grammar.a_number_key n) = refl
 read_computed (grammar.a_big_integer_key e) = refl
 read_computed (grammar.a_computed_key r) = refl
 
-keyed_parts : {names : Tables} (c : Allowed) (a : Atoms) (computed : Bool) (x v : Tree) (place : Place) (p p1 p2 p3 q : Pen) (l : Last) → is_method (object_property_kind a) (object_property_method a) ≡ false → object_property_computed a ≡ computed → is_short names (object_property_shorthand a) x v ≡ false → (g : GoodKey names p l p1 (with_in c) (needs_brackets computed x) x) (o : Writes names p1 g.last p2 (After (Sign colon)) (piece (line_of g.last) (Sign colon) done)) (n : Last) → Writes names p2 (After (Sign colon)) p3 n done → Good names p3 n q (with_in c) grammar.Assignment (in_brackets levels.Comma place).start v → Element names (ReadsProperty (with_in c)) p l q (tree.object_property a x v)
-keyed_parts {names} c a computed x v place p p1 p2 p3 q l m d s g o n w e = record {
+keyed_parts : {names : Tables} (c : Allowed) (a : Atoms) (computed : Bool) (x v : Tree) {p p1 p2 p3 q : Pen} {l : Last} → is_method (object_property_kind a) (object_property_method a) ≡ false → object_property_computed a ≡ computed → is_short names (object_property_shorthand a) x v ≡ false → (g : GoodKey names p l p1 (with_in c) (needs_brackets computed x) x) (o : Writes names p1 g.last p2 (After (Sign colon)) (piece (line_of g.last) (Sign colon) done)) (n : Soft names p2 (After (Sign colon)) p3) → Good names p3 n.last q (with_in c) grammar.Assignment v → Element names (ReadsProperty (with_in c)) p l q (tree.object_property a x v)
+keyed_parts {names} c a computed x v m d s g o n e = record {
   last = e.last;
   tokens = g.tokens ⧺ piece (line_of g.last) (Sign colon) e.tokens;
-  writes = wrote_both g.writes (wrote_both o (wrote_both w e.writes));
+  writes = wrote_both g.writes (wrote_both o (wrote_both n.writes e.writes));
   operand = e.operand;
   semicolon = e.semicolon;
   tree = tree.object_property (property_values kinds.Init false false (needs_brackets computed x)) g.tree e.tree;
@@ -414,21 +424,17 @@ keyed_parts {names} c a computed x v place p p1 p2 p3 q l m d s g o n w e = reco
 }
 
 good_keyed_property : {names : Tables} (c : Allowed) (a : Atoms) (computed : Bool) (x v : Tree) → is_method (object_property_kind a) (object_property_method a) ≡ false → object_property_computed a ≡ computed → is_short names (object_property_shorthand a) x v ≡ false → KeyOf names c computed x → Printed names c v → PropertyOf names c (tree.object_property a x v)
-good_keyed_property {names} c a computed x v m d s key value place p l z b k =
-    let around : Place = in_brackets levels.Comma place in
-    let inside : Items = spell x (in_brackets levels.Comma around) in
-    let alone : Items = spell x (in_front levels.Comma around) in
-    let p1 : Pen = layout (key_items (needs_brackets computed x) x inside alone) p in
+good_keyed_property {names} c a computed x v m d s key value p l z b k =
+    let key_at : Bool → Items = λ y. key_items (needs_brackets y x) x (spell x (in_brackets levels.Comma)) in
+    let p1 : Pen = layout (key_at computed) p in
     let p2 : Pen = layout (punctuator colon) p1 in
     let p3 : Pen = layout soft_space p2 in
-    let g = key around p l z b k in
+    let g = key p l z b k in
     let o = wrote_punctuator colon p1 g.last tt tt g.operand g.writes.knows in
     let n = soft_space_written p2 (After (Sign colon)) o.knows in
-    let e = value (in_brackets levels.Comma around) p3 n.last (n.semicolon ∙ g.semicolon) (n.ready tt) n.writes.knows in
-    let q : Pen = layout (spell v (in_brackets levels.Comma around)) p3 in
-    let whole : Items = with_key (key_items (needs_brackets (object_property_computed a) x) x inside alone) (spell v (in_brackets levels.Comma around)) in
-    let laid : layout (spell (tree.object_property a x v) around) p ≡ q = ap (λ i. layout i p) (property_spelled a x v around false m) ∙ property_laid p (object_property_shorthand a) (written_name_in x) (looked_up_in (without_parentheses v)) (spell v (in_front levels.Comma around)) whole k.tables ∙ (ap (λ y. layout (if y then spell v (in_front levels.Comma around) else whole) p) s ∙ ap (λ y. layout (with_key (key_items (needs_brackets y x) x inside alone) (spell v (in_brackets levels.Comma around))) p) d) in
-    subst (λ r. Element names (ReadsProperty (with_in c)) p l r (tree.object_property a x v)) (sym laid) (keyed_parts c a computed x v around p p1 p2 p3 q l m d s g o n.last n.writes e)
+    let e = value (in_brackets levels.Comma) p3 n.last (n.semicolon ∙ g.semicolon) (n.ready tt) n.writes.knows in
+    let laid = property_laid p a x v false m k.tables s ∙ ap (λ y. layout (spell v (in_brackets levels.Comma)) (layout (key_at y ⊕ (punctuator colon ⊕ soft_space)) p)) d in
+    subst (λ r. Element names (ReadsProperty (with_in c)) p l r (tree.object_property a x v)) (sym laid) (keyed_parts c a computed x v m d s g o n e)
 
 -- ---- either
 

@@ -15,7 +15,7 @@ use Rattle.jsgen_model.specs.Items.{◌⊕◌, due_semicolon}
 use Rattle.jsgen_model.specs.Layout.{Pen, layout, empty_pen, style_of}
 use Rattle.jsgen_model.specs.Grammar as grammar
 use Rattle.jsgen_model.specs.Normal.{nothing_of}
-use Rattle.jsgen_model.specs.Spell.{Settings, spell_body, spell_directives, settings_of, printed, text_bytes}
+use Rattle.jsgen_model.specs.Spell.{spell_body, spell_directives, printed, text_bytes}
 use Rattle.jsgen_model.specs.Valid.{IsValid, surroundings_of}
 use Rattle.jsgen_model.specs.Plain.{IsPlain, IsQuiet}
 use Rattle.jsgen_model.specs.Reading.{IsReadAs}
@@ -42,10 +42,9 @@ style_indents options tables = by options.indent_char
 
 read_as : (options : Options) (tables : Tables) (t : Tree) → IsProgram tables t → let job : JobData = record { options = options; tables = tables; program = t } in IsReadAs (printed job) job
 read_as options tables t (family.a_program {a} {comments} {directives} {body} v w) =
-    let settings : Settings = settings_of (record { options = options; tables = tables; program = t }) in
     let p : Pen = empty_pen (style_of options tables) options.initial_indent in
-    let q : Pen = layout (spell_directives directives settings ⊕ spell_body body settings) p in
-    let b = whole_body directives body v (body_stated w) settings p (Open false) refl tt (record { indent = style_indents options tables; tables = refl; ending = tt }) in
+    let q : Pen = layout (spell_directives directives ⊕ spell_body body) p in
+    let b = whole_body directives body v (body_stated w) p (Open false) refl tt (record { indent = style_indents options tables; tables = refl; ending = tt }) in
     let d = due_ends q b.last b.ready b.writes.knows in
     record {
       tokens = b.tokens ⧺ d.tokens;

@@ -12,7 +12,8 @@ use Rattle.jsgen_model.specs.Grammar.{Allowed, ReadsStatement, ReadsItem}
 use Rattle.jsgen_model.specs.Grammar as grammar
 use Rattle.jsgen_model.specs.Normal.{normal, normal_trees}
 use Rattle.jsgen_model.specs.Renamed.{renamed, renamed_trees}
-use Rattle.jsgen_model.specs.Spell.{Settings, spell, among_statements, within_statement, Shape, a_block, an_if, shape}
+use Rattle.jsgen_place.specs.Place.{among_statements, within_statement}
+use Rattle.jsgen_model.specs.Spell.{spell, Shape, a_block, an_if, shape}
 use Rattle.jsgen_token_laws.proofs.Last.{Last, Open, line_of, Ready, Knows}
 use Rattle.jsgen_token_laws.proofs.Writes.{Writes, wrote_both, wrote_and_none}
 use Rattle.jsgen_token_laws.proofs.Steps.{Gap, gap, indentation_written, end_written, end_left}
@@ -135,20 +136,20 @@ goes_on s = false
 
 -- a statement, printed among others, and where it may go on with a line there too
 pub record Stated (names : Tables) (c : Allowed) (t : Tree) : Type 0 where
-  pub among : (settings : Settings) → StatedAt names c t (spell t (among_statements settings))
-  pub within : goes_on (shape t) ≡ true → (settings : Settings) → StatedAt names c t (spell t (within_statement settings))
+  pub among : StatedAt names c t (spell t among_statements)
+  pub within : goes_on (shape t) ≡ true → StatedAt names c t (spell t within_statement)
 
 -- one that goes on with no line
-pub stated_among : {names : Tables} {c : Allowed} {t : Tree} → goes_on (shape t) ≡ false → ((settings : Settings) → StatedAt names c t (spell t (among_statements settings))) → Stated names c t
+pub stated_among : {names : Tables} {c : Allowed} {t : Tree} → goes_on (shape t) ≡ false → StatedAt names c t (spell t among_statements) → Stated names c t
 stated_among {t = t} h f = record { among = f; within = λ g. absurd (both_ways (goes_on (shape t)) h g) }
 
 -- a statement or a declaration, printed among statements
 abbrev pub Listed : Tables → Allowed → Tree → Type 0
-Listed names c t = (settings : Settings) → StandsAt names (ReadsItem c) (SameTree names t) (spell t (among_statements settings))
+Listed names c t = StandsAt names (ReadsItem c) (SameTree names t) (spell t among_statements)
 
 -- a statement is read as what stands among others
 pub item_since : {names : Tables} {c : Allowed} {is_open : Bool} {Same : Tree → Type 0} {p q : Pen} {l : Last} → Stands names (ReadsClosed c is_open) Same p l q → Stands names (ReadsItem c) Same p l q
 item_since g = stands_since (λ e ts u s r. grammar.a_statement (r false (λ h. absurd (both_ways false refl h)))) (λ u s. s) g
 
 pub listed_statement : {names : Tables} {c : Allowed} (t : Tree) → Stated names c t → Listed names c t
-listed_statement t f settings p l z y k = item_since (f.among settings p l z y k)
+listed_statement t f p l z y k = item_since (f.among p l z y k)

@@ -1,17 +1,19 @@
 -- Expression statements, and what is told of any statement.
 use Rattle.std.proofs.Common.{◌≡◌, false, true, refl, ap, ◌∙◌, subst}
+use Rattle.jsgen_syntax.specs.declared.precedence.Precedence.TheVariants as levels
 use Rattle.jsgen_tree.specs.Job.{Tables}
 use Rattle.jsgen_tree.specs.Inside.{ends_open}
 use Rattle.jsgen_tree.specs.Tree.{Tree, Atoms}
 use Rattle.jsgen_tree.specs.Nodes as tree
 use Rattle.jsgen_model.specs.Tokens.{done}
 use Rattle.jsgen_model.specs.Items.{◌⊕◌, statement_begins}
-use Rattle.jsgen_model.specs.Layout.{Pen, layout}
+use Rattle.jsgen_model.specs.Layout.{Pen, layout, statement}
 use Rattle.jsgen_model.specs.Grammar.{Allowed, with_in}
 use Rattle.jsgen_model.specs.Grammar as grammar
 use Rattle.jsgen_model.specs.Normal.{normal, nothing_of}
 use Rattle.jsgen_model.specs.Renamed.{renamed}
-use Rattle.jsgen_model.specs.Spell.{Settings, spell, whole_statement}
+use Rattle.jsgen_place.specs.Place.{in_brackets}
+use Rattle.jsgen_model.specs.Spell.{spell}
 use Rattle.jsgen_token_laws.proofs.Last.{Last}
 use Rattle.jsgen_token_laws.proofs.Writes.{then_done}
 use Rattle.jsgen_token_laws.proofs.Steps.{gap, begins_written}
@@ -23,8 +25,8 @@ use Rattle.jsgen_reading_laws.proofs.Bodies.{EmptyAlone}
 
 -- ---- expression statements
 
-unended_expression : {names : Tables} {p q : Pen} {l : Last} (c : Allowed) (a : Atoms) (e : Tree) (settings : Settings) → Good names p l q (with_in c) grammar.Expression (whole_statement settings).start e → Unended names (ReadsClosed c false) (SameTree names (tree.expression_statement a e)) p l q
-unended_expression c a e settings g = record {
+unended_expression : {names : Tables} {q : Pen} {l : Last} (c : Allowed) (a : Atoms) (e : Tree) (p : Pen) → let p1 : Pen = record p { start = statement } in Good names p1 l q (with_in c) grammar.Expression e → Unended names (ReadsClosed c false) (SameTree names (tree.expression_statement a e)) p1 l q
+unended_expression c a e p g = record {
   last = g.last;
   tokens = g.tokens;
   writes = g.writes;
@@ -36,13 +38,13 @@ unended_expression c a e settings g = record {
 }
 
 pub good_expression_statement : {names : Tables} (c : Allowed) (a : Atoms) (e : Tree) → Printed names c e → Stated names c (tree.expression_statement a e)
-good_expression_statement {names} c a e f = stated_among refl (λ settings. whole_line (statement_begins ⊕ spell e (whole_statement settings)) (inside settings))
+good_expression_statement {names} c a e f = stated_among refl (whole_line (statement_begins ⊕ spell e (in_brackets levels.Lowest)) inside)
   where
-    inside : (settings : Settings) → UnendedAt names (ReadsClosed c false) (SameTree names (tree.expression_statement a e)) (statement_begins ⊕ spell e (whole_statement settings))
-    inside settings p l z y k =
+    inside : UnendedAt names (ReadsClosed c false) (SameTree names (tree.expression_statement a e)) (statement_begins ⊕ spell e (in_brackets levels.Lowest))
+    inside p l z y k =
         let b = begins_written p l k in
-        let g = f (whole_statement settings) (layout statement_begins p) b.last (b.semicolon ∙ z) (b.ready y) b.writes.knows in
-        blank_before_unended (gap b) (unended_expression c a e settings g)
+        let g = f (in_brackets levels.Lowest) (layout statement_begins p) b.last (b.semicolon ∙ z) (b.ready y) b.writes.knows in
+        blank_before_unended (gap b) (unended_expression c a e p g)
 
 -- ---- any statement
 
@@ -71,4 +73,4 @@ normal_open (family.a_try v w) = refl
 -- of all statements an empty one alone is spelled as one
 pub empty_alone : {names : Tables} {c : Allowed} {t : Tree} → IsStatement names c t → EmptyAlone names t
 empty_alone family.an_empty_statement e = refl
-empty_alone v e = absurd (cc)
+empty_alone v e = absurd cc

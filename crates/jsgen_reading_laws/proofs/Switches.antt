@@ -7,11 +7,13 @@ use Rattle.jsgen_tree.specs.Nodes as tree
 use Rattle.jsgen_model.specs.Punctuator.{colon, Round, Brace}
 use Rattle.jsgen_model.specs.Tokens.{Tokens, done, piece, group, ◌⧺◌, Word, Sign}
 use Rattle.jsgen_model.specs.Items.{Items, ◌⊕◌, word, punctuator, soft_space, soft_line, body_space, deeper}
-use Rattle.jsgen_model.specs.Layout.{Pen, nowhere, layout, deeper_level}
+use Rattle.jsgen_model.specs.Layout.{Pen, layout, deeper_level}
 use Rattle.jsgen_model.specs.Grammar.{Allowed, ReadsItem, ReadsCase, ReadsCases, ReadsStatements, with_in}
 use Rattle.jsgen_model.specs.Grammar as grammar
 use Rattle.jsgen_model.specs.Normal.{nothing_of}
-use Rattle.jsgen_model.specs.Spell.{Settings, Place, spell, spell_only, spell_statements, among_statements, within_statement, in_brackets, braces, case_items, other, shape, body_items}
+use Rattle.jsgen_place.specs.declared.place.Place.{Place}
+use Rattle.jsgen_place.specs.Place.{among_statements, within_statement, in_brackets}
+use Rattle.jsgen_model.specs.Spell.{spell, spell_only, spell_statements, braces, case_items, other, shape, body_items}
 use Rattle.jsgen_token_laws.proofs.Characters.{letters_spelled}
 use Rattle.jsgen_token_laws.proofs.Last.{Last, Open, After, line_of}
 use Rattle.jsgen_token_laws.proofs.Writes.{Writes, wrote_both, same_writes, then_assoc}
@@ -35,28 +37,28 @@ deeper_stands items f p l z y k =
     record { last = g.last; tokens = g.tokens; writes = same_writes p (record q { depth = p.depth }) refl refl (at_depth p.depth g.writes.knows) g.writes; ready = g.ready; reading = g.reading; reads = g.reads; same = g.same }
 
 abbrev pub ConsequentOf : Tables → Allowed → Trees → Type 0
-ConsequentOf names c ss = (settings : Settings) → RowAt names c (case_items ss (spell_only ss settings) (spell_statements ss settings)) ss
+ConsequentOf names c ss = RowAt names c (case_items ss (spell_only ss) (spell_statements ss)) ss
 
 -- on lines of their own
-on_lines : {names : Tables} (c : Allowed) (ss : Trees) (settings : Settings) → RowAt names c (spell_statements ss settings) ss → RowAt names c (soft_line ⊕ deeper (spell_statements ss settings)) ss
-on_lines c ss settings row = behind_blank soft_line (deeper (spell_statements ss settings)) soft_line_written (deeper_stands (spell_statements ss settings) row)
+on_lines : {names : Tables} (c : Allowed) (ss : Trees) → RowAt names c (spell_statements ss) ss → RowAt names c (soft_line ⊕ deeper (spell_statements ss)) ss
+on_lines c ss row = behind_blank soft_line (deeper (spell_statements ss)) soft_line_written (deeper_stands (spell_statements ss) row)
 
 pub no_consequent : {names : Tables} (c : Allowed) → ConsequentOf names c no_trees
-no_consequent c settings = on_lines c no_trees settings (row_none (λ last. grammar.no_statement))
+no_consequent c = on_lines c no_trees (row_none (λ last. grammar.no_statement))
 
 -- the one statement or declaration there, as a body
 abbrev pub OnlyOf : Tables → Allowed → Tree → Type 0
-OnlyOf names c t = (settings : Settings) → StandsAt names (ReadsItem c) (SameTree names t) (spell_only (more t no_trees) settings)
+OnlyOf names c t = StandsAt names (ReadsItem c) (SameTree names t) (spell_only (more t no_trees))
 
 pub only_statement : {names : Tables} (c : Allowed) (t : Tree) → EmptyAlone names t → Stated names c t → OnlyOf names c t
-only_statement c t m f settings p l z y k = item_since (good_body c t settings m f p l z y k)
+only_statement c t m f p l z y k = item_since (good_body c t m f p l z y k)
 
 pub only_declaration : {names : Tables} (c : Allowed) (t : Tree) → shape t ≡ other → Listed names c t → OnlyOf names c t
-only_declaration {names} c t h f settings = subst (λ s. StandsAt names (ReadsItem c) (SameTree names t) (body_items s (spell t (within_statement settings)) (spell t (among_statements settings)))) (sym h) (behind_blank body_space (spell t (among_statements settings)) body_blank (f settings))
+only_declaration {names} c t h f = subst (λ s. StandsAt names (ReadsItem c) (SameTree names t) (body_items s (spell t within_statement) (spell t among_statements))) (sym h) (behind_blank body_space (spell t among_statements) body_blank f)
 
-pub some_consequents : {names : Tables} (c : Allowed) (t : Tree) (ss : Trees) → OnlyOf names c t → ((settings : Settings) → RowAt names c (spell_statements (more t ss) settings) (more t ss)) → ConsequentOf names c (more t ss)
-some_consequents c t no_trees f row settings = row_alone (statements_join c) t (spell_only (more t no_trees) settings) (f settings)
-some_consequents c t ss f row settings = on_lines c (more t ss) settings (row settings)
+pub some_consequents : {names : Tables} (c : Allowed) (t : Tree) (ss : Trees) → OnlyOf names c t → (RowAt names c (spell_statements (more t ss)) (more t ss)) → ConsequentOf names c (more t ss)
+some_consequents c t no_trees f row = row_alone (statements_join c) t (spell_only (more t no_trees)) f
+some_consequents c t ss f row = on_lines c (more t ss) row
 
 -- ---- cases
 
@@ -65,19 +67,19 @@ abbrev ReadsAs : Allowed → Bool → Bool → Bool → Tokens → Tree → Type
 ReadsAs c default rest last ts t = ReadsCase c last default rest ts t
 
 abbrev pub CaseOf : Tables → Allowed → Bool → Bool → Tree → Type 0
-CaseOf names c default rest t = (settings : Settings) → StandsAt names (ReadsAs c default rest) (SameTree names t) (spell t (among_statements settings))
+CaseOf names c default rest t = StandsAt names (ReadsAs c default rest) (SameTree names t) (spell t among_statements)
 
-case_parts : {names : Tables} (c : Allowed) (default : Bool) (a : Atoms) (t : Tree) (ss : Trees) (p p1 p2 p3 p4 q : Pen) (l m : Last) → Writes names p l p2 m (piece (line_of l) (Word (codes "case")) done) → (g : Good names p2 m p3 (with_in c) grammar.Expression nowhere t) → Writes names p3 g.last p4 (After (Sign colon)) (piece (line_of g.last) (Sign colon) done) → Stands names (ReadsStatements c) (SameTrees names ss) p4 (After (Sign colon)) q → Stands names (ReadsAs c default default) (SameTree names (tree.switch_case a (given t) ss)) p l q
+case_parts : {names : Tables} (c : Allowed) (default : Bool) (a : Atoms) (t : Tree) (ss : Trees) (p p1 p2 p3 p4 q : Pen) (l m : Last) → Writes names p l p2 m (piece (line_of l) (Word (codes "case")) done) → (g : Good names p2 m p3 (with_in c) grammar.Expression t) → Writes names p3 g.last p4 (After (Sign colon)) (piece (line_of g.last) (Sign colon) done) → Stands names (ReadsStatements c) (SameTrees names ss) p4 (After (Sign colon)) q → Stands names (ReadsAs c default default) (SameTree names (tree.switch_case a (given t) ss)) p l q
 case_parts c default a t ss p p1 p2 p3 p4 q l m w g o b =
     behind_tokens (piece (line_of l) (Word (codes "case")) (g.tokens ⧺ piece (line_of g.last) (Sign colon) done)) (λ us. tree.switch_case (nothing_of 0) (given g.tree) us) (wrote_both w (wrote_both g.writes o))
     (λ e ts us r. grammar.a_case (line_of g.last) (then_assoc g.tokens (piece (line_of g.last) (Sign colon) done) ts) g.reads r) (λ us s i. tree.switch_case (nothing_of 0) (given (g.same i)) (s i)) b
 
-abbrev case_line : Tree → Trees → Settings → Items
-case_line t ss settings = word (codes "case") ⊕ (soft_space ⊕ (spell t (in_brackets levels.Lowest (among_statements settings)) ⊕ (punctuator colon ⊕ case_items ss (spell_only ss settings) (spell_statements ss settings))))
+abbrev case_line : Tree → Trees → Items
+case_line t ss = word (codes "case") ⊕ (soft_space ⊕ (spell t (in_brackets levels.Lowest) ⊕ (punctuator colon ⊕ case_items ss (spell_only ss) (spell_statements ss))))
 
-case_read : {names : Tables} (c : Allowed) (default : Bool) (a : Atoms) (t : Tree) (ss : Trees) → Printed names c t → ConsequentOf names c ss → (settings : Settings) → StandsAt names (ReadsAs c default default) (SameTree names (tree.switch_case a (given t) ss)) (case_line t ss settings)
-case_read c default a t ss f consequent settings p l z y k =
-    let at : Place = in_brackets levels.Lowest (among_statements settings) in
+case_read : {names : Tables} (c : Allowed) (default : Bool) (a : Atoms) (t : Tree) (ss : Trees) → Printed names c t → ConsequentOf names c ss → StandsAt names (ReadsAs c default default) (SameTree names (tree.switch_case a (given t) ss)) (case_line t ss)
+case_read c default a t ss f consequent p l z y k =
+    let at : Place = in_brackets levels.Lowest in
     let p1 : Pen = layout (word (codes "case")) p in
     let p2 : Pen = layout soft_space p1 in
     let p3 : Pen = layout (spell t at) p2 in
@@ -86,25 +88,25 @@ case_read c default a t ss f consequent settings p l z y k =
     let s = soft_space_written p1 (After (Word (codes "case"))) o.knows in
     let g = f at p2 s.last (s.semicolon ∙ z) (s.ready tt) s.writes.knows in
     let w = wrote_punctuator colon p3 g.last tt tt g.operand g.writes.knows in
-    let b = consequent settings p4 (After (Sign colon)) g.semicolon tt w.knows in
-    case_parts c default a t ss p p1 p2 p3 p4 (layout (case_items ss (spell_only ss settings) (spell_statements ss settings)) p4) l s.last (wrote_both o s.writes) g w b
+    let b = consequent p4 (After (Sign colon)) g.semicolon tt w.knows in
+    case_parts c default a t ss p p1 p2 p3 p4 (layout (case_items ss (spell_only ss) (spell_statements ss)) p4) l s.last (wrote_both o s.writes) g w b
 
 pub good_case : {names : Tables} (c : Allowed) (default : Bool) (a : Atoms) (t : Tree) (ss : Trees) → Printed names c t → ConsequentOf names c ss → CaseOf names c default default (tree.switch_case a (given t) ss)
-good_case c default a t ss f consequent settings = indented_line (case_line t ss settings) (case_read c default a t ss f consequent settings)
+good_case c default a t ss f consequent = indented_line (case_line t ss) (case_read c default a t ss f consequent)
 
-abbrev default_line : Trees → Settings → Items
-default_line ss settings = word (codes "default") ⊕ (punctuator colon ⊕ case_items ss (spell_only ss settings) (spell_statements ss settings))
+abbrev default_line : Trees → Items
+default_line ss = word (codes "default") ⊕ (punctuator colon ⊕ case_items ss (spell_only ss) (spell_statements ss))
 
-default_read : {names : Tables} (c : Allowed) (a : Atoms) (ss : Trees) → ConsequentOf names c ss → (settings : Settings) → StandsAt names (ReadsAs c true false) (SameTree names (tree.switch_case a absent ss)) (default_line ss settings)
-default_read c a ss consequent settings p l z y k =
+default_read : {names : Tables} (c : Allowed) (a : Atoms) (ss : Trees) → ConsequentOf names c ss → StandsAt names (ReadsAs c true false) (SameTree names (tree.switch_case a absent ss)) (default_line ss)
+default_read c a ss consequent p l z y k =
     let p1 : Pen = layout (word (codes "default")) p in
     let p2 : Pen = layout (punctuator colon) p1 in
     let o = wrote_word (codes "default") p l (letters_spelled 100 (codes "efault") refl) k in
     let w = wrote_punctuator colon p1 (After (Word (codes "default"))) tt tt tt o.knows in
-    behind_tokens (piece (line_of l) (Word (codes "default")) (piece false (Sign colon) done)) (λ us. tree.switch_case (nothing_of 0) absent us) (wrote_both o w) (λ e ts us r. grammar.a_default r) (λ us s. ap (λ vs. tree.switch_case (nothing_of 0) absent vs) s) (consequent settings p2 (After (Sign colon)) z tt w.knows)
+    behind_tokens (piece (line_of l) (Word (codes "default")) (piece false (Sign colon) done)) (λ us. tree.switch_case (nothing_of 0) absent us) (wrote_both o w) (λ e ts us r. grammar.a_default r) (λ us s. ap (λ vs. tree.switch_case (nothing_of 0) absent vs) s) (consequent p2 (After (Sign colon)) z tt w.knows)
 
 pub good_default : {names : Tables} (c : Allowed) (a : Atoms) (ss : Trees) → ConsequentOf names c ss → CaseOf names c true false (tree.switch_case a absent ss)
-good_default c a ss consequent settings = indented_line (default_line ss settings) (default_read c a ss consequent settings)
+good_default c a ss consequent = indented_line (default_line ss) (default_read c a ss consequent)
 
 -- ---- rows of cases
 
@@ -120,26 +122,26 @@ cases_join c default rest = record {
 
 -- where one without a test may come, as a whole row, and as the rest of one, before which one might come or not
 abbrev pub CasesOf : Tables → Allowed → Bool → Trees → Type 0
-CasesOf names c default ts = (settings : Settings) → StandsAt names (ReadsAll c default) (SameTrees names ts) (spell_statements ts settings) × ((before : Bool) → GivesRest names (ReadsAs c before default) (ReadsAll c before) (spell_statements ts settings) ts)
+CasesOf names c default ts = StandsAt names (ReadsAll c default) (SameTrees names ts) (spell_statements ts) × ((before : Bool) → GivesRest names (ReadsAs c before default) (ReadsAll c before) (spell_statements ts) ts)
 
 pub no_cases : {names : Tables} (c : Allowed) (default : Bool) → CasesOf names c default no_trees
-no_cases c default settings = (row_none (λ last h. grammar.no_case), λ before. rest_none (cases_join c before default))
+no_cases c default = (row_none (λ last h. grammar.no_case), λ before. rest_none (cases_join c before default))
 
 pub more_cases : {names : Tables} (c : Allowed) (default rest : Bool) (t : Tree) (ts : Trees) → CaseOf names c default rest t → CasesOf names c rest ts → CasesOf names c default (more t ts)
-more_cases c default rest t ts f h settings =
-    let others = (h settings).1 default in (
-      row_more t ts (spell t (among_statements settings)) (spell_statements ts settings) (f settings) others,
-      λ before. rest_more (cases_join c before default) t ts (spell t (among_statements settings)) (spell_statements ts settings) (f settings) others,
+more_cases c default rest t ts f h =
+    let others = h.1 default in (
+      row_more t ts (spell t among_statements) (spell_statements ts) f others,
+      λ before. rest_more (cases_join c before default) t ts (spell t among_statements) (spell_statements ts) f others,
     )
 
 -- ---- the whole
 
-switch_read : {names : Tables} (c : Allowed) (a : Atoms) (e : Tree) (cases : Trees) → Printed names c e → CasesOf names c true cases → (settings : Settings) → StatedAt names c (tree.switch_statement a e cases) (head_items (codes "switch") e (among_statements settings) ⊕ (soft_space ⊕ braces cases (spell_statements cases settings)))
-switch_read c a e cases f rows settings p l z y k =
-    let p1 : Pen = layout (head_items (codes "switch") e (among_statements settings)) p in
-    let h = good_head (codes "switch") (letters_spelled 115 (codes "witch") refl) c e f (among_statements settings) p l z k in
+switch_read : {names : Tables} (c : Allowed) (a : Atoms) (e : Tree) (cases : Trees) → Printed names c e → CasesOf names c true cases → StatedAt names c (tree.switch_statement a e cases) (head_items (codes "switch") e ⊕ (soft_space ⊕ braces cases (spell_statements cases)))
+switch_read c a e cases f rows p l z y k =
+    let p1 : Pen = layout (head_items (codes "switch") e) p in
+    let h = good_head (codes "switch") (letters_spelled 115 (codes "witch") refl) c e f p l z k in
     let s = soft_space_written p1 (Open false) h.writes.knows in
-    let g = braces_written (λ x. grammar.no_case) cases settings (rows settings).0 (layout soft_space p1) s.last (s.semicolon ∙ h.semicolon) s.writes.knows in
+    let g = braces_written (λ x. grammar.no_case) cases rows.0 (layout soft_space p1) s.last (s.semicolon ∙ h.semicolon) s.writes.knows in
     record {
       last = Open false;
       tokens = piece (line_of l) (Word (codes "switch")) (group h.next Round h.tokens (group (line_of s.last) Brace g.tokens done));
@@ -153,7 +155,7 @@ switch_read c a e cases f rows settings p l z y k =
 pub good_switch : {names : Tables} (c : Allowed) (a : Atoms) (e : Tree) (cases : Trees) → Printed names c e → CasesOf names c true cases → Stated names c (tree.switch_statement a e cases)
 good_switch {names} c a e cases f rows = stated_among refl by
   where
-    by : (settings : Settings) → StatedAt names c (tree.switch_statement a e cases) (spell (tree.switch_statement a e cases) (among_statements settings))
-    by settings =
-        let items : Items = head_items (codes "switch") e (among_statements settings) ⊕ (soft_space ⊕ braces cases (spell_statements cases settings)) in
-        indented_line (items ⊕ soft_line) (before_blank items soft_line (switch_read c a e cases f rows settings) soft_line_written)
+    by : StatedAt names c (tree.switch_statement a e cases) (spell (tree.switch_statement a e cases) among_statements)
+    by =
+        let items : Items = head_items (codes "switch") e ⊕ (soft_space ⊕ braces cases (spell_statements cases)) in
+        indented_line (items ⊕ soft_line) (before_blank items soft_line (switch_read c a e cases f rows) soft_line_written)

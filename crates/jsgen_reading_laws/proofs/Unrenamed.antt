@@ -8,7 +8,7 @@ use Rattle.jsgen_tree.specs.Values.{variable_declaration_kind, variable_declarat
 use Rattle.jsgen_tree.specs.Inside.{written_name_in, is_proto, is_method, is_negative_number}
 use Rattle.jsgen_tree.specs.Job.{Tables, no_tables}
 use Rattle.jsgen_tree.specs.Nodes as tree
-use Rattle.jsgen_model.specs.Normal.{normal, normal_slots, normal_maybe, normal_trees, normal_maybe_trees, unbraced, nothing_of, chain, joined, links, flattened, link_values, call_values, property_values, is_written_as_method, function_values}
+use Rattle.jsgen_model.specs.Normal.{normal, normal_slots, normal_maybe, normal_trees, normal_maybe_trees, unbraced, nothing_of, chain, joined, links, flattened, link_values, call_values, property_values, is_written_as_method, function_values, if_set}
 use Rattle.jsgen_model.specs.Renamed.{renamed, renamed_slots, renamed_maybe, renamed_trees, renamed_maybe_trees}
 
 -- ---- by any tables
@@ -33,8 +33,8 @@ mutual
   unrenamed (tree.program a comments directives body) = let e = unrenamed_trees directives in let f = unrenamed_trees body in λ i. tree.program (nothing_of 4) no_trees (e i) (f i)
   unrenamed (tree.directive a) = refl
   unrenamed (tree.expression_statement a expression) = ap (λ e. tree.expression_statement (nothing_of 0) e) (unrenamed expression)
-  unrenamed (tree.variable_declaration a declarations) = ap (λ ts. tree.variable_declaration (bare (declaration_kind (variable_declaration_kind a) ∷ variable_declaration_declare a ∷ [])) ts) (unrenamed_trees declarations)
-  unrenamed (tree.variable_declarator a id init) = let e = unrenamed id in let f = unrenamed_maybe init in λ i. tree.variable_declarator (bare (variable_declarator_definite a ∷ [])) (e i) (f i)
+  unrenamed (tree.variable_declaration a declarations) = ap (λ ts. tree.variable_declaration (bare (declaration_kind (variable_declaration_kind a) ∷ if_set (variable_declaration_declare a) ∷ [])) ts) (unrenamed_trees declarations)
+  unrenamed (tree.variable_declarator a id init) = let e = unrenamed id in let f = unrenamed_maybe init in λ i. tree.variable_declarator (bare (if_set (variable_declarator_definite a) ∷ [])) (e i) (f i)
   unrenamed (tree.binding_identifier a) = refl
   unrenamed (tree.identifier_reference a) = refl
   unrenamed (tree.this_expression a) = refl
@@ -51,7 +51,7 @@ mutual
   unrenamed (tree.empty_statement a) = refl
   unrenamed (tree.for_statement a init test update_child body) = let e = unrenamed_maybe init in let f = unrenamed_maybe test in let g = unrenamed_maybe update_child in let h = unrenamed body in λ i. tree.for_statement (nothing_of 0) (e i) (f i) (g i) (h i)
   unrenamed (tree.for_in_statement a left right body) = let e = unrenamed left in let f = unrenamed right in let g = unrenamed body in λ i. tree.for_in_statement (nothing_of 0) (e i) (f i) (g i)
-  unrenamed (tree.for_of_statement a left right body) = let e = unrenamed left in let f = unrenamed right in let g = unrenamed body in λ i. tree.for_of_statement (bare (for_of_statement_is_await a ∷ [])) (e i) (f i) (g i)
+  unrenamed (tree.for_of_statement a left right body) = let e = unrenamed left in let f = unrenamed right in let g = unrenamed body in λ i. tree.for_of_statement (bare (if_set (for_of_statement_is_await a) ∷ [])) (e i) (f i) (g i)
   unrenamed (tree.while_statement a test body) = let e = unrenamed test in let f = unrenamed body in λ i. tree.while_statement (nothing_of 0) (e i) (f i)
   unrenamed (tree.do_while_statement a body test) = let e = unrenamed body in let f = unrenamed test in λ i. tree.do_while_statement (nothing_of 0) (e i) (f i)
   unrenamed (tree.label_identifier a) = refl
@@ -86,10 +86,10 @@ mutual
   unrenamed (tree.conditional a test consequent alternate) = let e = unrenamed test in let f = unrenamed consequent in let g = unrenamed alternate in λ i. tree.conditional (nothing_of 0) (e i) (f i) (g i)
   unrenamed (tree.sequence a expressions) = ap (λ ts. tree.sequence (nothing_of 0) (flattened ts)) (unrenamed_trees expressions)
   unrenamed (tree.assignment a left right) = let e = unrenamed left in let f = unrenamed right in λ i. tree.assignment (bare (assignment_operator (assignment_expression_operator a) ∷ [])) (e i) (f i)
-  unrenamed (tree.formal_parameter a pattern initializer) = let e = unrenamed pattern in let f = unrenamed_maybe initializer in λ i. tree.formal_parameter (bare (formal_parameter_is_override a ∷ formal_parameter_readonly a ∷ formal_parameter_optional a ∷ [])) (e i) (f i)
+  unrenamed (tree.formal_parameter a pattern initializer) = let e = unrenamed pattern in let f = unrenamed_maybe initializer in λ i. tree.formal_parameter (bare (if_set (formal_parameter_is_override a) ∷ if_set (formal_parameter_readonly a) ∷ if_set (formal_parameter_optional a) ∷ [])) (e i) (f i)
   unrenamed (tree.formal_parameter_rest a argument) = ap (λ e. tree.formal_parameter_rest (nothing_of 0) e) (unrenamed argument)
   unrenamed (tree.formal_parameters a items rest) = let e = unrenamed_trees items in let f = unrenamed_maybe rest in λ i. tree.formal_parameters (nothing_of 0) (e i) (f i)
-  unrenamed (tree.arrow_function a params body) = let e = unrenamed params in let f = unrenamed body in λ i. tree.arrow_function (bare (arrow_function_expression_is_async a ∷ no_value ∷ no_value ∷ [])) (e i) (f i)
+  unrenamed (tree.arrow_function a params body) = let e = unrenamed params in let f = unrenamed body in λ i. tree.arrow_function (bare (if_set (arrow_function_expression_is_async a) ∷ no_value ∷ no_value ∷ [])) (e i) (f i)
   unrenamed (tree.function a id params body) = let e = unrenamed_maybe id in let f = unrenamed params in let g = unrenamed_maybe body in λ i. tree.function (function_values (function_kind a) (function_is_async a) (function_generator a) (function_declare a)) (e i) (f i) (g i)
   unrenamed (tree.function_body a directives statements) = let e = unrenamed_trees directives in let f = unrenamed_trees statements in λ i. tree.function_body (nothing_of 0) (e i) (f i)
   unrenamed (tree.return_statement a argument) = ap (λ m. tree.return_statement (nothing_of 0) m) (unrenamed_maybe argument)

@@ -1,6 +1,6 @@
 -- Why a valid tree is of the families over which the induction goes: one lemma a row.
-use Rattle.std.proofs.Common.{◌≡◌, nat_lt, Bool, true, false, ◌&&◌, ◌++◌, List, [], ◌∷◌, if◌then◌else◌, refl, sym, ◌∙◌}
-use Rattle.std.proofs.lemmas.Bool.{and_parts, or_parts}
+use Rattle.std.proofs.Common.{◌≡◌, nat_lt, Bool, true, false, ◌&&◌, ◌++◌, List, [], ◌∷◌, refl, sym, ◌∙◌, not}
+use Rattle.std.proofs.lemmas.Bool.{and_parts, or_parts, not-true}
 use Rattle.jsgen_tree.specs.Tree.{Tree, node, Maybe, absent, given, Trees, no_trees, more, hole, Atoms, type_of, span_of}
 use Rattle.jsgen_tree.specs.Nodes as tree
 use Rattle.jsgen_tree.specs.Values.{program_kind, numeric_literal_kind, numeric_literal_text, variable_declarator_definite, for_of_statement_is_await, static_member_expression_optional, computed_member_expression_optional, call_expression_optional, object_property_kind, object_property_method, object_property_computed, formal_parameter_is_override, formal_parameter_readonly, formal_parameter_optional, arrow_function_expression_is_async, function_kind}
@@ -12,12 +12,12 @@ use Rattle.jsgen_tree.specs.declared.types.NodeType.TheVariants as types
 use Rattle.jsgen_tree.specs.declared.types.NodeSet.TheVariants as sets
 use Rattle.jsgen_model.specs.declared.fault.TreeFault.TheVariants as faults
 use Rattle.jsgen_model.specs.Grammar.{Allowed, in_module, in_arrow_body, in_function}
-use Rattle.jsgen_model.specs.Plain.{IsPlain, is_plain_row, is_module, is_absent, has_no_hole}
+use Rattle.jsgen_model.specs.Plain.{IsPlain, is_plain_row, has_plain_flags, is_module, has_no_hole}
 use Rattle.jsgen_tree.specs.declared.functions.FunctionKind.TheVariants as kinds
 use Rattle.jsgen_model.specs.Valid.{Surroundings, ChildPlace, breaches, in_maybe, in_trees, fits_kind, set_faults, span_faults, own_faults, body_faults, name_faults, number_faults, declaration_faults, key_faults, sequence_faults, super_faults, chain_faults, target_faults, is_one_name, left_faults, defaults, switch_faults, try_faults, function_faults, return_faults}
 use Rattle.jsgen_reading_laws.proofs.Families.{IsExpression, AreParts, IsChain, AreProperties, IsKey, AreArguments, AreElements, IsParameters, AreParameters, IsParameter, IsValue, IsDeclarator, AreDeclarators, IsStatement, IsInit, IsLeft, AreCases, AreEndsOfTry, IsHandler, IsBlock, IsItem, AreStatements, IsProgram, IsBody}
 use Rattle.jsgen_reading_laws.proofs.Families as family
-use Rattle.jsgen_reading_laws.proofs.Faultless.{none_both, none_if, none_unless, parts, stands_at, standing, placed, placed_statement, no_truth, holds_nothing, member_valid, argument_stands, arrow_body_stands, target_stands, target_fits, target_is_simple, link_valid, base_valid, none_in_object, key_stands, big_valued, number_valued, key_valid, link_kind, free_since, binding_valid, rest_valid, placed_if_given, directives_valid, kind_is, bodiless, init_stands, left_is_simple, name_valid, label_valid, jump_valid, variables_are, body_valid, one_less, none_left_out, none_case, ends_of_try, StandsAt, place_of, rest_of_property, property_faults, Returns, most, HandlerIfGiven, FinalizerIfGiven, function_parts, braces_parts, within_function, property_since, variables_parts}
+use Rattle.jsgen_reading_laws.proofs.Faultless.{none_both, none_if, none_unless, parts, stands_at, standing, placed, placed_statement, no_truth, no_truth_behind, unset, member_valid, argument_stands, arrow_body_stands, target_stands, target_fits, target_is_simple, link_valid, base_valid, none_in_object, key_stands, big_valued, number_valued, key_valid, link_kind, free_since, binding_valid, rest_valid, placed_if_given, directives_valid, kind_is, bodiless, init_stands, left_is_simple, name_valid, label_valid, jump_valid, variables_are, body_valid, one_less, none_left_out, none_case, ends_of_try, StandsAt, place_of, rest_of_property, property_faults, Returns, most, HandlerIfGiven, FinalizerIfGiven, function_parts, braces_parts, within_function, property_since, variables_parts, unset}
 
 mutual
   pub expression_valid : (c : Allowed) (around : Surroundings) (t : Tree) → IsPlain t → StandsAt sets.Expression t → breaches around t ≡ [] → IsExpression around.tables c t
@@ -95,18 +95,18 @@ mutual
       let k = placed around sets.FormalParameters ps _ (parts (span_faults around a.span) [] _ e).1 in
       let j = standing around sets.ArrowFunctionBody (tree.function_body b ds ss) [] k.2 in
       let i = braces_parts around b ds ss p.1.1.0 j.1 in
-      family.an_arrow_with_body (holds_nothing (arrow_function_expression_is_async a) p.0) (parameters_valid c around ps p.1.0 k.0 k.1) (family.some_body i.0 (items_valid in_function (within_function around) (λ x. refl) ss i.1 i.2 i.3))
+      family.an_arrow_with_body (unset (arrow_function_expression_is_async a) p.0) (parameters_valid c around ps p.1.0 k.0 k.1) (family.some_body i.0 (items_valid in_function (within_function around) (λ x. refl) ss i.1 i.2 i.3))
   expression_valid c around (tree.arrow_function a ps (node types.FunctionBody b slots)) p s e = absurd (no_truth p.1.1.0.0)
   expression_valid c around (tree.arrow_function a ps t) p s e =
       let k = placed around sets.FormalParameters ps _ (parts (span_faults around a.span) [] _ e).1 in
       let j = standing around sets.ArrowFunctionBody t [] k.2 in
-      family.an_arrow_function (holds_nothing (arrow_function_expression_is_async a) p.0) (parameters_valid c around ps p.1.0 k.0 k.1) (expression_valid (in_arrow_body c) around t p.1.1.0 (arrow_body_stands t refl j.0) j.1)
+      family.an_arrow_function (unset (arrow_function_expression_is_async a) p.0) (parameters_valid c around ps p.1.0 k.0 k.1) (expression_valid (in_arrow_body c) around t p.1.1.0 (arrow_body_stands t refl j.0) j.1)
   expression_valid c around (tree.function a id ps (given u)) p s e =
       let h = kind_is kinds.Expression a s.2 in
       let k = function_parts around kinds.Expression a id ps u h p e in
       family.a_function (family.some_function h k.synchronous k.name (parameters_valid in_function around ps k.plain_parameters k.are_parameters k.parameters) (function_body_valid around u k.plain_body k.is_body k.body))
   expression_valid c around (tree.function a id ps absent) p s e = absurd (bodiless a.span (function_kind a) id (parts (span_faults around a.span) (function_faults a.span (function_kind a) id absent) _ e).0)
-  expression_valid c around t p s e = absurd (search no_truth)
+  expression_valid c around t p s e = absurd (search (no_truth, no_truth_behind))
 
   function_body_valid : (around : Surroundings) (t : Tree) → IsPlain t → is_function_body (type_of t) ≡ true → breaches around t ≡ [] → IsBody around.tables t
   function_body_valid around (tree.function_body a ds ss) p s e =
@@ -132,10 +132,10 @@ mutual
   parameter_valid c around (tree.formal_parameter a b m) p s e =
       let k = placed around sets.BindingPattern b _ (parts (span_faults around a.span) [] _ e).1 in
       let j = none_both (in_maybe around (place_of sets.Expression around ∷ []) m) [] k.2 in
-      let h = and_parts (is_absent (formal_parameter_is_override a) && is_absent (formal_parameter_readonly a)) (is_absent (formal_parameter_optional a)) p.0 in
-      let i = and_parts (is_absent (formal_parameter_is_override a)) (is_absent (formal_parameter_readonly a)) h.0 in
-      family.a_parameter (holds_nothing (formal_parameter_is_override a) i.0) (holds_nothing (formal_parameter_readonly a) i.1) (holds_nothing (formal_parameter_optional a) h.1) (binding_valid c around b p.1.0 k.0 k.1) (value_valid c around [] m p.1.1.0 j.0)
-  parameter_valid c around t p s e = absurd (search no_truth)
+      let h = and_parts (not (formal_parameter_is_override a) && not (formal_parameter_readonly a)) (not (formal_parameter_optional a)) (and_parts (has_plain_flags types.FormalParameter a) true p.0).0 in
+      let i = and_parts (not (formal_parameter_is_override a)) (not (formal_parameter_readonly a)) h.0 in
+      family.a_parameter (not-true (formal_parameter_is_override a) i.0) (not-true (formal_parameter_readonly a) i.1) (not-true (formal_parameter_optional a) h.1) (binding_valid c around b p.1.0 k.0 k.1) (value_valid c around [] m p.1.1.0 j.0)
+  parameter_valid c around t p s e = absurd (search (no_truth, no_truth_behind))
 
   -- behind its field others may stand
   value_valid : (c : Allowed) (around : Surroundings) (others : List ChildPlace) (m : Maybe) → EverywhereIfGiven is_plain_row m → in_maybe around (place_of sets.Expression around ∷ others) m ≡ [] → IsValue around.tables c m
@@ -229,8 +229,8 @@ mutual
   declarator_valid c around (tree.variable_declarator a b m) p s e =
       let k = placed around sets.BindingPattern b _ (parts (span_faults around a.span) [] _ e).1 in
       let j = none_both (in_maybe around (place_of sets.Expression around ∷ []) m) [] k.2 in
-      family.a_declarator (holds_nothing (variable_declarator_definite a) p.0) (binding_valid c around b p.1.0 k.0 k.1) (value_valid c around [] m p.1.1.0 j.0)
-  declarator_valid c around t p s e = absurd (search no_truth)
+      family.a_declarator (unset (variable_declarator_definite a) p.0) (binding_valid c around b p.1.0 k.0 k.1) (value_valid c around [] m p.1.1.0 j.0)
+  declarator_valid c around t p s e = absurd (search (no_truth, no_truth_behind))
 
   -- a declaration has a declarator
   declarators_valid : (c : Allowed) (around : Surroundings) (a : Atoms) (ds : Trees) → has_no_hole ds ≡ true → EverywhereInTrees is_plain_row ds → declaration_faults a.span ds ≡ [] → in_trees around (place_of sets.VariableDeclarator around ∷ []) ds ≡ [] → AreDeclarators around.tables c ds
@@ -303,7 +303,7 @@ mutual
       let i = placed around sets.ForStatementLeft l _ h.1 in
       let j = standing around sets.Expression x _ i.2 in
       let k = placed_statement around u [] j.2 in
-      family.a_statement (family.a_for_of (holds_nothing (for_of_statement_is_await a) p.0) (left_valid c around l p.1.0 i.0 b.0 i.1 (λ y. expression_valid c around l p.1.0 y i.1)) (expression_valid c around x p.1.1.0 j.0 j.1) (body_valid u b.1 (item_valid c around returns u p.1.1.1.0 k.0.0 k.0.1 k.1)))
+      family.a_statement (family.a_for_of (unset (for_of_statement_is_await a) p.0) (left_valid c around l p.1.0 i.0 b.0 i.1 (λ y. expression_valid c around l p.1.0 y i.1)) (expression_valid c around x p.1.1.0 j.0 j.1) (body_valid u b.1 (item_valid c around returns u p.1.1.1.0 k.0.0 k.0.1 k.1)))
   item_valid c around returns (tree.while_statement a t u) p s fits e =
       let h = parts (span_faults around a.span) (body_faults u) _ e in
       let k = standing around sets.Expression t _ h.1 in
@@ -352,7 +352,7 @@ mutual
       let k = function_parts around kinds.Declaration a id ps u h p e in
       family.a_function_declaration (family.some_function h k.synchronous k.name (parameters_valid in_function around ps k.plain_parameters k.are_parameters k.parameters) (function_body_valid around u k.plain_body k.is_body k.body))
   item_valid c around returns (tree.function a id ps absent) p s fits e = absurd (bodiless a.span (function_kind a) id (parts (span_faults around a.span) (function_faults a.span (function_kind a) id absent) _ e).0)
-  item_valid c around returns t p s fits e = absurd (search no_truth)
+  item_valid c around returns t p s fits e = absurd (search (no_truth, no_truth_behind))
 
   items_valid : (c : Allowed) (around : Surroundings) → Returns c around → (ss : Trees) → has_no_hole ss ≡ true → EverywhereInTrees is_plain_row ss → in_trees around (place_of sets.Statement around ∷ []) ss ≡ [] → AreStatements around.tables c ss
   items_valid c around returns no_trees n p e = family.no_statement

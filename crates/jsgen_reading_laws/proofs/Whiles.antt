@@ -14,7 +14,8 @@ use Rattle.jsgen_model.specs.Layout.{Pen, layout, deeper_level}
 use Rattle.jsgen_model.specs.Grammar.{Allowed, ReadsStatement}
 use Rattle.jsgen_model.specs.Grammar as grammar
 use Rattle.jsgen_model.specs.Normal.{nothing_of}
-use Rattle.jsgen_model.specs.Spell.{Settings, Place, spell, among_statements, within_statement, in_brackets, Shape, a_block, an_empty, shape, body_items, do_items}
+use Rattle.jsgen_place.specs.Place.{among_statements, within_statement, in_brackets}
+use Rattle.jsgen_model.specs.Spell.{spell, Shape, a_block, an_empty, shape, body_items, do_items}
 use Rattle.jsgen_token_laws.proofs.Characters.{letters_spelled}
 use Rattle.jsgen_token_laws.proofs.Last.{Last, Open, After, line_of, Ready, Knows}
 use Rattle.jsgen_token_laws.proofs.Writes.{Writes, wrote_both, wrote_and_none, same_writes}
@@ -26,22 +27,22 @@ use Rattle.jsgen_reading_laws.proofs.Blocks.{at_depth}
 use Rattle.jsgen_reading_laws.proofs.Bodies.{EmptyAlone, good_semicolon, good_body}
 use Rattle.jsgen_reading_laws.proofs.Heads.{GoodHead, head_items, good_head}
 
-while_head : {names : Tables} (c : Allowed) (t : Tree) → Printed names c t → (place : Place) (p : Pen) (l : Last) → p.pending_semicolon ≡ false → Knows names p l → GoodHead names (codes "while") p l (layout (head_items (codes "while") t place) p) c t
+while_head : {names : Tables} (c : Allowed) (t : Tree) → Printed names c t → (p : Pen) (l : Last) → p.pending_semicolon ≡ false → Knows names p l → GoodHead names (codes "while") p l (layout (head_items (codes "while") t) p) c t
 while_head = good_head (codes "while") (letters_spelled 119 (codes "hile") refl)
 
 -- ---- `while`
 
-abbrev while_items : Tree → Tree → Settings → Items
-while_items t s settings = word (codes "while") ⊕ (soft_space ⊕ (brackets Round (spell t (in_brackets levels.Lowest (among_statements settings))) ⊕ body_items (shape s) (spell s (within_statement settings)) (spell s (among_statements settings))))
+abbrev while_items : Tree → Tree → Items
+while_items t s = word (codes "while") ⊕ (soft_space ⊕ (brackets Round (spell t (in_brackets levels.Lowest)) ⊕ body_items (shape s) (spell s within_statement) (spell s among_statements)))
 
 pub good_while : {names : Tables} (c : Allowed) (a : Atoms) (t s : Tree) → Printed names c t → EmptyAlone names s → Stated names c s → Stated names c (tree.while_statement a t s)
-good_while {names} c a t s f m g = stated_among refl (λ settings. indented_line (while_items t s settings) (inside settings))
+good_while {names} c a t s f m g = stated_among refl (indented_line (while_items t s) inside)
   where
-    inside : (settings : Settings) → StatedAt names c (tree.while_statement a t s) (while_items t s settings)
-    inside settings p l z y k =
-        let h = while_head c t f (among_statements settings) p l z k in
+    inside : StatedAt names c (tree.while_statement a t s) (while_items t s)
+    inside p l z y k =
+        let h = while_head c t f p l z k in
         behind_tokens (piece (line_of l) (Word (codes "while")) (group h.next Round h.tokens done)) (λ u. tree.while_statement (nothing_of 0) h.reading u) h.writes (λ e ts u r before_else n. grammar.a_while h.reads (r before_else n)) (λ u m i. tree.while_statement (nothing_of 0) (h.same i) (m i))
-        (good_body c s settings m g (layout (head_items (codes "while") t (among_statements settings)) p) (Open false) h.semicolon tt h.writes.knows)
+        (good_body c s m g (layout (head_items (codes "while") t) p) (Open false) h.semicolon tt h.writes.knows)
 
 -- ---- bodies with their end
 
@@ -97,32 +98,32 @@ finished_deeper {p = p} {p2 = p2} depth e g = record {
 }
 
 -- no semicolon is due behind a block
-block_left : (t : Tree) → shape t ≡ a_block → (settings : Settings) (p : Pen) → p.pending_semicolon ≡ false → (layout (spell t (within_statement settings)) p).pending_semicolon ≡ false
-block_left (tree.block a no_trees) i settings p z = refl
-block_left (tree.block a (more s ss)) i settings p z = refl
-block_left (tree.block a (hole ss)) i settings p z = refl
-block_left (node types.BlockStatement a slots) i settings p z = z
-block_left t i settings p z = absurd (both_ways (is_block (shape t)) refl (ap is_block i))
+block_left : (t : Tree) → shape t ≡ a_block → (p : Pen) → p.pending_semicolon ≡ false → (layout (spell t within_statement) p).pending_semicolon ≡ false
+block_left (tree.block a no_trees) i p z = refl
+block_left (tree.block a (more s ss)) i p z = refl
+block_left (tree.block a (hole ss)) i p z = refl
+block_left (node types.BlockStatement a slots) i p z = z
+block_left t i p z = absurd (both_ways (is_block (shape t)) refl (ap is_block i))
   where
     is_block : Shape → Bool
     is_block a_block = true
     is_block s = false
 
-good_finished : {names : Tables} (c : Allowed) (t : Tree) (settings : Settings) → EmptyAlone names t → Stated names c t → (p : Pen) (l : Last) → p.pending_semicolon ≡ false → Ready l → Knows names p l → Finished names c t p l (layout (do_items (shape t) (spell t (within_statement settings)) (spell t (among_statements settings))) p)
-good_finished {names} c t settings m f p l z y k = by_shape (shape t) refl
+good_finished : {names : Tables} (c : Allowed) (t : Tree) → EmptyAlone names t → Stated names c t → (p : Pen) (l : Last) → p.pending_semicolon ≡ false → Ready l → Knows names p l → Finished names c t p l (layout (do_items (shape t) (spell t within_statement) (spell t among_statements)) p)
+good_finished {names} c t m f p l z y k = by_shape (shape t) refl
   where
     inner : Items
-    inner = spell t (within_statement settings)
+    inner = spell t within_statement
 
     whole : Items
-    whole = spell t (among_statements settings)
+    whole = spell t among_statements
 
     by_shape : (s : Shape) → shape t ≡ s → Finished names c t p l (layout (do_items s inner whole) p)
     by_shape a_block i =
         let p1 : Pen = layout soft_space p in
         let n = soft_space_written p l k in
-        let g = f.within (ap goes_on i) settings p1 n.last (n.semicolon ∙ z) (n.ready y) n.writes.knows in
-        let d : Finished names c t p1 n.last (layout inner p1) = finished_itself g (block_left t i settings p1 (n.semicolon ∙ z)) in
+        let g = f.within (ap goes_on i) p1 n.last (n.semicolon ∙ z) (n.ready y) n.writes.knows in
+        let d : Finished names c t p1 n.last (layout inner p1) = finished_itself g (block_left t i p1 (n.semicolon ∙ z)) in
         finished_before (gap n) (finished_behind d (gap (soft_space_written (layout inner p1) d.last d.writes.knows)))
     by_shape an_empty i =
         let p1 : Pen = layout (punctuator semicolon) p in
@@ -135,14 +136,14 @@ good_finished {names} c t settings m f p l z y k = by_shape (shape t) refl
         let p3 : Pen = layout whole p2 in
         let p4 : Pen = record (layout due_semicolon p3) { depth = p1.depth } in
         let n = soft_line_written p l k in
-        let g = f.among settings p2 n.last (n.semicolon ∙ z) (n.ready y) (at_depth p2.depth n.writes.knows) in
+        let g = f.among p2 n.last (n.semicolon ∙ z) (n.ready y) (at_depth p2.depth n.writes.knows) in
         let d : Finished names c t p1 n.last p4 = finished_deeper p1.depth refl (finished_due g (due_ends p3 g.last g.ready g.writes.knows)) in
         finished_before n (finished_behind d (gap (indentation_written p4 d.last d.writes.knows)))
 
 -- ---- `do`
 
-abbrev do_while_items : Tree → Tree → Settings → Items
-do_while_items s t settings = word (codes "do") ⊕ (do_items (shape s) (spell s (within_statement settings)) (spell s (among_statements settings)) ⊕ head_items (codes "while") t (among_statements settings))
+abbrev do_while_items : Tree → Tree → Items
+do_while_items s t = word (codes "do") ⊕ (do_items (shape s) (spell s within_statement) (spell s among_statements) ⊕ head_items (codes "while") t)
 
 do_while_parts : {names : Tables} {p p1 p2 q : Pen} {l : Last} (c : Allowed) (a : Atoms) (s t : Tree) → Writes names p l p1 (After (Word (codes "do"))) (piece (line_of l) (Word (codes "do")) done) → (b : Finished names c s p1 (After (Word (codes "do"))) p2) → GoodHead names (codes "while") p2 b.last q c t → Unended names (ReadsClosed c false) (SameTree names (tree.do_while_statement a s t)) p l q
 do_while_parts {l = l} c a s t o b h = record {
@@ -157,12 +158,12 @@ do_while_parts {l = l} c a s t o b h = record {
 }
 
 pub good_do_while : {names : Tables} (c : Allowed) (a : Atoms) (s t : Tree) → EmptyAlone names s → Stated names c s → Printed names c t → Stated names c (tree.do_while_statement a s t)
-good_do_while {names} c a s t m f g = stated_among refl (λ settings. whole_line (do_while_items s t settings) (inside settings))
+good_do_while {names} c a s t m f g = stated_among refl (whole_line (do_while_items s t) inside)
   where
-    inside : (settings : Settings) → UnendedAt names (ReadsClosed c false) (SameTree names (tree.do_while_statement a s t)) (do_while_items s t settings)
-    inside settings p l z y k =
+    inside : UnendedAt names (ReadsClosed c false) (SameTree names (tree.do_while_statement a s t)) (do_while_items s t)
+    inside p l z y k =
         let p1 : Pen = layout (word (codes "do")) p in
-        let p2 : Pen = layout (do_items (shape s) (spell s (within_statement settings)) (spell s (among_statements settings))) p1 in
+        let p2 : Pen = layout (do_items (shape s) (spell s within_statement) (spell s among_statements)) p1 in
         let o = wrote_word (codes "do") p l (letters_spelled 100 (codes "o") refl) k in
-        let b = good_finished c s settings m f p1 (After (Word (codes "do"))) z tt o.knows in
-        do_while_parts c a s t o b (while_head c t g (among_statements settings) p2 b.last b.semicolon b.writes.knows)
+        let b = good_finished c s m f p1 (After (Word (codes "do"))) z tt o.knows in
+        do_while_parts c a s t o b (while_head c t g p2 b.last b.semicolon b.writes.knows)

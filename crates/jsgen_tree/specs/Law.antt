@@ -9,11 +9,11 @@ use Rattle.jsgen_tree.specs.declared.types.NodeType.TheVariants as types
 
 -- each value is that of the field of its name
 pub record FieldsAreNamed : Type 0 where
-  pub program : (a : Atoms) → (program_source a ≡ as_text (value_named (codes "source") (fields types.Program) a.values)) × (program_kind a ≡ as_source_kind (value_named (codes "kind") (fields types.Program) a.values)) × (program_jsx a ≡ value_named (codes "jsx") (fields types.Program) a.values) × (program_typescript a ≡ value_named (codes "typescript") (fields types.Program) a.values)
+  pub program : (a : Atoms) → (program_source a ≡ as_text (value_named (codes "source") (fields types.Program) a.values)) × (program_kind a ≡ as_source_kind (value_named (codes "kind") (fields types.Program) a.values)) × (program_jsx a ≡ as_flag (value_named (codes "jsx") (fields types.Program) a.values)) × (program_typescript a ≡ as_flag (value_named (codes "typescript") (fields types.Program) a.values))
   pub comment : (a : Atoms) → (comment_kind a ≡ as_kind_of_comment (value_named (codes "kind") (fields types.Comment) a.values)) × (comment_content a ≡ as_content_of_comment (value_named (codes "content") (fields types.Comment) a.values)) × (comment_leading a ≡ as_flag (value_named (codes "leading") (fields types.Comment) a.values)) × (comment_attached_to a ≡ as_number (value_named (codes "attached_to") (fields types.Comment) a.values)) × (comment_preceded_by_newline a ≡ as_flag (value_named (codes "preceded_by_newline") (fields types.Comment) a.values)) × (comment_followed_by_newline a ≡ as_flag (value_named (codes "followed_by_newline") (fields types.Comment) a.values))
   pub directive : (a : Atoms) → directive_directive a ≡ value_named (codes "directive") (fields types.Directive) a.values
-  pub variable_declaration : (a : Atoms) → (variable_declaration_kind a ≡ as_declaration_kind (value_named (codes "kind") (fields types.VariableDeclaration) a.values)) × (variable_declaration_declare a ≡ value_named (codes "declare") (fields types.VariableDeclaration) a.values)
-  pub variable_declarator : (a : Atoms) → variable_declarator_definite a ≡ value_named (codes "definite") (fields types.VariableDeclarator) a.values
+  pub variable_declaration : (a : Atoms) → (variable_declaration_kind a ≡ as_declaration_kind (value_named (codes "kind") (fields types.VariableDeclaration) a.values)) × (variable_declaration_declare a ≡ as_flag (value_named (codes "declare") (fields types.VariableDeclaration) a.values))
+  pub variable_declarator : (a : Atoms) → variable_declarator_definite a ≡ as_flag (value_named (codes "definite") (fields types.VariableDeclarator) a.values)
   pub binding_identifier : (a : Atoms) → (binding_identifier_name a ≡ as_text (value_named (codes "name") (fields types.BindingIdentifier) a.values)) × (binding_identifier_symbol a ≡ as_number_if_given (value_named (codes "symbol") (fields types.BindingIdentifier) a.values))
   pub identifier_reference : (a : Atoms) → (identifier_reference_name a ≡ as_text (value_named (codes "name") (fields types.IdentifierReference) a.values)) × (identifier_reference_reference a ≡ as_number_if_given (value_named (codes "reference") (fields types.IdentifierReference) a.values))
   pub boolean_literal : (a : Atoms) → boolean_literal_value a ≡ as_flag (value_named (codes "value") (fields types.BooleanLiteral) a.values)
@@ -31,8 +31,8 @@ pub record FieldsAreNamed : Type 0 where
   pub update_expression : (a : Atoms) → (update_expression_operator a ≡ as_update_operator (value_named (codes "operator") (fields types.UpdateExpression) a.values)) × (update_expression_prefix a ≡ as_flag (value_named (codes "prefix") (fields types.UpdateExpression) a.values))
   pub new_expression : (a : Atoms) → new_expression_pure a ≡ as_flag (value_named (codes "pure") (fields types.NewExpression) a.values)
   pub assignment_expression : (a : Atoms) → assignment_expression_operator a ≡ as_assignment_operator (value_named (codes "operator") (fields types.AssignmentExpression) a.values)
-  pub formal_parameter : (a : Atoms) → (formal_parameter_is_override a ≡ value_named (codes "is_override") (fields types.FormalParameter) a.values) × (formal_parameter_readonly a ≡ value_named (codes "readonly") (fields types.FormalParameter) a.values) × (formal_parameter_optional a ≡ value_named (codes "optional") (fields types.FormalParameter) a.values)
-  pub function : (a : Atoms) → (function_kind a ≡ as_kind_of_function (value_named (codes "kind") (fields types.Function) a.values)) × (function_is_async a ≡ value_named (codes "is_async") (fields types.Function) a.values) × (function_generator a ≡ value_named (codes "generator") (fields types.Function) a.values) × (function_declare a ≡ value_named (codes "declare") (fields types.Function) a.values) × (function_pure a ≡ as_flag (value_named (codes "pure") (fields types.Function) a.values)) × (function_pife a ≡ as_flag (value_named (codes "pife") (fields types.Function) a.values))
-  pub arrow_function_expression : (a : Atoms) → (arrow_function_expression_is_async a ≡ value_named (codes "is_async") (fields types.ArrowFunctionExpression) a.values) × (arrow_function_expression_pure a ≡ as_flag (value_named (codes "pure") (fields types.ArrowFunctionExpression) a.values)) × (arrow_function_expression_pife a ≡ as_flag (value_named (codes "pife") (fields types.ArrowFunctionExpression) a.values))
-  pub for_of_statement : (a : Atoms) → for_of_statement_is_await a ≡ value_named (codes "is_await") (fields types.ForOfStatement) a.values
+  pub formal_parameter : (a : Atoms) → (formal_parameter_is_override a ≡ as_flag (value_named (codes "is_override") (fields types.FormalParameter) a.values)) × (formal_parameter_readonly a ≡ as_flag (value_named (codes "readonly") (fields types.FormalParameter) a.values)) × (formal_parameter_optional a ≡ as_flag (value_named (codes "optional") (fields types.FormalParameter) a.values))
+  pub function : (a : Atoms) → (function_kind a ≡ as_kind_of_function (value_named (codes "kind") (fields types.Function) a.values)) × (function_is_async a ≡ as_flag (value_named (codes "is_async") (fields types.Function) a.values)) × (function_generator a ≡ as_flag (value_named (codes "generator") (fields types.Function) a.values)) × (function_declare a ≡ as_flag (value_named (codes "declare") (fields types.Function) a.values)) × (function_pure a ≡ as_flag (value_named (codes "pure") (fields types.Function) a.values)) × (function_pife a ≡ as_flag (value_named (codes "pife") (fields types.Function) a.values))
+  pub arrow_function_expression : (a : Atoms) → (arrow_function_expression_is_async a ≡ as_flag (value_named (codes "is_async") (fields types.ArrowFunctionExpression) a.values)) × (arrow_function_expression_pure a ≡ as_flag (value_named (codes "pure") (fields types.ArrowFunctionExpression) a.values)) × (arrow_function_expression_pife a ≡ as_flag (value_named (codes "pife") (fields types.ArrowFunctionExpression) a.values))
+  pub for_of_statement : (a : Atoms) → for_of_statement_is_await a ≡ as_flag (value_named (codes "is_await") (fields types.ForOfStatement) a.values)
   pub label_identifier : (a : Atoms) → label_identifier_name a ≡ as_text (value_named (codes "name") (fields types.LabelIdentifier) a.values)

@@ -112,12 +112,12 @@ abbrev pub program_kind : Atoms → SourceKind
 program_kind a = as_source_kind (value_at 1 a.values)
 
 -- not read yet
-abbrev pub program_jsx : Atoms → Atom
-program_jsx a = value_at 2 a.values
+abbrev pub program_jsx : Atoms → Bool
+program_jsx a = as_flag (value_at 2 a.values)
 
 -- not read yet
-abbrev pub program_typescript : Atoms → Atom
-program_typescript a = value_at 3 a.values
+abbrev pub program_typescript : Atoms → Bool
+program_typescript a = as_flag (value_at 3 a.values)
 
 abbrev pub comment_kind : Atoms → CommentKind
 comment_kind a = as_kind_of_comment (value_at 0 a.values)
@@ -145,12 +145,12 @@ abbrev pub variable_declaration_kind : Atoms → VariableDeclarationKind
 variable_declaration_kind a = as_declaration_kind (value_at 0 a.values)
 
 -- not read yet
-abbrev pub variable_declaration_declare : Atoms → Atom
-variable_declaration_declare a = value_at 1 a.values
+abbrev pub variable_declaration_declare : Atoms → Bool
+variable_declaration_declare a = as_flag (value_at 1 a.values)
 
 -- not read yet
-abbrev pub variable_declarator_definite : Atoms → Atom
-variable_declarator_definite a = value_at 0 a.values
+abbrev pub variable_declarator_definite : Atoms → Bool
+variable_declarator_definite a = as_flag (value_at 0 a.values)
 
 abbrev pub binding_identifier_name : Atoms → List ℕ
 binding_identifier_name a = as_text (value_at 0 a.values)
@@ -234,31 +234,31 @@ abbrev pub assignment_expression_operator : Atoms → AssignmentOperator
 assignment_expression_operator a = as_assignment_operator (value_at 0 a.values)
 
 -- not read yet
-abbrev pub formal_parameter_is_override : Atoms → Atom
-formal_parameter_is_override a = value_at 0 a.values
+abbrev pub formal_parameter_is_override : Atoms → Bool
+formal_parameter_is_override a = as_flag (value_at 0 a.values)
 
 -- not read yet
-abbrev pub formal_parameter_readonly : Atoms → Atom
-formal_parameter_readonly a = value_at 1 a.values
+abbrev pub formal_parameter_readonly : Atoms → Bool
+formal_parameter_readonly a = as_flag (value_at 1 a.values)
 
 -- not read yet
-abbrev pub formal_parameter_optional : Atoms → Atom
-formal_parameter_optional a = value_at 2 a.values
+abbrev pub formal_parameter_optional : Atoms → Bool
+formal_parameter_optional a = as_flag (value_at 2 a.values)
 
 abbrev pub function_kind : Atoms → FunctionKind
 function_kind a = as_kind_of_function (value_at 0 a.values)
 
 -- not read yet
-abbrev pub function_is_async : Atoms → Atom
-function_is_async a = value_at 1 a.values
+abbrev pub function_is_async : Atoms → Bool
+function_is_async a = as_flag (value_at 1 a.values)
 
 -- not read yet
-abbrev pub function_generator : Atoms → Atom
-function_generator a = value_at 2 a.values
+abbrev pub function_generator : Atoms → Bool
+function_generator a = as_flag (value_at 2 a.values)
 
 -- not read yet
-abbrev pub function_declare : Atoms → Atom
-function_declare a = value_at 3 a.values
+abbrev pub function_declare : Atoms → Bool
+function_declare a = as_flag (value_at 3 a.values)
 
 abbrev pub function_pure : Atoms → Bool
 function_pure a = as_flag (value_at 4 a.values)
@@ -267,8 +267,8 @@ abbrev pub function_pife : Atoms → Bool
 function_pife a = as_flag (value_at 5 a.values)
 
 -- not read yet
-abbrev pub arrow_function_expression_is_async : Atoms → Atom
-arrow_function_expression_is_async a = value_at 0 a.values
+abbrev pub arrow_function_expression_is_async : Atoms → Bool
+arrow_function_expression_is_async a = as_flag (value_at 0 a.values)
 
 abbrev pub arrow_function_expression_pure : Atoms → Bool
 arrow_function_expression_pure a = as_flag (value_at 1 a.values)
@@ -277,8 +277,8 @@ abbrev pub arrow_function_expression_pife : Atoms → Bool
 arrow_function_expression_pife a = as_flag (value_at 2 a.values)
 
 -- not read yet
-abbrev pub for_of_statement_is_await : Atoms → Atom
-for_of_statement_is_await a = value_at 0 a.values
+abbrev pub for_of_statement_is_await : Atoms → Bool
+for_of_statement_is_await a = as_flag (value_at 0 a.values)
 
 abbrev pub label_identifier_name : Atoms → List ℕ
 label_identifier_name a = as_text (value_at 0 a.values)

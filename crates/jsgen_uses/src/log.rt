@@ -9,7 +9,7 @@ ghost use Rattle.jsgen_uses.specs.Log.{console_log, log_call, log_program, Reads
 
 use crate::build::{call, member, only, reference, statement, string};
 use jsgen::tree::{ExpressionNode, Program};
-use jsgen::{Codegen, CodegenError, Memory, programs_are_plain};
+use jsgen::{Codegen, CodegenError, Memory, plain_by_types};
 use std::alloc::Global;
 use thiserror::Error;
 
@@ -68,7 +68,7 @@ pub fn log_statement(alloc: Global, message: &str, name: &str) -> Result<String,
     ensures taken { OnOk result (is_free_name (chars name.now) ≡ true) }
     ensures refused { IsErrOf result LogError.Name → is_free_name (chars name.now) ≡ false }
 {
-    programs_are_plain();
+    plain_by_types();
     let program = log_program(alloc, message, name)?;
     let printer = Codegen::new(alloc);
     if let Err(_) = printer.check(&program) {

@@ -1,37 +1,37 @@
-"""proofs/Programs.antt of the crate of definitions: a node of Rust is plain where its children are, set by set. What is
-particular to a type is proved by hand, in PlainRows.antt."""
+"""proofs/Programs.antt of the crate of definitions: a node of Rust is formed where its children are, set by set. What is
+particular to a type is proved by hand, in FormedRows.antt."""
 
 import layout
 from files.proofs_cases import CASES, aliases, is_inner_set, lemma_names, needs_steps, opened, to_open, variant
 from names import DECLARED, MODEL, SPECS, TREE, sets_in_antt
 from table import snake
 
-# The types whose plainness takes more than their children: what is shown of the node itself.
-OWN = {"NumericLiteral": "number_is_plain {}.span {}.value {}.fits", "StringLiteral": "string_is_plain {}.value"}
+# The types of which more is asked than their children: what is shown of the node itself.
+OWN = {"NumericLiteral": "number_is_formed {}.span {}.value {}.fits", "StringLiteral": "string_is_formed {}.value"}
 
 
 def write(table):
     clauses = [of_set(table, s) for s in table.nesting()]
-    layer = "".join(f"\n  layer_is_plain (opened.{s.name} n) = {snake(s.name)}_is_plain n" for s in table.nesting())
-    body = "module _ {A : Type 0} (f : A → Node) (h : (a : A) → IsPlain (node_plain (f a))) where\n" + "\n\n".join(clauses) + f"""
+    layer = "".join(f"\n  layer_is_formed (opened.{s.name} n) = {snake(s.name)}_is_formed n" for s in table.nesting())
+    body = "module _ {A : Type 0} (f : A → Node) (h : (a : A) → IsFormed (node_plain (f a))) where\n" + "\n\n".join(clauses) + f"""
 
-  pub layer_is_plain : (y : Node-F A) → IsPlain (layer (map-Node Node Tree node_plain (map-Node A Node f y))){layer}"""
+  pub layer_is_formed : (y : Node-F A) → IsFormed (layer (map-Node Node Tree node_plain (map-Node A Node f y))){layer}"""
     homes = [("Rattle.std.proofs.Common", ["refl"]), ("Rattle.std.proofs.lemmas.Bool", ["and_from"]), (f"{SPECS}.Plain", ["node_plain", "layer"]), (CASES, lemma_names(table)),
              (f"{DECLARED}.nodes.Node", ["Node", "Node-F", "map-Node"])] + TREE + sets_in_antt(table)
-    homes += [("Rattle.jsgen_tree.proofs.Layers", ["with_hole"]), (f"{MODEL}.specs.Plain", ["IsPlain"]), (f"{MODEL}.proofs.PlainRows", ["no_hole", "all_plain", "no_hole_changed", "all_changed", "all_changed_or_holes", "if_given_plain", "number_is_plain", "string_is_plain"])]
+    homes += [("Rattle.jsgen_tree.proofs.Layers", ["with_hole"]), (f"{MODEL}.proofs.FormedRows", ["IsFormed", "no_hole", "all_formed", "no_hole_changed", "all_changed", "all_changed_or_holes", "if_given_formed", "number_is_formed", "string_is_formed"])]
     every = [(f"{DECLARED}.nodes.Node.TheOpen", "opened")] + aliases(table)
-    about = "A node of Rust is plain where its children are."
+    about = "A node of Rust is formed where its children are."
     return {"crates/jsgen_model/proofs/Programs.antt": layout.antt(about, homes, every, body)}
 
 
 def of_set(table, s):
-    name, of = f"{snake(s.name)}_is_plain", s.name + (" A" if table.generic(s.name) else "")
+    name, of = f"{snake(s.name)}_is_formed", s.name + (" A" if table.generic(s.name) else "")
     clauses = "".join(f"\n  {name} {variant(s, m)} = {member(table, s, m)}" for m in s.members)
     return f"  {name} : (n : {of}) → {goal(s, 'n')}{clauses}"
 
 
 def goal(s, n):
-    return f"IsPlain (layer (map-Node Node Tree node_plain (map-Node A Node f (opened.{s.name} {n}))))"
+    return f"IsFormed (layer (map-Node Node Tree node_plain (map-Node A Node f (opened.{s.name} {n}))))"
 
 
 def member(table, s, name):
@@ -45,12 +45,12 @@ def member(table, s, name):
 
 
 def each(table, n, motive="_"):
-    """Why each struct of the type is plain."""
+    """Why each struct of the type is formed."""
     return opened(table, n, "n", False, motive, {}, lambda there: f"(λ n. {row(table, n, 'n', 'n', there)})")
 
 
 def row(table, n, at, name, there):
-    """Why the node at this place is plain, where all optional children are opened: itself, and each child."""
+    """Why the node at this place is formed, where all optional children are opened: itself, and each child."""
     proof = "tt"
     for f in reversed(table.children(n)):
         proof = f"({child(table, f, f'{at}.{f.rust}', f'{name}_{f.rust}', there)}, {proof})"
@@ -62,7 +62,7 @@ def itself(table, n, at):
         return OWN[n.name].replace("{}", at)
     lists = [whole_list(table, f, at) for f in table.children(n) if f.many == "*"]
     if len(lists) > 2:
-        raise SystemExit(f"{n.name}: the plainness of a type with three lists has no form yet")
+        raise SystemExit(f"{n.name}: that a type with three lists is formed has no proof yet")
     return f"and_from _ _ ({lists[0]}) ({lists[1]})" if len(lists) == 2 else lists[0] if lists else "refl"
 
 
@@ -73,13 +73,13 @@ def whole_list(table, f, at):
 
 def child(table, f, at, name, there):
     if f.many == "*" and not needs_steps(table, f):
-        return f"all_plain _ (λ d. {row(table, table.nodes[f.kind], 'd', name, {})}) {at}.items"
+        return f"all_formed _ (λ d. {row(table, table.nodes[f.kind], 'd', name, {})}) {at}.items"
     if f.many == "*":
         return f"all_changed _ _ _ {one_of_many(table, f.kind)} {at}.items"
     if f.many == "?*":
         return f"all_changed_or_holes _ _ _ (with_hole _ tt {one_of_many(table, f.kind)}) {at}.items"
     if f.many == "?" and not needs_steps(table, f):
-        return f"if_given_plain _ (λ b. {row(table, table.nodes[f.kind], 'b.value', name, {})}) {at}"
+        return f"if_given_formed _ (λ b. {row(table, table.nodes[f.kind], 'b.value', name, {})}) {at}"
     if f.many == "?" and not there[name]:
         return "tt"
     if is_inner_set(table, f.kind):
@@ -92,7 +92,7 @@ def child(table, f, at, name, there):
 
 
 def in_box(table, name, box):
-    """Why the member of a set in this box is plain."""
+    """Why the member of a set in this box is formed."""
     if name in table.sets:
         return f"h {box}.value.node"
     if to_open(table, table.nodes[name]):
@@ -101,7 +101,7 @@ def in_box(table, name, box):
 
 
 def each_box(table, name):
-    """Why each member of a set is plain, in its box."""
+    """Why each member of a set is formed, in its box."""
     if name in table.sets or not to_open(table, table.nodes[name]):
         return f"(λ b. {in_box(table, name, 'b')})"
     n = table.nodes[name]

@@ -26,8 +26,9 @@ def is_read(n, f):
 
 
 def is_whole(n, f):
-    """Whether the value is given as it stands, since it may be of two kinds, or isn't read yet."""
-    return bool(f.other) or not is_read(n, f)
+    """Whether the value is given as it stands, since it may be of two kinds, or isn't read yet. A flag that isn't read yet is
+    one that isn't set."""
+    return bool(f.other) or not is_read(n, f) and f.kind != "flag"
 
 
 def kind_of(table, f):

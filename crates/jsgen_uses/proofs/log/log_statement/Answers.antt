@@ -8,7 +8,7 @@ returns-in-Err-clause-refused c =
 
 pub returns-clause-code : goal.returns-clause-code
 returns-clause-code c =
-    read_as_call _ _ _ (chars c.args.message.now) (chars c.args.name.now) _ c.new-printer.ensures.options c.new-printer.ensures.tables c.in_ok-program.ensures (c.programs_are_plain.ensures c.in_ok-program.program) c.in_ok-build.ensures.reads
+    read_as_call _ _ _ (chars c.args.message.now) (chars c.args.name.now) _ c.new-printer.ensures.options c.new-printer.ensures.tables c.in_ok-program.ensures (c.plain_by_types.ensures c.in_ok-program.program) c.in_ok-build.ensures.reads
 
 pub returns-clause-taken : goal.returns-clause-taken
 returns-clause-taken c =
