@@ -4,13 +4,14 @@ use Rattle.std.specs.declared.alloc.Global.{Global}
 use Rattle.jsgen_tree.specs.Job.{JobData}
 use Rattle.jsgen_model.specs.Spell.{text_bytes}
 use Rattle.jsgen_model.specs.Valid.{job_breaches, IsValid}
+use Rattle.jsgen_check.specs.Verdict.{told}
 use Rattle.jsgen_jobs.specs.declared.JobFault.{JobFault}
 use Rattle.jsgen_jobs.specs.declared.JobFault.TheVariants.{NotJob, Refused, Memory}
 
--- a fault of it: a rule that it breaks, or want of memory
+-- a fault of it: a rule that it breaks, the one that is told, or want of memory
 abbrev pub IsFaultOf : JobData → JobFault → Type 0
 IsFaultOf job (NotJob fault) = ⊥
-IsFaultOf job (Refused fault) = Contains (job_breaches job) fault
+IsFaultOf job (Refused fault) = Contains (job_breaches job) fault × (told job ≡ Err fault)
 IsFaultOf job Memory = ⊤
 
 -- the verdict on it

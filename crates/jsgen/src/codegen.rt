@@ -15,6 +15,7 @@ ghost use Rattle.std.specs.Str.{chars};
 ghost use Rattle.jsgen_model.specs.Plain.{IsPlain, IsQuiet};
 ghost use Rattle.jsgen_model.specs.Reading.{IsReadAs};
 ghost use Rattle.jsgen_model.specs.Valid.{job_breaches, expression_breaches, IsValid, IsValidExpression, Judges};
+ghost use Rattle.jsgen_check.specs.Verdict.{told};
 ghost use Rattle.jsgen_printer.specs.Printer.{pen_of, by_tables, name_written, unless_empty};
 ghost use Rattle.jsgen_place.specs.Place.{place_of, context_of, settings_of};
 ghost use Rattle.jsgen.specs.Context.{context_at};
@@ -317,7 +318,10 @@ impl<'a> Codegen<'a> {
     /// Says Ok exactly where the program keeps each rule of a tree (docs/FORMAT.md, "Rules of a tree"), and otherwise
     /// a rule that it breaks. It takes no memory.
     pub fn check(&self, program: &Program) -> Result<(), TreeFault>
-        ensures { Judges (job_breaches (job_for self.now (program_plain program.now))) result }
+        ensures judges { Judges (job_breaches (job_for self.now (program_plain program.now))) result }
+
+        // Of several rules that are broken it is the job alone that says which is told.
+        ensures told { result ≡ told (job_for self.now (program_plain program.now)) }
     {
         let Tables { scoping, private } = self.tables;
         check_program(&self.options, scoping, private, program)

@@ -2,7 +2,8 @@
 ghost use Rattle.std.specs.Prelude.{◌≡◌, false, option_map};
 ghost use Rattle.jsgen_tree.specs.Options.{options_plain};
 ghost use Rattle.jsgen_tree.specs.Scoping.{scoping_plain, private_plain};
-ghost use Rattle.jsgen_jobs.specs.Job.{Reads, Verdict, Answers};
+ghost use Rattle.jsgen_jobs.specs.Job.{Reads, Verdict, Answers, Tells};
+ghost use Rattle.jsgen_check.specs.Verdict.{told};
 ghost use Rattle.jsgen_tree.specs.Plain.{program_plain};
 ghost use Rattle.jsgen.specs.Codegen.{options_of, tables_of, job_for, has_printed};
 ghost use Rattle.jsgen.specs.Answer.{VerdictOn, AnswersOn};
@@ -52,7 +53,8 @@ fn printer_for<'a>(
 }
 
 fn job_in(alloc: Global, bytes: &[u8]) -> Result<Job, JobFault>
-    ensures { Reads bytes.now result }
+    ensures read { Reads bytes.now result }
+    ensures rule { Tells told bytes.now result }
 {
     match read_job(alloc, bytes) {
         Ok(job) => Ok(job),
@@ -89,10 +91,11 @@ fn text_of(printer: Codegen<'_>, program: &Program) -> Result<String, JobFault>
 fn let_go(_program: Program, _scoping: Option<Scoping>, _private: Option<PrivateMappings>) {}
 
 /// Reads a job from its bytes (docs/FORMAT.md), and says Ok where its program keeps each rule of a tree. Bytes that are no job
-/// are answered by their first fault, before any rule is looked at; of several rules that are broken any may be named. Memory
-/// is taken for reading alone, and want of it may come in place of any answer.
+/// are answered by their first fault, before any rule is looked at; of several rules that are broken it is the job alone that
+/// says which is named. Memory is taken for reading alone, and want of it may come in place of any answer.
 pub fn check_job(alloc: Global, bytes: &[u8]) -> Result<(), JobFault>
-    ensures { Verdict bytes.now result }
+    ensures verdict { Verdict bytes.now result }
+    ensures rule { Tells told bytes.now result }
 {
     match job_in(alloc, bytes) {
         Ok(
@@ -115,7 +118,8 @@ pub fn check_job(alloc: Global, bytes: &[u8]) -> Result<(), JobFault>
 /// Reads a job from its bytes, and prints its program under the job's options and by its tables. What is wrong is answered as
 /// by `check_job`, before anything is printed; printing takes memory too.
 pub fn print_job(alloc: Global, bytes: &[u8]) -> Result<String, JobFault>
-    ensures { Answers bytes.now result }
+    ensures answer { Answers bytes.now result }
+    ensures rule { Tells told bytes.now result }
 {
     match job_in(alloc, bytes) {
         Ok(
@@ -139,6 +143,8 @@ pub fn print_job(alloc: Global, bytes: &[u8]) -> Result<String, JobFault>
 pub struct Library;
 
 impl PrintJobs for Library {
+    ghost judged = { told };
+
     fn print_job(alloc: Global, bytes: &[u8]) -> Result<String, JobFault> {
         print_job(alloc, bytes)
     }

@@ -13,7 +13,7 @@ use Rattle.jsgen_model.specs.Valid.{breaches, span_faults, source_faults, indent
 use Rattle.jsgen_model.specs.declared.fault.TreeFault.{TreeFault}
 use Rattle.jsgen_rules.specs.Verdict.{verdict}
 use Rattle.jsgen_check.specs.declared.surroundings.Surroundings.{Surroundings}
-use Rattle.jsgen_check.specs.Verdict.{surroundings_plain, capped, measured, both, ended, height_faults}
+use Rattle.jsgen_check.specs.Verdict.{surroundings_plain, capped, measured, both, ended, height_faults, told_in, told}
 use Rattle.jsgen_check.proofs.Verdicts.{capped_suc, slots_verdict, place, of_both, of_slots}
 use Rattle.jsgen_check.proofs.Alone.{capped_height}
 
@@ -37,7 +37,9 @@ judged_behind (f ∷ a) b c d = (0, omega arith, refl)
 abbrev pub program_slots : {N : Type 0} → (N → Tree) → Program N → Slots
 program_slots plain p = many (trees (map comment_row p.comments.items)) (many (trees (map directive_row p.directives.items)) (many (trees (map (in_statement plain) p.body.items)) no_slots))
 
-pub of_program : {N : Type 0} {r source : Result (Unit {0}) TreeFault} {q : Result ℕ TreeFault} (around : Surroundings) (plain : N → Tree) (p : Program N) → r ≡ both (verdict (span_faults (surroundings_plain around) p.span)) (both source (ended (options_plain around.options.now) p.span q)) → source ≡ verdict (source_faults p.span (chars around.source.now)) → q ≡ slots_verdict (surroundings_plain around) around (sets.Comment ∷ sets.Directive ∷ sets.Statement ∷ []) (program_slots plain p) → Judges (breaches (surroundings_plain around) (program_row plain p)) r
+-- what is told of a program, and that it judges it
+pub of_program : {N : Type 0} {r source : Result (Unit {0}) TreeFault} {q : Result ℕ TreeFault} (around : Surroundings) (plain : N → Tree) (p : Program N) → r ≡ both (verdict (span_faults (surroundings_plain around) p.span)) (both source (ended (options_plain around.options.now) p.span q)) → source ≡ verdict (source_faults p.span (chars around.source.now)) → q ≡ slots_verdict (surroundings_plain around) around (sets.Comment ∷ sets.Directive ∷ sets.Statement ∷ []) (program_slots plain p)
+    → (r ≡ verdict (told_in (surroundings_plain around) (program_row plain p))) × Judges (breaches (surroundings_plain around) (program_row plain p)) r
 unfolding surroundings_plain
 of_program {N} {r} {source} {q} around plain p parts own children =
     let options = options_plain around.options.now in
@@ -50,7 +52,10 @@ of_program {N} {r} {source} {q} around plain p parts own children =
     let end = ap (ended options p.span) (children ∙ sym (of_slots (surroundings_plain around) around asked slots)) ∙ of_ended options p.span (height_of_slots slots) below in
     let behind = ap (λ x. both x (ended options p.span q)) own ∙ (ap (both (verdict rule)) end ∙ sym (of_both rule (below ++ indent))) in
     let first = parts ∙ (ap (both (verdict span)) behind ∙ sym (of_both span (rule ++ (below ++ indent)))) in
-    rw first (judged_behind span rule below indent)
+    (first, rw first (judged_behind span rule below indent))
 
 pub of_job : (r : Result (Unit {0}) TreeFault) (around : Surroundings) (job : JobData) → surroundings_plain around ≡ surroundings_of job → Judges (breaches (surroundings_plain around) job.program) r → Judges (job_breaches job) r
 of_job r around job same h = rw same at h
+
+pub told_of_job : (r : Result (Unit {0}) TreeFault) (around : Surroundings) (job : JobData) → surroundings_plain around ≡ surroundings_of job → r ≡ verdict (told_in (surroundings_plain around) job.program) → r ≡ told job
+told_of_job r around job same h = rw same at h

@@ -4,14 +4,14 @@ use Rattle.std.specs.Str.{chars}
 use Rattle.std.specs.Borrow.{Bor}
 use Rattle.jsgen_syntax.specs.declared.span.Span.{Span}
 use Rattle.jsgen_tree.specs.declared.types.NodeSet.{NodeSet}
-use Rattle.jsgen_tree.specs.Tree.{Tree, Maybe, absent, given, Trees}
+use Rattle.jsgen_tree.specs.Tree.{Tree, node, Maybe, absent, given, Trees}
 use Rattle.jsgen_tree.specs.Options.{Options, options_plain}
-use Rattle.jsgen_tree.specs.Job.{Tables}
+use Rattle.jsgen_tree.specs.Job.{Tables, JobData}
 use Rattle.jsgen_tree.specs.Scoping.{tables_plain}
 use Rattle.jsgen_tree.specs.declared.scoping.Scoping.{Scoping}
 use Rattle.jsgen_tree.specs.declared.scoping.PrivateMappings.{PrivateMappings}
 use Rattle.jsgen_model.specs.Valid as valid
-use Rattle.jsgen_model.specs.Valid.{breaches, set_faults, in_trees, height, greatest_height, fault_if, passes_levels}
+use Rattle.jsgen_model.specs.Valid.{breaches, span_faults, source_faults, indent_faults, set_faults, child_places, in_slots, in_trees, height, greatest_height, fault_if, passes_levels, surroundings_of}
 use Rattle.jsgen_model.specs.declared.fault.TreeFault.{TreeFault}
 use Rattle.jsgen_model.specs.declared.fault.TreeFault.TheVariants as faults
 use Rattle.jsgen_rules.specs.Verdict.{verdict}
@@ -80,3 +80,13 @@ maybe_verdict around set (given t) = child_verdict around set t
 -- of a list of children, each at a place that asks for this set: Ok with the greatest height
 unfoldable pub children_verdict : Surroundings → NodeSet → Trees → Result ℕ TreeFault
 children_verdict around set ts = measured (greatest_height ts) (in_trees (surroundings_plain around) (record { set = set; around = surroundings_plain around } ∷ []) ts)
+
+-- ---- programs
+
+-- the rules that a program breaks, in the order in which they are told: that of its height comes last
+abbrev pub told_in : valid.Surroundings → Tree → List TreeFault
+told_in around (node type a slots) = span_faults around a.span ++ (source_faults a.span around.source ++ (in_slots around (child_places around (node type a slots)) slots ++ indent_faults around.options (node type a slots)))
+
+-- what is told of a job: the first of them
+abbrev pub told : JobData → Result (Unit {0}) TreeFault
+told job = verdict (told_in (surroundings_of job) job.program)

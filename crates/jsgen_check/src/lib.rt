@@ -10,7 +10,7 @@ ghost use Rattle.jsgen_tree.specs.Rows.{expression_plain};
 ghost use Rattle.jsgen_tree.specs.declared.types.NodeSet.TheVariants as sets;
 ghost use Rattle.jsgen_model.specs.Valid.{job_breaches, expression_breaches, set_faults, link_faults, Judges};
 ghost use Rattle.jsgen_rules.specs.Verdict.{verdict};
-ghost use Rattle.jsgen_check.specs.Verdict.{tables_of, tree_verdict, child_verdict};
+ghost use Rattle.jsgen_check.specs.Verdict.{tables_of, tree_verdict, child_verdict, told};
 
 mod assignments;
 mod children;
@@ -103,7 +103,10 @@ pub fn check_program(
     private: Option<&PrivateMappings>,
     program: &Program,
 ) -> Result<(), TreeFault>
-    ensures { Judges (job_breaches (record { options = options_plain options.now; tables = tables_of scoping.entry private.entry; program = program_plain program.now })) result }
+    ensures judges { Judges (job_breaches (record { options = options_plain options.now; tables = tables_of scoping.entry private.entry; program = program_plain program.now })) result }
+
+    // Of several rules that are broken it is the program alone that says which is told.
+    ensures told { result ≡ told (record { options = options_plain options.now; tables = tables_of scoping.entry private.entry; program = program_plain program.now }) }
 {
     let around = Surroundings {
         options,

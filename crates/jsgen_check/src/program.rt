@@ -1,7 +1,9 @@
 // Programs, whose height is judged behind their children.
+ghost use Rattle.std.specs.Prelude.{◌≡◌};
 ghost use Rattle.jsgen_tree.specs.Rows.{program_row};
 ghost use Rattle.jsgen_model.specs.Valid.{breaches, Judges};
-ghost use Rattle.jsgen_check.specs.Verdict.{surroundings_plain};
+ghost use Rattle.jsgen_rules.specs.Verdict.{verdict};
+ghost use Rattle.jsgen_check.specs.Verdict.{surroundings_plain, told_in};
 
 use crate::children::{check_comments, check_directives, check_statements};
 use crate::heights::{check_program_parts, higher};
@@ -14,7 +16,8 @@ pub fn check_program_row<N: CheckNode>(
     node: &Program<N>,
     around: &Surroundings<'_>,
 ) -> Result<(), TreeFault>
-    ensures { Judges (breaches (surroundings_plain around.now) (program_row N.plain node.now)) result }
+    ensures judges { Judges (breaches (surroundings_plain around.now) (program_row N.plain node.now)) result }
+    ensures told { result ≡ verdict (told_in (surroundings_plain around.now) (program_row N.plain node.now)) }
 {
     let source = check_source(around.source, node.span);
     let comments = check_comments(&node.comments, around);

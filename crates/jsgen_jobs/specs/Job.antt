@@ -48,3 +48,8 @@ Verdict bytes (Err fault) = IsFaulty bytes fault
 abbrev pub Answers : List ℕ → Result (String Global) JobFault → Type 0
 Answers bytes (Ok text) = (job : JobData) × IsJobOf job bytes × (string_bytes text ≡ text_bytes job)
 Answers bytes (Err fault) = IsFaulty bytes fault
+
+-- of the rules that a job breaks, the one that is told is this verdict's, whatever is asked
+abbrev pub Tells : {T : Type 0} → (JobData → Result (Unit {0}) TreeFault) → List ℕ → Result T JobFault → Type 0
+Tells judged bytes (Err (Refused fault)) = (job : JobData) → job_of bytes ≡ Ok job → judged job ≡ Err fault
+Tells judged bytes other = ⊤

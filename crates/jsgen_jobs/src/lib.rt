@@ -2,7 +2,7 @@
 #![tactic(auto)]
 
 ghost use Rattle.std.specs.Prelude.{Some};
-ghost use Rattle.jsgen_jobs.specs.Job.{Verdict, Answers};
+ghost use Rattle.jsgen_jobs.specs.Job.{Verdict, Answers, Tells};
 ghost use Rattle.jsgen_jobs.specs.Texts.{job_fault_text};
 
 use jsgen_fields::InputFault;
@@ -36,13 +36,23 @@ impl fmt::Display for JobFault {
 
 impl Error for JobFault {}
 
-/// What prints and checks jobs. Which of the broken rules is told, and when memory runs out, is all that it may choose.
+/// What prints and checks jobs. Which of the broken rules of a job is told, by both calls alike, and when memory runs out, is all
+/// that it may choose.
 pub trait PrintJobs {
+    ghost use Rattle.std.specs.Prelude.{Result};
+    ghost use Rattle.jsgen_tree.specs.Job.{JobData};
+    ghost use Rattle.jsgen_model.specs.declared.fault.TreeFault.{TreeFault};
+
+    /// The verdict on a job: Ok, or the rule that is told of it.
+    ghost judged: { JobData → Result (Unit {0}) TreeFault };
+
     /// The text of a job.
     fn print_job(alloc: Global, bytes: &[u8]) -> Result<String, JobFault>
-        ensures { Answers bytes.now result };
+        ensures answer { Answers bytes.now result }
+        ensures rule { Tells judged bytes.now result };
 
     /// Whether the bytes are a job that keeps the rules, or what is wrong.
     fn check_job(alloc: Global, bytes: &[u8]) -> Result<(), JobFault>
-        ensures { Verdict bytes.now result };
+        ensures verdict { Verdict bytes.now result }
+        ensures rule { Tells judged bytes.now result };
 }

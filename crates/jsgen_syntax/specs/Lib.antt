@@ -1,3 +1,4 @@
+pub mod Equality
 pub mod Precedence
 pub mod Operator
 pub mod Name

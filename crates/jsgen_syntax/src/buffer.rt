@@ -4,11 +4,21 @@ use crate::memory::Memory;
 use std::alloc::Global;
 
 /// What a level of indentation is made of.
-#[derive(Clone, Copy, Debug, Default, PartialEq, Eq)]
+#[derive(Clone, Copy, Debug, PartialEq, Eq)]
 pub enum IndentChar {
-    #[default]
     Tab,
     Space,
+}
+
+/// Tabs.
+impl Default for IndentChar {
+    ghost use Rattle.jsgen_syntax.specs.declared.buffer.IndentChar.TheVariants.{Tab};
+
+    ghost is_default = { λ c. c ≡ Tab };
+
+    fn default() -> IndentChar {
+        IndentChar::Tab
+    }
 }
 
 impl IndentChar {

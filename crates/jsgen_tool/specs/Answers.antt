@@ -1,10 +1,11 @@
 -- The table of answers of `run`.
-use Rattle.std.specs.Prelude.{◌≡◌, ◌⊎◌, ⊤, ℕ, ◌<◌, ◌≤◌, List, [], ◌∷◌, map, length, codes, String, string_bytes, IfSome, Option}
+use Rattle.std.specs.Prelude.{◌≡◌, ◌⊎◌, ⊤, ℕ, ◌<◌, ◌≤◌, List, [], ◌∷◌, map, length, codes, String, string_bytes, IfSome, Option, Result, Ok, Err}
 use Rattle.std.specs.declared.alloc.Global.{Global}
 use Rattle.std.specs.Io.KnownBytes.{Keeps, Appends}
 use Rattle.jsgen_model.specs.declared.fault.TreeFault.{TreeFault}
 use Rattle.jsgen_tree.specs.Job.{JobData}
 use Rattle.jsgen_model.specs.Spell.{text_bytes}
+use Rattle.jsgen_rows.specs.Job.{job_of}
 use Rattle.jsgen_fields.specs.declared.InputFault.{InputFault}
 use Rattle.jsgen_device.specs.Device.{Rose, AppendsPart}
 use Rattle.jsgen_tool.specs.Transfer.{IsWithin, limit}
@@ -31,6 +32,11 @@ InputRow (Refused fault) bytes = IsWithin bytes × Breaks fault bytes
 InputRow WriteFault bytes = IsWithin bytes × IsSomeJob bytes
 InputRow Done bytes = IsWithin bytes × IsSomeJob bytes
 InputRow other bytes = ⊤
+
+-- of the rules that a job breaks, the one that is told is this verdict's, whatever the words ask for
+abbrev pub TellsRule : (JobData → Result (Unit {0}) TreeFault) → Status → List ℕ → Type 0
+TellsRule judged (Refused fault) bytes = (job : JobData) → job_of bytes ≡ Ok job → judged job ≡ Err fault
+TellsRule judged other bytes = ⊤
 
 -- what a source that tells its bytes held is a job within the limit, whose tree keeps the rules
 abbrev pub HeldJob : Option (List ℕ) → JobData → Type 0

@@ -3,7 +3,7 @@ ghost use Rattle.std.specs.Prelude.{◌≡◌, ◌↔◌, ◌+◌, [], ◌∷◌
 ghost use Rattle.jsgen_tree.specs.Job.{JobData};
 ghost use Rattle.jsgen_model.specs.Plain.{IsPlain, IsQuiet};
 ghost use Rattle.jsgen_tool.specs.Headline.{HoldsJob, Prints};
-ghost use Rattle.jsgen_tool.specs.Answers.{IsPrint, IsCommand, InputRow, OutputRow, SourceCount, OutCount, Due};
+ghost use Rattle.jsgen_tool.specs.Answers.{IsPrint, IsCommand, InputRow, TellsRule, OutputRow, SourceCount, OutCount, Due};
 ghost use Rattle.jsgen_device.specs.Device.{Rose};
 ghost use Rattle.jsgen_tool.specs.Transfer.{TakesAtMost, limit};
 ghost use Rattle.jsgen_tool.specs.Lines.{Says, line_of};
@@ -31,6 +31,7 @@ fn print<P: PrintJobs, S: Source, K: Sink>(alloc: Global, source: &mut S, out: &
     ensures read { SourceCount result (S.faults source.old) (S.faults source.new) }
     ensures write { OutCount result (K.faults out.old) (K.faults out.new) }
     ensures input { IfSome (S.left source.old) (InputRow result) }
+    ensures rule { IfSome (S.left source.old) (TellsRule P.judged result) }
     ensures output { OutputRow result (S.left source.old) (K.got out.old) (K.got out.new) }
     ensures memory { result ≡ Status.NotJob InputFault.Memory → ⊥ }
     ensures taken { TakesAtMost (limit + 1) (S.left source.old) (S.left source.new) }
@@ -58,6 +59,7 @@ fn check<P: PrintJobs, S: Source>(alloc: Global, source: &mut S) -> Status
     ensures write { result ≡ Status.WriteFault → ⊥ }
     ensures read { SourceCount result (S.faults source.old) (S.faults source.new) }
     ensures input { IfSome (S.left source.old) (InputRow result) }
+    ensures rule { IfSome (S.left source.old) (TellsRule P.judged result) }
     ensures memory { result ≡ Status.NotJob InputFault.Memory → ⊥ }
     ensures taken { TakesAtMost (limit + 1) (S.left source.old) (S.left source.new) }
 {
@@ -85,6 +87,7 @@ fn work<P: PrintJobs, S: Source, K: Sink>(
     ensures read { SourceCount result (S.faults source.old) (S.faults source.new) }
     ensures write { OutCount result (K.faults out.old) (K.faults out.new) }
     ensures input { IfSome (S.left source.old) (InputRow result) }
+    ensures rule { IfSome (S.left source.old) (TellsRule P.judged result) }
     ensures output { IsPrint words.now → OutputRow result (S.left source.old) (K.got out.old) (K.got out.new) }
     ensures kept { (IsPrint words.now → ⊥) → (result ≡ Status.WriteFault → ⊥) × (out.new ≡ out.old) }
     ensures memory { result ≡ Status.NotJob InputFault.Memory → ⊥ }
@@ -115,6 +118,7 @@ pub fn run<P: PrintJobs, S: Source, K: Sink>(
     ensures read { SourceCount result (S.faults source.old) (S.faults source.new) }
     ensures write { OutCount result (K.faults out.old) (K.faults out.new) }
     ensures input { IfSome (S.left source.old) (InputRow result) }
+    ensures rule { IfSome (S.left source.old) (TellsRule P.judged result) }
     ensures output { IsPrint words.now → OutputRow result (S.left source.old) (K.got out.old) (K.got out.new) }
 
     // Where the words aren't `print`, nothing is written.

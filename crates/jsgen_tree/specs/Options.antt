@@ -69,8 +69,11 @@ options_plain o = record {
 
 -- ---- the choices that have names
 
+abbrev pub default_legal : Legal
+default_legal = inline
+
 abbrev pub default_comments : Comments
-default_comments = record { normal = true; jsdoc = true; annotation = true; legal = inline }
+default_comments = record { normal = true; jsdoc = true; annotation = true; legal = default_legal }
 
 abbrev pub no_comments : Comments
 no_comments = record { normal = false; jsdoc = false; annotation = false; legal = left_out }

@@ -41,7 +41,7 @@ pub use functions::{
     ArrowFunctionExpression, FormalParameter, FormalParameterRest, FormalParameters, Function,
     FunctionBody, FunctionKind,
 };
-pub use laws::fields_are_named;
+pub use laws::{equality_is_by_value, fields_are_named, operators_are_named};
 pub use loops::{
     BreakStatement, ContinueStatement, DebuggerStatement, DoWhileStatement, ForInStatement,
     ForOfStatement, ForStatement, LabelIdentifier, LabeledStatement, ReturnStatement,

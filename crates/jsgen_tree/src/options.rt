@@ -1,6 +1,6 @@
 // What a caller can choose about a text.
 ghost use Rattle.std.specs.Prelude.{◌≡◌, IfOk};
-ghost use Rattle.jsgen_tree.specs.Options.{legal_plain, comments_plain, options_plain, is_none, is_inline, is_eof, no_comments, default_comments, default_options, minified_options};
+ghost use Rattle.jsgen_tree.specs.Options.{legal_plain, comments_plain, options_plain, is_none, is_inline, is_eof, no_comments, default_legal, default_comments, default_options, minified_options};
 
 use jsgen_syntax::{IndentChar, Memory};
 use std::alloc::Global;
@@ -56,6 +56,15 @@ impl LegalComment {
     }
 }
 
+/// They stay where they are.
+impl Default for LegalComment {
+    ghost is_default = { λ legal. legal_plain legal ≡ default_legal };
+
+    fn default() -> LegalComment {
+        LegalComment::Inline
+    }
+}
+
 /// Which comments are printed.
 #[derive(Debug, PartialEq, Eq, Drop)]
 pub struct CommentOptions {
@@ -102,7 +111,7 @@ impl Default for CommentOptions {
             normal: true,
             jsdoc: true,
             annotation: true,
-            legal: LegalComment::Inline,
+            legal: LegalComment::default(),
         }
     }
 }
@@ -170,7 +179,7 @@ impl Default for CodegenOptions {
             ascii_only: false,
             comments: CommentOptions::default(),
             source_map_path: None,
-            indent_char: IndentChar::Tab,
+            indent_char: IndentChar::default(),
             indent_width: 1,
             initial_indent: 0,
         }

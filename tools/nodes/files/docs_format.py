@@ -6,16 +6,16 @@ from table import snake
 
 FIRST, LAST = "<!-- Generated from tools/nodes/table.txt by tools/nodes/generate -->", "<!-- to here -->"
 VALUES = {"text": "a text", "units": "a string", "digits": "the value", "number": "a whole number below 2^32",
-          "flag": "a flag, false where it is absent"}
+          "flag": "a flag"}
 
 
 def write(table):
     page = (REPOSITORY / "docs/FORMAT.md").read_text()
     before, _, rest = page.partition(FIRST)
     _, _, after = rest.partition(LAST)
-    rows = "".join(f"| `{n.name}` | {'; '.join(fields(table, n)) or 'none'} |\n" for n in table.nodes.values())
+    types = "".join(f"- `{n.name}`: {'; '.join(fields(table, n)) or 'none'}\n" for n in table.nodes.values())
     sets = " ".join(f"{plural(s).capitalize()} are {members(table, s)}." for s in table.sets)
-    text = f"{FIRST}\n\n| type | fields, in order |\n|---|---|\n{rows}\n{sets}\n\n{LAST}"
+    text = f"{FIRST}\n\n{types}\n{sets}\n\n{LAST}"
     return {"docs/FORMAT.md": before + text + after}
 
 
@@ -41,8 +41,8 @@ def note(doc):
 
 def value(table, f):
     if f.kind in table.words:
-        words = [f"`{w}`".replace("|", r"\|") for w, _ in table.words[f.kind].words]
-        return f"the word {words[0]}" if len(words) == 1 else f"one of the words {' '.join(words)}"
+        words = [f"`{w}`" for w, _ in table.words[f.kind].words]
+        return f"the word {words[0]}" if len(words) == 1 else f"one of {' '.join(words)}"
     if f.needed:
         return "`true` or `false`"
     if f.kind in VALUES:

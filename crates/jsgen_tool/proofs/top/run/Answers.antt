@@ -9,6 +9,7 @@ returns g c = record {
   read = c.work-status.ensures.read;
   write = c.work-status.ensures.write;
   input = c.work-status.ensures.input;
+  rule = c.work-status.ensures.rule;
   output = c.work-status.ensures.output;
   kept = c.work-status.ensures.kept;
   due = λ is_command unread.

@@ -4,7 +4,7 @@ use Rattle.jsgen_uses.proofs.log.log_statement.Goals as goal
 
 pub returns-in-Err-clause-refused : goal.returns-in-Err-clause-refused
 returns-in-Err-clause-refused c =
-    λ refused. is_unfree _ _ _ (chars c.args.message.now) (chars c.args.name.now) c.in-Err.field-0 c.new-printer.ensures.options c.new-printer.ensures.tables c.in_ok-program.ensures c.in-Err.ensures
+    λ refused. is_unfree _ _ _ (chars c.args.message.now) (chars c.args.name.now) c.in-Err.field-0 c.new-printer.ensures.options c.new-printer.ensures.tables c.in_ok-program.ensures c.in-Err.ensures.judges
 
 pub returns-clause-code : goal.returns-clause-code
 returns-clause-code c =
@@ -12,10 +12,10 @@ returns-clause-code c =
 
 pub returns-clause-taken : goal.returns-clause-taken
 returns-clause-taken c =
-    is_free _ _ _ (chars c.args.message.now) (chars c.args.name.now) c.new-printer.ensures.options c.new-printer.ensures.tables c.in_ok-program.ensures c.in_default.ensures
+    is_free _ _ _ (chars c.args.message.now) (chars c.args.name.now) c.new-printer.ensures.options c.new-printer.ensures.tables c.in_ok-program.ensures c.in_default.ensures.judges
 
 pub build-requires-clause-valid : goal.build-requires-clause-valid
-build-requires-clause-valid c = c.in_default.ensures
+build-requires-clause-valid c = c.in_default.ensures.judges
 
 pub build-requires-clause-unprinted : goal.build-requires-clause-unprinted
 build-requires-clause-unprinted c = c.new-printer.ensures.printed

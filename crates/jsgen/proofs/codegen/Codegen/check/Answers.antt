@@ -1,4 +1,4 @@
 use Rattle.jsgen.proofs.codegen.Codegen.check.Goals as goal
 
 pub returns : goal.returns
-returns c = c.check_program.ensures
+returns c = record { judges = c.check_program.ensures.judges; told = c.check_program.ensures.told }
