@@ -1,4 +1,4 @@
--- What functions, methods and accessors are read as by ECMA-262, worked out by hand, and a few texts that aren't read.
+-- What functions, methods and accessors are read as by ECMA-262, worked out by hand.
 use Rattle.std.specs.Prelude.{ℕ, List, [], ◌∷◌, Bool, true, false, codes}
 use Rattle.jsgen_tree.specs.declared.collections.PropertyKind.{PropertyKind}
 use Rattle.jsgen_tree.specs.declared.collections.PropertyKind.TheVariants.{Init, Get, Set}

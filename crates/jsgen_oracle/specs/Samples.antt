@@ -1,4 +1,4 @@
--- What a few texts are read as by ECMA-262, worked out by hand, a few that aren't read, and which trees have one normal form.
+-- What a few texts are read as by ECMA-262, worked out by hand, and one that is read as nothing else.
 use Rattle.std.specs.Prelude.{ℕ, List, [], ◌∷◌, true, false, codes}
 use Rattle.jsgen_syntax.specs.declared.operator.BinaryOperator.TheVariants.{Addition, Subtraction, Multiplication, Exponential}
 use Rattle.jsgen_syntax.specs.declared.operator.UnaryOperator.{UnaryOperator}

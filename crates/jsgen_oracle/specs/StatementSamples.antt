@@ -1,4 +1,4 @@
--- What loops, labels, jumps, choices between cases and handlers are read as by ECMA-262, worked out by hand, and a few texts that aren't read.
+-- What loops, labels, jumps, choices between cases and handlers are read as by ECMA-262, worked out by hand.
 use Rattle.std.specs.Prelude.{ℕ, List, codes}
 use Rattle.jsgen_tree.specs.declared.statements.VariableDeclarationKind.{VariableDeclarationKind}
 use Rattle.jsgen_tree.specs.declared.statements.VariableDeclarationKind.TheVariants.{Const, Let, Var}

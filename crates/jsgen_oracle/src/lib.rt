@@ -1,4 +1,5 @@
-//! Plain, slow programs for the definitions of the model, for tests to compare with.
+//! Plain, slow programs for the definitions of the model, for tests to compare with, and samples: what a few texts are read as,
+//! which are not read, and which trees have one normal form.
 #![tactic(auto)]
 
 ghost use Rattle.std.specs.Prelude.{IfOk, MatchOption};
