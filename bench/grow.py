@@ -84,26 +84,12 @@ class Copy:
             for path in (proofs / changed(function)).rglob("*.antt"):
                 path.write_text(changed(path.read_text()))
 
-    def copy_impl(self, name, head, *changes):
-        """Copies an `impl` block of Rust, which begins so, likewise."""
-
-        def change(old):
-            found = re.search(rf"^{re.escape(head)} \{{\n(?:.*\n)+?\}}\n", old, re.M)
-            assert found, (name, head)
-            made = found[0]
-            for word, new in changes:
-                made = re.sub(rf"\b{word}\b", new, made)
-            return old[: found.end()] + "\n" + made + old[found.end() :]
-
-        self.change(name, change)
-
     def import_type(self, name, row, type):
         lines = f"ghost use Rattle.jsgen_tree.specs.Rows.{{{row}_row}};\nuse jsgen_tree::{type};\n"
         self.change(name, lambda old: re.sub(r"^(?=(?:ghost )?use )", lines, old, count=1, flags=re.M))
 
 
 MODEL, LAWS, NODES = "crates/jsgen_model/specs/", "crates/jsgen_reading_laws/proofs/", "crates/jsgen_nodes/src/"
-NORMAL = "crates/jsgen_oracle/src/normal.rt"
 TABLE = "tools/nodes/table.txt"
 
 
@@ -148,14 +134,6 @@ mutual
     copy.behind_clause(LAWS + "Induction.antt", f"printed_expression {{names}} {{c}} (family.{family} ", line)
 
 
-def into_normal_forms(copy, of_set, old, row, name):
-    """The slow program's arm, and what makes the form."""
-    snake = re.sub(r"(?<!^)(?=[A-Z])", "_", old).lower()
-    copy.copy_clause(NORMAL, f"{of_set}::{old}(node) =>", (f"{of_set}::{old}", f"{of_set}::{name}"))
-    copy.copy_impl(NORMAL, f"impl<N: NormalNode> HasForm for {old}<N>", (f"{snake}_row", f"{row}_row"), (f"{old}(?=<)", name))
-    copy.import_type(NORMAL, row, name)
-
-
 def choice(copy, k):
     new, row, name = f"choice_{k}", f"choice_{k}_expression", f"Choice{k.title()}Expression"
     into_table(copy, "Expression", f"{name} 13.14 {new}", ("test Expression", "consequent Expression", "alternate Expression"))
@@ -165,7 +143,6 @@ def choice(copy, k):
     copy.copy_function(NODES + "choices.rt", "print_choice", *types)
     copy.copy_function(NODES + "choices.rt", "print_conditional_expression", ("print_conditional_expression", f"print_{row}"), *types)
     copy.import_type(NODES + "choices.rt", row, name)
-    into_normal_forms(copy, "Expression", "ConditionalExpression", row, name)
 
 
 def call(copy, k):
@@ -177,7 +154,6 @@ def call(copy, k):
     copy.copy_function(NODES + "operators.rt", "print_construction", *types)
     copy.copy_function(NODES + "operators.rt", "print_new_expression", ("print_new_expression", f"print_{row}"), *types)
     copy.import_type(NODES + "operators.rt", row, name)
-    into_normal_forms(copy, "Expression", "NewExpression", row, name)
 
 
 def group(copy, k):
@@ -195,7 +171,6 @@ def group(copy, k):
     copy.change(LAWS + "Induction.antt", lambda text: text.replace("Stands.{Stated, Listed,", "Stands.{Stated, stated_among, Listed,"))
     copy.copy_function(NODES + "blocks.rt", "print_block_statement", ("print_block_statement", f"print_{row}"), ("block_statement_row", f"{row}_row"), ("BlockStatement", name))
     copy.import_type(NODES + "blocks.rt", row, name)
-    into_normal_forms(copy, "Statement", "BlockStatement", row, name)
 
 
 def grown(folder, number):

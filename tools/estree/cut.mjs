@@ -20,25 +20,36 @@ export function isRead(program) {
  * empty one where no part is. `parse` gives the tree of a text, and throws where it is none.
  */
 export function cut(source, program, parse) {
-  if (isRead(program)) return source;
+  return cutWithLines(source, program, parse).text;
+}
+
+/** The same, with a function from a line of the text to the source's, both counted from 1. */
+export function cutWithLines(source, program, parse) {
+  if (isRead(program)) return { text: source, lineInSource: (line) => line };
   const found = new Parts(source, parse);
   found.among(program.body);
-  return found.joined();
+  const kept = found.kept();
+  return { text: kept.join("\n"), lineInSource: (line) => found.lineInSource(kept, line) };
+}
+
+/** The line of an offset, counted from 1. */
+export function lineOf(text, offset) {
+  return text.slice(0, offset).split(/\r\n|[\n\r\u2028\u2029]/).length;
 }
 
 class Parts {
   constructor(source, parse) {
     this.source = source;
     this.parse = parse;
-    this.texts = new Set();
+    this.texts = new Map(); // each with where it stands in the source
     this.length = 0;
   }
 
   // Keeps the text where it is a statement by itself that is read.
-  keep(text) {
+  keep(text, start) {
     if (this.texts.has(text)) return true;
     if (!this.isStatement(text)) return false;
-    this.texts.add(text);
+    this.texts.set(text, start);
     this.length += text.length;
     return true;
   }
@@ -62,20 +73,30 @@ class Parts {
 
   of(node) {
     const text = this.source.slice(node.start, node.end);
-    if (isStatement(node) && this.keep(text.endsWith(";") || text.endsWith("}") ? text : `${text};`)) return;
-    if (isOperation(node) && this.keep(`(${text});`)) return;
+    if (isStatement(node) && this.keep(text.endsWith(";") || text.endsWith("}") ? text : `${text};`, node.start)) return;
+    if (isOperation(node) && this.keep(`(${text});`, node.start)) return;
     this.among(childrenOf(node));
   }
 
   // Two of them may declare one name, so each is kept where the program goes on with it.
-  joined() {
-    const whole = [...this.texts].join("\n");
-    if (this.isProgram(whole)) return whole;
+  kept() {
+    const whole = [...this.texts.keys()];
+    if (this.isProgram(whole.join("\n"))) return whole;
     const kept = [];
-    for (const text of [...this.texts].slice(0, 400)) {
+    for (const text of whole.slice(0, 400)) {
       if (this.isProgram([...kept, text].join("\n"))) kept.push(text);
     }
-    return kept.join("\n");
+    return kept;
+  }
+
+  lineInSource(kept, line) {
+    let first = 1;
+    for (const text of kept) {
+      const count = lineOf(text, text.length);
+      if (line < first + count) return lineOf(this.source, this.texts.get(text)) + line - first;
+      first += count;
+    }
+    return line;
   }
 
   isProgram(text) {

@@ -1,13 +1,22 @@
 // The normal form of an ESTree tree: what two texts of one meaning have in common. It is written apart from the definitions
-// that jsgen is proved against (crates/jsgen_model/specs/Normal.antt) and from its programs, to compare with them.
+// that jsgen is proved against (crates/jsgen_model/specs/Normal.antt), to compare with them.
 import { withoutParentheses } from "./texts.mjs";
 
 const LEFT_OUT = new Set(["type", "start", "end", "loc", "range", "raw", "extra", "sourceType", "comments", "tokens", "directive", "shorthand", "parent"]);
+
+// Where the node of a form begins in its text.
+const starts = new WeakMap();
 
 /** The normal form: nested lists of texts, numbers and null. */
 export function normal(node) {
   if (Array.isArray(node)) return node.map(normal);
   if (node === null || typeof node !== "object") return node ?? null;
+  const form = formOf(node);
+  if (!starts.has(form)) starts.set(form, node.start ?? null);
+  return form;
+}
+
+function formOf(node) {
   switch (node.type) {
     case "ParenthesizedExpression":
       return normal(node.expression);
@@ -85,15 +94,25 @@ function endsOpen(node) {
   }
 }
 
-/** The first difference of two normal forms, as a text that says where it is, or null. */
-export function difference(one, other, path = "") {
-  if (!Array.isArray(one) || !Array.isArray(other)) return one === other ? null : `${path}: ${shown(one)} and ${shown(other)}`;
-  for (let at = 0; at < Math.min(one.length, other.length); at++) {
-    const name = typeof one[at]?.[0] === "string" ? one[at][0] : at;
-    const found = difference(one[at], other[at], `${path}/${name}`);
-    if (found) return found;
+/**
+ * The first difference of two normal forms, or null: `what` says where it is in the forms, and `at` are the offsets in the two
+ * texts at which the innermost nodes round it begin.
+ */
+export function firstDifference(one, other, path = "", at = [0, 0]) {
+  const inside = [starts.get(one) ?? at[0], starts.get(other) ?? at[1]];
+  const found = { what: `${path}: ${shown(one)} and ${shown(other)}`, at: inside };
+  if (!Array.isArray(one) || !Array.isArray(other)) return one === other ? null : found;
+  for (let part = 0; part < Math.min(one.length, other.length); part++) {
+    const name = typeof one[part]?.[0] === "string" ? one[part][0] : part;
+    const deeper = firstDifference(one[part], other[part], `${path}/${name}`, inside);
+    if (deeper) return deeper;
   }
-  return one.length === other.length ? null : `${path}: ${shown(one)} and ${shown(other)}`;
+  return one.length === other.length ? null : found;
+}
+
+/** The same as a text that says where it is in the forms, or null. */
+export function difference(one, other) {
+  return firstDifference(one, other)?.what ?? null;
 }
 
 function shown(form) {

@@ -1,13 +1,14 @@
 // `node tools/estree/roundtrip.mjs [--random COUNT [--seed NUMBER]] [DIRECTORY ..]`: every JavaScript file below the directories
 // is parsed, cut down to what jsgen reads by now, printed under each set of options, parsed again, and compared by normal form;
 // where its names are printed by tables, with that of the source in which these names alone are renamed.
-// With --random, so many programs that are made up are printed so too.
+// With --random, so many programs that are made up are printed so too. A run that fails is told by its file and line (of a program
+// that is made up, its number stands for the file), its set of options and what differs, the first ten of them.
 import { readFileSync, readdirSync, statSync } from "node:fs";
 import { join } from "node:path";
 import { Refused, printed, run } from "./command.mjs";
 import { jobOf } from "./convert.mjs";
-import { cut, isRead } from "./cut.mjs";
-import { difference, normal } from "./normal.mjs";
+import { cutWithLines, isRead, lineOf } from "./cut.mjs";
+import { firstDifference, normal } from "./normal.mjs";
 import { parsed } from "./parser.mjs";
 import { randomProgram } from "./random.mjs";
 import { isField } from "./reads.mjs";
@@ -41,9 +42,9 @@ class Tally {
     this.started = Date.now();
   }
 
-  fail(name, set, what) {
+  fail(place, set, what) {
     this.bad++;
-    if (this.bad <= SHOWN) process.stderr.write(`\n${name}, ${set}: ${what}\n`);
+    if (this.bad <= SHOWN) process.stderr.write(`\n${place}: ${set}: ${what}\n`);
   }
 
   // One line, which is written over, and only where somebody looks at it.
@@ -66,38 +67,76 @@ function jobAndSource(source, { options = {}, parentheses = false, negative = fa
   return [job, names ? renamedSource(source, names) : source];
 }
 
+// A program that is tried: its name, its text, and the lines of a text of the same lines in the file.
+class Tried {
+  constructor(name, text, lineInFile = (line) => line) {
+    Object.assign(this, { name, text, lineInFile });
+  }
+
+  // Where the offset of a text with this one's lines stands.
+  place(text, offset) {
+    return `${this.name}:${this.lineInFile(lineOf(text, offset))}`;
+  }
+}
+
 // Prints the program under each set, and looks at what comes.
-function tryProgram(tally, name, source) {
+function tryProgram(tally, tried) {
   const wanted = new Map();
   const lengths = {};
   tally.programs++;
   for (const [set, asked] of READ_SETS) {
     tally.runs++;
     const options = asked.options ?? {};
-    const [job, other] = jobAndSource(source, asked);
-    if (!wanted.has(other)) wanted.set(other, normal(parsed(other)));
+    const [job, source] = jobAndSource(tried.text, asked);
+    if (!wanted.has(source)) wanted.set(source, normal(parsed(source)));
     const { status, code, line } = printed(job);
     lengths[set] = code.length;
     if (status !== 0) {
-      tally.fail(name, set, `status ${status}: ${line}`);
+      tally.fail(tried.place(tried.text, offsetIn(line, tried.text)), set, `status ${status}: ${line}`);
       continue;
     }
-    const found = differenceOf(wanted.get(other), code);
-    if (found) tally.fail(name, set, found);
-    if (options.ascii_only && /[^\x00-\x7f]/.test(code)) tally.fail(name, set, "the text is not ASCII");
+    const found = differenceOf(wanted.get(source), code);
+    if (found) tally.fail(tried.place(source, found.at ?? firstUnparsed(tried.text, asked)), set, found.what);
+    if (options.ascii_only && /[^\x00-\x7f]/.test(code)) tally.fail(tried.place(tried.text, 0), set, "the text is not ASCII");
   }
   for (const [set, pretty] of [["minified", "pretty"], ["renamed, minified", "renamed"]]) {
-    if (lengths[set] > lengths[pretty]) tally.fail(name, set, "the text is longer than the pretty one");
+    if (lengths[set] > lengths[pretty]) tally.fail(tried.place(tried.text, 0), set, "the text is longer than the pretty one");
   }
 }
 
+// The offset in the text of a line that tells one in bytes at its end, as `refused: Name at 12`.
+function offsetIn(line, text) {
+  const bytes = Number(/ at (\d+)$/.exec(line)?.[1] ?? 0);
+  return Buffer.from(text).subarray(0, bytes).toString().length;
+}
+
+// What differs, and at which offset of the source, if that is known; and what stands there in the code.
 function differenceOf(wanted, code) {
   try {
-    return difference(wanted, normal(parsed(code)));
+    const found = firstDifference(wanted, normal(parsed(code)));
+    return found && { what: `${found.what}\n  printed: ${excerpt(code, found.at[1])}`, at: found.at[0] };
   } catch (error) {
-    if (error instanceof SyntaxError) return `what is printed does not parse: ${error.message}`;
-    throw error;
+    if (!(error instanceof SyntaxError)) throw error;
+    return { what: `what is printed does not parse: ${error.message}\n  printed: ${excerpt(code, error.pos)}`, at: null };
   }
+}
+
+// The offset of the first statement whose own text, as it is printed, does not parse.
+function firstUnparsed(text, asked) {
+  const isUnparsed = ({ start, end }) => {
+    try {
+      parsed(printed(jobAndSource(text.slice(start, end), asked)[0]).code);
+      return false;
+    } catch (error) {
+      if (!(error instanceof SyntaxError)) throw error;
+      return true;
+    }
+  };
+  return parsed(text).body.find(isUnparsed)?.start ?? 0;
+}
+
+function excerpt(code, offset) {
+  return JSON.stringify(code.slice(Math.max(0, offset - 40), offset + 80));
 }
 
 function tryFile(tally, path) {
@@ -111,13 +150,13 @@ function tryFile(tally, path) {
     return;
   }
   const isWhole = isRead(program);
-  const text = isWhole ? source : cut(source, program, parsed);
+  const { text, lineInSource } = cutWithLines(source, program, parsed);
   if (text === "" && !isWhole) {
     tally.passed++;
     return;
   }
   if (isWhole) tally.whole++;
-  tryProgram(tally, path, text);
+  tryProgram(tally, new Tried(path, text, lineInSource));
 }
 
 function* filesBelow(path) {
@@ -148,7 +187,7 @@ await run("node roundtrip.mjs [--random COUNT [--seed NUMBER]] [DIRECTORY ..]", 
     tally.progress();
   }
   for (let at = 0; at < count; at++) {
-    tryProgram(tally, `random ${seed + at}`, randomProgram(seed + at));
+    tryProgram(tally, new Tried(`random ${seed + at}`, randomProgram(seed + at)));
     tally.progress();
   }
   if (process.stderr.isTTY) process.stderr.write("\n");

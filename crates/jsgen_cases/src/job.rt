@@ -12,11 +12,6 @@ use jsgen_syntax::Memory;
 use jsgen_tree::{CodegenOptions, CommentOptions, Program};
 use std::alloc::Global;
 
-/// Here alone a job's tree is let go of, so that this is proved once.
-pub fn let_go(job: Job) {
-    let _ = job;
-}
-
 /// The answer for a job.
 pub fn push_of_job(
     alloc: Global,
@@ -27,9 +22,7 @@ pub fn push_of_job(
     let Ok(job) = read_job(alloc, job.as_bytes()) else {
         return Ok(answer.push_str("no job")?);
     };
-    let outcome = push_of(alloc, asked, &job, answer);
-    let_go(job);
-    outcome
+    push_of(alloc, asked, &job, answer)
 }
 
 fn push_of(alloc: Global, asked: &str, job: &Job, answer: &mut String) -> Result<(), Memory> {

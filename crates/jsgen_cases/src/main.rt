@@ -1,13 +1,12 @@
 // Answers each line of standard input by a line of standard output: what the library and the program print for a job,
-// whether two programs have one normal form, what the definitions and the library say of a text, a word or a string, and
-// what the library's calls give for a node, an operator or a level by itself.
+// what the definitions and the library say of a text, a word or a string, and what the library's calls give for a node,
+// an operator or a level by itself.
 // tools/cases/generate writes both files.
 #![tactic(auto)]
 
 mod buffer;
 mod job;
 mod level;
-mod meaning;
 mod name;
 mod nodes;
 mod operator;
@@ -25,7 +24,6 @@ use buffer::push_buffer;
 use job::push_of_job;
 use jsgen_syntax::Memory;
 use level::{push_context, push_level};
-use meaning::push_comparison;
 use name::{push_log, push_name};
 use operator::push_wrapped;
 use printed::push_printed;
@@ -49,7 +47,6 @@ fn push_answer(
 ) -> Result<(), Memory> {
     match question {
         "print" => push_printed(alloc, rest, answer),
-        "compare" => push_comparison(alloc, rest, answer),
         "of" => push_of_job(alloc, how, rest, answer),
         "run" => push_run(alloc, how, rest, answer),
         "tokens" => push_row(alloc, rest, answer),

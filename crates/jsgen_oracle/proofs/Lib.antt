@@ -10,16 +10,8 @@ pub mod Made
 pub mod Samples
 pub mod Assigned
 pub mod Arrows
-pub mod Ends
-pub mod Starts
-pub mod Sound
 pub mod Looped
 pub mod Nested
 pub mod Bodies
+pub mod Sieve
 pub mod Refused
-pub mod Joined
-pub mod Alone
-pub mod Declared
-pub mod Ended
-pub mod Forms
-pub mod Renamed

@@ -1,4 +1,4 @@
--- Texts that are read, and texts that aren't.
+-- Texts that are read, and one that is read as nothing else.
 use Rattle.std.proofs.Common.{◌≡◌, ℕ, Bool, true, false, Some, List, [], ◌∷◌, codes, refl}
 use lib.Utf8.{encode}
 use Rattle.unicode_ident.proofs.Computing.{unicode_ident}

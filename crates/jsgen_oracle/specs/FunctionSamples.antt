@@ -1,4 +1,4 @@
--- What functions, methods and accessors are read as by ECMA-262, worked out by hand, and a few texts that aren't read.
+-- What functions, methods and accessors are read as by ECMA-262, worked out by hand.
 use Rattle.std.specs.Prelude.{ℕ, List, [], ◌∷◌, Bool, true, false, codes}
 use Rattle.jsgen_tree.specs.declared.collections.PropertyKind.{PropertyKind}
 use Rattle.jsgen_tree.specs.declared.collections.PropertyKind.TheVariants.{Init, Get, Set}
@@ -9,7 +9,7 @@ use Rattle.jsgen_tree.specs.Tree.{Tree, Maybe, absent, given, Trees, no_trees, m
 use Rattle.jsgen_tree.specs.Nodes as tree
 use Rattle.jsgen_tree.specs.Places.{bare}
 use Rattle.jsgen_model.specs.Normal.{nothing_of, named, unnumbered, function_values, property_values}
-use Rattle.jsgen_oracle.specs.Samples.{IsRead, IsNotRead, module_of, statement_of, block_of, in_parentheses, assignment_of, call_of, arrow_of, parameters_of, parameter, rest_in, one_parameter, return_of, empty_body, string_of, a, b, one}
+use Rattle.jsgen_oracle.specs.Samples.{IsRead, module_of, statement_of, block_of, in_parentheses, assignment_of, call_of, arrow_of, parameters_of, parameter, rest_in, one_parameter, return_of, empty_body, string_of, a, b, one}
 
 -- ---- trees
 
@@ -77,31 +77,3 @@ pub record FunctionSamples : Type 0 where
   pub setter_with_value : IsRead (codes "({set a(b=1){}});") (module_of (more (statement_of (in_parentheses (object_of (more (accessor_of Set false (key_of (codes "a")) (parameters_of (more (parameter (codes "b") (given one)) no_trees) absent) empty_body) no_trees)))) no_trees))
   pub function_in_parameter : IsRead (codes "function f(a=function(){}){}") (module_of (more (function_with Declaration (name_of (codes "f")) (parameters_of (more (parameter (codes "a") (given (function_with Expression absent no_parameters empty_body))) no_trees) absent) empty_body) no_trees))
   pub arrow_with_rest : IsRead (codes "(a,...b)=>{return};") (module_of (more (statement_of (arrow_of (parameters_of (more (parameter (codes "a") absent) no_trees) (given (rest_in (codes "b")))) (body_with (more (return_of absent) no_trees)))) no_trees))
-  -- no `return` stands outside of functions (14.10)
-  pub return_in_module : IsNotRead (codes "return a;")
-  -- a declaration has a name: only the default export of a module may have none (15.2)
-  pub nameless_declaration : IsNotRead (codes "function(){}")
-  -- a reserved word is no name (13.1)
-  pub reserved_name : IsNotRead (codes "function if(){}")
-  pub reserved_parameter : IsNotRead (codes "function f(if){}")
-  -- no declaration of a function is what `if`, `while` or a label is followed by in strict code (14.6, 14.7 and 14.13.1)
-  pub function_behind_if : IsNotRead (codes "if(a)function f(){}")
-  pub function_behind_while : IsNotRead (codes "while(a)function f(){}")
-  pub function_behind_label : IsNotRead (codes "a:function f(){}")
-  -- a comma doesn't stand for a parameter (15.1)
-  pub comma_alone : IsNotRead (codes "function f(,){}")
-  -- a getter has no parameter, and a setter has one (15.4)
-  pub getter_with_parameter : IsNotRead (codes "({get a(b){}});")
-  pub setter_without_parameter : IsNotRead (codes "({set a(){}});")
-  -- nor does it take a rest
-  pub setter_with_rest : IsNotRead (codes "({set a(...b){}});")
-  -- a method has a body, and a comma parts two (13.2.5)
-  pub method_without_body : IsNotRead (codes "({a()});")
-  pub methods_without_comma : IsNotRead (codes "({a(){}b(){}});")
-  -- no parameter follows the one that takes the rest (15.1)
-  pub rest_before_parameter : IsNotRead (codes "function f(...a,b){}")
-  -- what is returned stands on the line of `return` (14.10); nor does the definition end a statement at a line end, as 12.10 does
-  pub return_on_two_lines : IsNotRead (codes "function f(){return\na}")
-  -- an arrow function is no operand: no member is taken of it, and it isn't called (15.3)
-  pub member_of_body : IsNotRead (codes "a=>{}.b;")
-  pub called_body : IsNotRead (codes "a=>{}();")

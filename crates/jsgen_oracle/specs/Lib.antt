@@ -6,7 +6,6 @@ pub mod Samples
 pub mod StatementSamples
 pub mod FunctionSamples
 pub mod NumberSamples
-pub mod Field
-pub mod Form
 pub mod Values
-pub mod Only
+pub mod RefusedTexts
+pub mod NormalSamples

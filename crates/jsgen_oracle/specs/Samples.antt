@@ -1,32 +1,22 @@
--- What a few texts are read as by ECMA-262, worked out by hand, a few that aren't read, and which trees have one normal form.
-use Rattle.std.specs.Prelude.{◌≡◌, ℕ, List, [], ◌∷◌, Bool, true, false, codes}
+-- What a few texts are read as by ECMA-262, worked out by hand, and one that is read as nothing else.
+use Rattle.std.specs.Prelude.{ℕ, List, [], ◌∷◌, true, false, codes}
 use Rattle.jsgen_syntax.specs.declared.operator.BinaryOperator.TheVariants.{Addition, Subtraction, Multiplication, Exponential}
-use Rattle.jsgen_syntax.specs.declared.operator.LogicalOperator.TheVariants.{Or, And}
 use Rattle.jsgen_syntax.specs.declared.operator.UnaryOperator.{UnaryOperator}
 use Rattle.jsgen_syntax.specs.declared.operator.UnaryOperator.TheVariants.{UnaryNegation, Typeof}
 use Rattle.jsgen_syntax.specs.declared.operator.UpdateOperator.TheVariants.{Increment}
 use Rattle.jsgen_syntax.specs.declared.operator.AssignmentOperator.TheVariants.{Assign}
 use Rattle.jsgen_tree.specs.declared.statements.VariableDeclarationKind.TheVariants.{Const}
-use Rattle.jsgen_tree.specs.declared.collections.PropertyKind.{PropertyKind}
-use Rattle.jsgen_tree.specs.declared.collections.PropertyKind.TheVariants.{Init, Get, Set}
-use Rattle.jsgen_tree.specs.declared.functions.FunctionKind.{FunctionKind}
-use Rattle.jsgen_tree.specs.declared.functions.FunctionKind.TheVariants as function_kinds
-use Rattle.jsgen_tree.specs.Atom.{no_value, text, units, flag, digits, numeric_kind, binary_operator, logical_operator, unary_operator, update_operator, assignment_operator, kind_of_function}
-use Rattle.jsgen_tree.specs.Number.{Whole}
+use Rattle.jsgen_tree.specs.Atom.{units, flag, binary_operator, unary_operator, update_operator, assignment_operator}
 use Rattle.jsgen_tree.specs.Tree.{Tree, Maybe, absent, given, Trees, no_trees, more}
 use Rattle.jsgen_tree.specs.Nodes as tree
 use Rattle.jsgen_model.specs.Tokens.{Tokens, AreTokensOf}
 use Rattle.jsgen_tree.specs.Places.{bare}
-use Rattle.jsgen_model.specs.Normal.{nothing_of, link_values, call_values, named, unnumbered, by_text, declared_as, function_values, property_values, normal}
+use Rattle.jsgen_model.specs.Normal.{nothing_of, link_values, call_values, named, unnumbered, by_text, declared_as}
 use Rattle.jsgen_model.specs.Grammar.{ReadsModule}
 
 -- the text has tokens, and they are read as this program
 abbrev pub IsRead : List ℕ → Tree → Type 0
 IsRead source t = (ts : Tokens) × AreTokensOf source ts × ReadsModule ts t
-
--- no tokens of the text are read as anything
-abbrev pub IsNotRead : List ℕ → Type 0
-IsNotRead source = (ts : Tokens) (t : Tree) → AreTokensOf source ts → ReadsModule ts t → ⊥
 
 -- ---- trees
 
@@ -71,12 +61,6 @@ product_of left right = tree.binary (bare (binary_operator Multiplication ∷ []
 
 abbrev pub power_of : Tree → Tree → Tree
 power_of left right = tree.binary (bare (binary_operator Exponential ∷ [])) left right
-
-abbrev pub and_of : Tree → Tree → Tree
-and_of left right = tree.logical (bare (logical_operator And ∷ [])) left right
-
-abbrev pub or_of : Tree → Tree → Tree
-or_of left right = tree.logical (bare (logical_operator Or ∷ [])) left right
 
 abbrev pub in_parentheses : Tree → Tree
 in_parentheses inner = tree.parenthesized (nothing_of 0) inner
@@ -144,13 +128,6 @@ one_parameter name = parameters_of (more (parameter name absent) no_trees) absen
 -- a function without parameters whose body is empty
 abbrev pub empty_body : Tree
 empty_body = tree.function_body (nothing_of 0) no_trees no_trees
-
-abbrev pub function_of : FunctionKind → Maybe → Tree
-function_of kind name = tree.function (function_values kind no_value no_value no_value) name (parameters_of no_trees absent) (given empty_body)
-
--- a property whose value is one
-abbrev pub property_of : PropertyKind → Bool → Tree
-property_of kind method = tree.object_property (property_values kind method false false) (tree.identifier_name (named (codes "a"))) (function_of function_kinds.Expression absent)
 
 abbrev pub return_of : Maybe → Tree
 return_of result = tree.return_statement (nothing_of 0) result
@@ -249,93 +226,3 @@ pub record GrammarSamples : Type 0 where
   pub last_if : IsRead (codes "if(a)if(b)c;else;") (module_of (more (if_of a (if_of b (statement_of c) (given empty)) absent) no_trees))
   -- and never with one further out
   pub no_other_if : (ts : Tokens) → AreTokensOf (codes "if(a)if(b)c;else;") ts → ReadsModule ts (module_of (more (if_of a (if_of b (statement_of c) absent) (given empty)) no_trees)) → ⊥
-  pub two_names : IsNotRead (codes "a b")
-  pub two_numbers : IsNotRead (codes "1 2;")
-  pub no_right_operand : IsNotRead (codes "a +")
-  pub increment_between : IsNotRead (codes "a ++ b;")
-  pub no_binding : IsNotRead (codes "const;")
-  pub reserved_word : IsNotRead (codes "if;")
-  -- a reserved word with an escape is no keyword, and no reference (12.7.1)
-  pub escaped_word : IsNotRead (codes "i\\u0066;")
-  pub open_bracket : IsNotRead (codes "(a")
-  pub member_by_string : IsNotRead (codes "a.\"b\";")
-  pub no_element : IsNotRead (codes "a[];")
-  pub no_name : IsNotRead (codes "a.;")
-  pub no_argument : IsNotRead (codes "a(,);")
-  -- no line end stands before an arrow (15.3)
-  pub arrow_on_next_line : IsNotRead (codes "a\n=>b;")
-  -- no comma follows the parameter that takes the rest (15.1)
-  pub comma_behind_rest : IsNotRead (codes "(...a,)=>b;")
-  pub comma_alone : IsNotRead (codes "(,)=>a;")
-  pub string_behind_name : IsNotRead (codes "a'b';")
-  -- at a module's end the definition adds no semicolon, though 12.10 does
-  pub unended_name : IsNotRead (codes "a")
-  pub unended_declaration : IsNotRead (codes "const a")
-  pub unended_directive : IsNotRead (codes "\"a\"")
-  -- no declaration is what `if` is followed by (14.6)
-  pub declaration_behind_if : IsNotRead (codes "if(a)const b;")
-  pub else_alone : IsNotRead (codes "else;")
-  pub no_consequent : IsNotRead (codes "if(a)")
-
--- ---- normal forms
-
-abbrev pub AreOne : Tree → Tree → Type 0
-AreOne t u = normal t ≡ normal u
-
-abbrev pub AreTwo : Tree → Tree → Type 0
-AreTwo t u = normal t ≡ normal u → ⊥
-
-pub record NormalSamples : Type 0 where
-  -- `((a))` and `a`
-  pub parentheses : AreOne (in_parentheses (in_parentheses a)) a
-  -- `(a+b)-c` and `a+b-c`
-  pub as_grouped : AreOne (difference_of (in_parentheses (sum_of a b)) c) (difference_of (sum_of a b) c)
-  -- `a-(b-c)` and `a-b-c`
-  pub grouped_otherwise : AreTwo (difference_of a (in_parentheses (difference_of b c))) (difference_of (difference_of a b) c)
-  -- a chain of one logical operator is one list of operands: `a&&(b&&c)` and `a&&b&&c`
-  pub chain : AreOne (and_of a (in_parentheses (and_of b c))) (and_of (and_of a b) c)
-  -- `a&&(b||c)` and `a&&b||c`
-  pub two_logical_operators : AreTwo (and_of a (in_parentheses (or_of b c))) (or_of (and_of a b) c)
-  pub other_operator : AreTwo (sum_of a b) (difference_of a b)
-  pub other_name : AreTwo a b
-  pub name_or_number : AreTwo a one
-  -- a number by its value, as a job gives it, and by its digits, as it is read
-  pub number : AreOne (tree.numeric_literal (record { span = record { start = 3; end = 5 }; values = numeric_kind Whole ∷ no_value ∷ digits 10 ∷ no_value ∷ [] })) (tree.numeric_literal (by_text (codes "10")))
-  -- `const a;` and `const a=1;`
-  pub value_or_none : AreTwo (const_of (more (bound (codes "a") absent) no_trees)) (const_of (more (bound (codes "a") (given one)) no_trees))
-  -- `a;b;` and `b;a;`
-  pub order : AreTwo (module_of (more (statement_of a) (more (statement_of b) no_trees))) (module_of (more (statement_of b) (more (statement_of a) no_trees)))
-  -- a directive by its raw text, as a job gives it, and by its value, as it is read
-  pub directive_by_value : AreOne (tree.directive (bare (text (codes "\\x61'") ∷ []))) (tree.directive (bare (units (codes "a'") ∷ [])))
-  -- the directive `"a";` and the statement of that string
-  pub directive_or_statement : AreTwo (directed (codes "a") no_trees) (module_of (more (statement_of (string_of (codes "a"))) no_trees))
-  -- `if(a){if(b)c;}else b;` and the same without braces, which no text is read as
-  pub braces_of_a_consequent : AreOne (if_of a (block_of (more (if_of b (statement_of c) absent) no_trees)) (given (statement_of b))) (if_of a (if_of b (statement_of c) absent) (given (statement_of b)))
-  -- `if(a){b;}` and `if(a)b;`
-  pub block_or_statement : AreTwo (if_of a (block_of (more (statement_of b) no_trees)) absent) (if_of a (statement_of b) absent)
-  -- `if(a)b;else;` and `if(a)b;`
-  pub alternate_or_none : AreTwo (if_of a (statement_of b) (given empty)) (if_of a (statement_of b) absent)
-  -- `(a,b),c` and `a,b,c`
-  pub parts_of_a_sequence : AreOne (sequence_of (more (in_parentheses (sequence_of (more a (more b no_trees)))) (more c no_trees))) (sequence_of (more a (more b (more c no_trees))))
-  -- an arrow function with its two marks, and without
-  pub marks_of_an_arrow : AreOne (tree.arrow_function (bare (no_value ∷ flag true ∷ flag true ∷ [])) (one_parameter (codes "a")) b) (arrow_of (one_parameter (codes "a")) b)
-  -- `a=>b` and `(a=1)=>b`
-  pub parameter_without_value : AreTwo (arrow_of (one_parameter (codes "a")) b) (arrow_of (parameters_of (more (parameter (codes "a") (given one)) no_trees) absent) b)
-  -- `a=>b` and `(...a)=>b`
-  pub parameter_or_rest : AreTwo (arrow_of (one_parameter (codes "a")) b) (arrow_of (parameters_of no_trees (given (rest_in (codes "a")))) b)
-  -- a function expression with its two marks, and without
-  pub marks_of_a_function : AreOne (tree.function (bare (kind_of_function function_kinds.Expression ∷ no_value ∷ no_value ∷ no_value ∷ flag true ∷ flag true ∷ [])) absent (parameters_of no_trees absent) (given empty_body)) (function_of function_kinds.Expression absent)
-  -- `function a(){}` among statements, and in an expression
-  pub declaration_or_expression : AreTwo (function_of function_kinds.Declaration (given (tree.binding_identifier (unnumbered (codes "a"))))) (function_of function_kinds.Expression (given (tree.binding_identifier (unnumbered (codes "a")))))
-  -- `(function(){})` and `(function a(){})`
-  pub function_with_name : AreTwo (function_of function_kinds.Expression absent) (function_of function_kinds.Expression (given (tree.binding_identifier (unnumbered (codes "a")))))
-  -- `a=>{}` and `a=>({})`
-  pub body_or_object : AreTwo (arrow_of (one_parameter (codes "a")) empty_body) (arrow_of (one_parameter (codes "a")) (in_parentheses empty_object))
-  -- `return;` and `return a;`
-  pub result_or_none : AreTwo (return_of absent) (return_of (given a))
-  -- `a(){}` and `a:function(){}` in an object
-  pub method_or_value : AreTwo (property_of Init true) (property_of Init false)
-  -- an accessor is one whether it is marked as a method or not
-  pub accessor_as_method : AreOne (property_of Get true) (property_of Get false)
-  -- `get a(){}` and `set a(){}`, which no text is read as
-  pub getter_or_setter : AreTwo (property_of Get false) (property_of Set false)

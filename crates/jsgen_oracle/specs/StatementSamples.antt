@@ -1,11 +1,11 @@
--- What loops, labels, jumps, choices between cases and handlers are read as by ECMA-262, worked out by hand, and a few texts that aren't read.
+-- What loops, labels, jumps, choices between cases and handlers are read as by ECMA-262, worked out by hand.
 use Rattle.std.specs.Prelude.{ℕ, List, codes}
 use Rattle.jsgen_tree.specs.declared.statements.VariableDeclarationKind.{VariableDeclarationKind}
 use Rattle.jsgen_tree.specs.declared.statements.VariableDeclarationKind.TheVariants.{Const, Let, Var}
 use Rattle.jsgen_tree.specs.Tree.{Tree, Maybe, absent, given, Trees, no_trees, more}
 use Rattle.jsgen_tree.specs.Nodes as tree
 use Rattle.jsgen_model.specs.Normal.{nothing_of, named, unnumbered, declared_as}
-use Rattle.jsgen_oracle.specs.Samples.{IsRead, IsNotRead, module_of, statement_of, bound, block_of, if_of, incremented_before, empty, a, b, c, d, e}
+use Rattle.jsgen_oracle.specs.Samples.{IsRead, module_of, statement_of, bound, block_of, if_of, incremented_before, empty, a, b, c, d, e}
 
 -- ---- trees
 
@@ -90,20 +90,3 @@ pub record StatementSamples : Type 0 where
   -- before a brace a semicolon may be omitted (12.10)
   pub do_before_brace : IsRead (codes "{do a;while(b)}") (module_of (more (block_of (more (do_of (statement_of a) b) no_trees)) no_trees))
   pub update_behind_semicolon : IsRead (codes "{a;++b}") (module_of (more (block_of (more (statement_of a) (more (statement_of (incremented_before b)) no_trees))) no_trees))
-  -- no lexical declaration is what `while` or a label is followed by (14.7 and 14.13)
-  pub declaration_behind_while : IsNotRead (codes "while(a)let b;")
-  pub declaration_behind_label : IsNotRead (codes "a:const b;")
-  -- no line end stands behind `throw` (14.14)
-  pub throw_on_two_lines : IsNotRead (codes "throw\na;")
-  -- `try` has a handler or a finalizer (14.15)
-  pub bare_try : IsNotRead (codes "try{}")
-  -- a target `async` is no word before `of` (14.7.5)
-  pub async_before_of : IsNotRead (codes "for(async of b)c;")
-  -- the sign of an update behind its operand stands on that line, and the definition adds no semicolon at a line end, though 12.10 does
-  pub update_on_next_line : IsNotRead (codes "a\n++b;")
-  -- `let` is no name in a module, so that no target is called so (14.7.5)
-  pub let_before_in : IsNotRead (codes "for(let in b)c;")
-  -- the body of `do` has its own semicolon (14.7.2)
-  pub body_of_do_without_semicolon : IsNotRead (codes "do a while(b);")
-  -- behind `do` one may be omitted before a brace alone by the definition, though 12.10 inserts it before any token
-  pub do_before_statement : IsNotRead (codes "do a;while(b)c;")

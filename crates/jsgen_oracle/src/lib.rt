@@ -1,49 +1,31 @@
-//! Plain, slow programs for the definitions of the model, for tests to compare with.
+//! Plain, slow programs for the definitions of the model, for tests to compare with, and samples: what a few texts are read as,
+//! which are not read, and which trees have one normal form.
 #![tactic(auto)]
 
-ghost use Rattle.std.specs.Prelude.{◌≡◌, IfOk, MatchOption};
+ghost use Rattle.std.specs.Prelude.{IfOk, MatchOption};
 ghost use Rattle.std.specs.Str.{chars};
-ghost use Rattle.jsgen_tree.specs.Plain.{program_plain};
-ghost use Rattle.jsgen_tree.specs.Scoping.{tables_plain};
-ghost use Rattle.jsgen_model.specs.Renamed.{renamed};
 ghost use Rattle.jsgen_model.specs.Tokens.{AreTokensOf};
-ghost use Rattle.jsgen_model.specs.Normal.{normal};
 ghost use Rattle.jsgen_oracle.specs.Plain.{tokens_plain};
-ghost use Rattle.jsgen_oracle.specs.Form.{form_plain};
 ghost use Rattle.jsgen_oracle.specs.Law.{HasNoTokens};
-ghost use Rattle.jsgen_oracle.specs.Samples.{GrammarSamples, NormalSamples};
+ghost use Rattle.jsgen_oracle.specs.Samples.{GrammarSamples};
 ghost use Rattle.jsgen_oracle.specs.StatementSamples.{StatementSamples};
 ghost use Rattle.jsgen_oracle.specs.FunctionSamples.{FunctionSamples};
 ghost use Rattle.jsgen_oracle.specs.NumberSamples.{NumberSamples};
+ghost use Rattle.jsgen_oracle.specs.RefusedTexts.{RefusedTexts};
+ghost use Rattle.jsgen_oracle.specs.NormalSamples.{NormalSamples};
 
-mod braces;
-mod chain;
 mod characters;
-mod choices;
 mod directive;
-mod field;
-mod form;
-mod functions;
-mod loops;
-mod names;
-mod normal;
 mod number;
-mod number_forms;
-mod objects;
 mod punctuator;
 mod row;
-mod shape;
 mod string;
 mod token;
 mod word;
 
 use characters::characters_of;
 pub use directive::directive_value_of;
-use field::Making;
-pub use form::{Form, Slot, Value};
 use jsgen_syntax::Memory;
-use jsgen_tree::{Program, Tables};
-use normal::program_form;
 pub use punctuator::Punctuator;
 use row::take_row;
 use std::alloc::Global;
@@ -68,14 +50,6 @@ pub fn tokens_of(alloc: Global, text: &str) -> Result<Option<Vec<Token>>, Memory
     }
 }
 
-/// The normal form of a program whose names are those that are printed for them by these tables (docs/DEFINITIONS.md): what it has
-/// in common with each program of the same meaning. Goes over the tree node by node, and copies each name.
-pub fn normal_form(alloc: Global, tables: Tables<'_>, program: &Program) -> Result<Form, Memory>
-    ensures { IfOk result (λ f. form_plain f ≡ normal (renamed (tables_plain tables.entry) (program_plain program.now))) }
-{
-    program_form(&Making { alloc, tables }, program)
-}
-
 /// A few texts spell a number by the model, and a few don't, as ECMA-262 has it.
 pub fn number_samples()
     ensures { NumberSamples }
@@ -94,6 +68,11 @@ pub fn statement_samples()
 /// It reads functions, methods and accessors so too.
 pub fn function_samples()
     ensures { FunctionSamples }
+{}
+
+/// It doesn't read a few texts that ECMA-262 doesn't read.
+pub fn refused_texts()
+    ensures { RefusedTexts }
 {}
 
 /// The normal form keeps what a program means, and drops parentheses, spans and how a number is held.

@@ -1,18 +1,18 @@
-// The commands. Those that print need the program, which `./jsgen` builds; where it isn't built they are skipped.
+// The commands. Those that print need the program, which `rt ci` or `./jsgen` builds; where it isn't built they are skipped.
 import assert from "node:assert/strict";
 import { spawnSync } from "node:child_process";
-import { existsSync, mkdtempSync, rmSync, writeFileSync } from "node:fs";
+import { chmodSync, mkdtempSync, rmSync, writeFileSync } from "node:fs";
 import { tmpdir } from "node:os";
 import { join } from "node:path";
 import { test } from "node:test";
 import { fileURLToPath } from "node:url";
+import { unbuilt } from "../program.mjs";
 
 const here = (name) => fileURLToPath(new URL(name, import.meta.url));
-const isBuilt = process.env.JSGEN !== undefined || existsSync(here("../../../crates/jsgen_cli/out/built"));
-const unbuilt = isBuilt ? false : "the program isn't built";
 
-function ran(command, words, input = "") {
-  const child = spawnSync(process.execPath, [here(`../${command}.mjs`), ...words], { input });
+function ran(command, words, input = "", program = process.env.JSGEN) {
+  const env = { ...process.env, ...(program && { JSGEN: program }) };
+  const child = spawnSync(process.execPath, [here(`../${command}.mjs`), ...words], { input, env });
   return { status: child.status, out: child.stdout.toString(), err: child.stderr.toString() };
 }
 
@@ -65,4 +65,25 @@ test("roundtrip cuts a file down, prints it and counts", { skip: unbuilt }, () =
     assert.match(out, /^4 programs, /);
     assert.match(out, / 0 bad; /);
   });
+});
+
+// Of a program that prints this text whatever it is asked.
+function tripOf(source, printed) {
+  return withFile(source, (file, folder) => {
+    const program = join(folder, "program");
+    writeFileSync(program, `#!/bin/sh\ncat > ${folder}/job\ncat <<'END'\n${printed}\nEND\n`);
+    chmodSync(program, 0o755);
+    return { ...ran("roundtrip", [file], "", program), file };
+  });
+}
+
+test("roundtrip tells file, line and what differs", () => {
+  const source = "class A {}\nf();\ng(1);\n";
+  const other = tripOf(source, "f();\ng(\n  2);");
+  assert.equal(other.status, 1);
+  assert.ok(other.err.includes(`${other.file}:3: pretty: `), other.err);
+  assert.match(other.err, /\/arguments\/.*: "1" and "2"\n {2}printed: "f\(\);\\ng\(\\n {2}2\);\\n"/);
+  const unparsed = tripOf(source, "f();\ng(;");
+  assert.ok(unparsed.err.includes(`${unparsed.file}:2: pretty: what is printed does not parse: `), unparsed.err);
+  assert.match(unparsed.out, /^1 programs, 0 of them whole; .* 16 bad; /);
 });

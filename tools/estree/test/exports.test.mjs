@@ -2,13 +2,11 @@
 // in node itself; where this node hides it, or the program isn't built, the test is skipped.
 import assert from "node:assert/strict";
 import { spawnSync } from "node:child_process";
-import { existsSync } from "node:fs";
-import { fileURLToPath } from "node:url";
 import { test } from "node:test";
 import { jobOf } from "../convert.mjs";
 import { parsed } from "../parser.mjs";
+import { program, unbuilt } from "../program.mjs";
 
-const PROGRAM = process.env.JSGEN ?? fileURLToPath(new URL("../../../crates/jsgen_cli/out/jsgen_cli", import.meta.url));
 const SOURCES = [
   'exports["a"] = 1; module.exports["b"] = 2;',
   'Object.defineProperty(exports, "__esModule", { value: true }); Object.defineProperty(exports, "c", { enumerable: true, value: 1 });',
@@ -28,12 +26,12 @@ function lexerOfNode() {
 }
 
 const lexer = lexerOfNode();
-const skip = lexer && existsSync(PROGRAM) ? false : "node's lexer isn't there, or the program isn't built";
+const skip = lexer ? unbuilt : "node's lexer isn't there";
 
 test("node's lexer finds the exports of minified text", { skip }, () => {
   for (const source of SOURCES) {
     const job = jobOf(parsed(source), { source, options: { minify: true } });
-    const text = spawnSync(PROGRAM, ["print"], { input: JSON.stringify(job) }).stdout.toString();
+    const text = spawnSync(program(), ["print"], { input: JSON.stringify(job) }).stdout.toString();
     const found = (code) => [...lexer.parse(code).exports, ...lexer.parse(code).reexports];
     assert.deepEqual(found(text), found(source), text);
     assert.notDeepEqual(found(text.replaceAll('"', "`")), found(source), "backticks hide the names");

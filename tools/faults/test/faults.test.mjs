@@ -1,12 +1,13 @@
 // The second reader of jobs, the generator of damaged jobs, and the command that compares. The last two need the
-// program, which `./jsgen` builds; where it isn't built they are skipped.
+// program, which `rt ci` or `./jsgen` builds; where it isn't built they are skipped.
 import assert from "node:assert/strict";
 import { spawnSync } from "node:child_process";
-import { existsSync, mkdtempSync, readdirSync, readFileSync, rmSync, writeFileSync } from "node:fs";
+import { mkdtempSync, readdirSync, readFileSync, rmSync, writeFileSync } from "node:fs";
 import { tmpdir } from "node:os";
 import { join } from "node:path";
 import { test } from "node:test";
 import { fileURLToPath } from "node:url";
+import { program, unbuilt } from "../../estree/program.mjs";
 import { DAMAGES } from "../damage.mjs";
 import { damagedJob } from "../damaged.mjs";
 import { Draw } from "../draw.mjs";
@@ -204,17 +205,14 @@ test("compare writes its usage for other words", () => {
   }
 });
 
-const program = here("../../../crates/jsgen_cli/out/jsgen_cli");
-const skip = existsSync(here("../../../crates/jsgen_cli/out/built")) ? false : "the program isn't built";
-
-test("the program tells the first fault", { skip }, () => {
-  const { status, out } = compared("300", "1", program);
+test("the program tells the first fault", { skip: unbuilt }, () => {
+  const { status, out } = compared("300", "1", program());
   assert.equal(status, 0, out);
 });
 
-test("the program says the documented lines", { skip }, () => {
+test("the program says the documented lines", { skip: unbuilt }, () => {
   for (const [line, job] of documentedCases()) {
-    const { stderr } = spawnSync(program, ["print"], { input: job });
+    const { stderr } = spawnSync(program(), ["print"], { input: job });
     assert.equal(stderr.toString(), `${line}\n`, job);
   }
 });
