@@ -1,9 +1,7 @@
 -- Arrow functions: parameters that are a name alone, and where a body begins.
-use Rattle.std.proofs.Common.{◌≡◌, Bool, true, false, not, ◌&&◌, List, [], ◌∷◌, map, length, suc, Option, Some, None, option_map, is_some, is_none, refl, ap, ◌∙◌, sym, arith}
+use Rattle.std.proofs.Common.{◌≡◌, Box, Bool, true, false, Option, Some, None, option_map, List, [], ◌∷◌, map, sym, length, suc, ◌&&◌, not, is_some, is_none, refl, ap, ◌∙◌, Global, arith}
 use Rattle.std.specs.Bool.{◌==◌}
 use Rattle.std.proofs.lemmas.Bool.{eqb-true}
-use Rattle.std.specs.declared.heap.Box.{Box}
-use Rattle.std.specs.declared.alloc.Global.{Global}
 use Rattle.jsgen_tree.specs.Tree.{Tree, Maybe, absent, Atoms, more, no_trees, trees, optional}
 use Rattle.jsgen_tree.specs.Nodes as tree
 use Rattle.jsgen_tree.specs.Rows.{formal_parameter_row, formal_parameter_rest_row, formal_parameters_row}

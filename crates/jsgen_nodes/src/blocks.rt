@@ -1,5 +1,5 @@
 // Blocks and `if` (ECMA-262, 14.2 and 14.6), one function for each row.
-ghost use Rattle.std.specs.Prelude.{◌≡◌, option_map};
+ghost use Rattle.std.specs.Prelude.{◌≡◌, false, option_map};
 ghost use Rattle.jsgen_tree.specs.Tree.{optional};
 ghost use Rattle.jsgen_tree.specs.Rows.{block_statement_row, if_statement_row, in_statement};
 ghost use Rattle.jsgen_tree.specs.Inside.{ends_open};

@@ -157,11 +157,12 @@ fn print_valued_property<N: PrintNode>(node: &ObjectProperty<N>, p: &mut Printer
 fn print_before_value<N: PrintNode>(node: &ObjectProperty<N>, p: &mut Printer<'_>)
     ensures { Lays p.old p.new (before_value node.now.shorthand (written_name_in (in_property_key N.plain node.now.key)) (looked_up_in (without_parentheses (in_expression N.plain node.now.value))) (key_of node.now.computed (in_property_key N.plain node.now.key))) }
 {
-    if !is_value_alone(node, p) {
-        print_key(&node.key, node.computed, p);
-        p.print_colon();
-        p.print_soft_space();
+    if is_value_alone(node, p) {
+        return;
     }
+    print_key(&node.key, node.computed, p);
+    p.print_colon();
+    p.print_soft_space();
 }
 
 // Whether the property is its value alone.

@@ -8,7 +8,7 @@ ghost use Rattle.jsgen_model.specs.Punctuator.{Round};
 ghost use Rattle.jsgen_model.specs.Items.{brackets, parentheses_unless_minified};
 ghost use Rattle.jsgen_model.specs.Spell.{spell, is_name_alone, parameter_items, body_begins};
 ghost use Rattle.jsgen_printer.specs.Steps.{Lays};
-ghost use Rattle.jsgen_nodes.specs.Names.{is_name_parameter};
+ghost use Rattle.jsgen_questions.specs.Names.{is_name_parameter};
 
 use crate::PrintNode;
 use crate::definitions::print_function_body;

@@ -4,4 +4,4 @@ use Rattle.jsgen_model.specs.Layout.{not}
 use Rattle.jsgen_nodes.proofs.functions.print_unless_minified.Goals as goal
 
 pub returns : goal.returns
-returns g c = unless_minified_laid _ (ap (λ b. not b) c.is_minified.ensures) c.print_opening_if.ensures c.print_formal_parameters.ensures c.print_closing_if.ensures
+returns g c = unless_minified_laid _ (ap (λ b. not b) c.is_minified-wrap.ensures) c.print_opening_if.ensures c.print_formal_parameters.ensures c.print_closing_if.ensures
