@@ -13,7 +13,9 @@ use Rattle.jsgen_model.specs.Grammar as grammar
 use Rattle.jsgen_model.specs.Normal.{normal, nothing_of}
 use Rattle.jsgen_model.specs.Renamed.{renamed}
 use Rattle.jsgen_place.specs.Place.{among_statements, within_statement}
-use Rattle.jsgen_model.specs.Spell.{spell, Shape, a_block, an_empty, shape, body_items}
+use Rattle.jsgen_model.specs.Spell.{spell, shape, body_items}
+use Rattle.jsgen_place.specs.declared.shape.Shape.{Shape}
+use Rattle.jsgen_place.specs.declared.shape.Shape.TheVariants as shapes
 use Rattle.jsgen_token_laws.proofs.Last.{After, line_of}
 use Rattle.jsgen_token_laws.proofs.Steps.{gap, wrote_semicolon, soft_space_written, soft_line_written, body_space_written}
 use Rattle.jsgen_reading_laws.proofs.Ends.{ends_itself}
@@ -38,7 +40,7 @@ good_empty {names} c a = stated_among refl (indented_line (punctuator semicolon 
 
 -- what is spelled as an empty statement is one
 abbrev pub EmptyAlone : Tables → Tree → Type 0
-EmptyAlone names t = shape t ≡ an_empty → normal (renamed names t) ≡ tree.empty_statement (nothing_of 0)
+EmptyAlone names t = shape t ≡ shapes.Empty → normal (renamed names t) ≡ tree.empty_statement (nothing_of 0)
 
 -- ---- blanks before a body
 
@@ -60,6 +62,6 @@ good_body {names} c t m f = by_shape (shape t) refl
     whole = spell t among_statements
 
     by_shape : (s : Shape) → shape t ≡ s → StatedAt names c t (body_items s inner whole)
-    by_shape a_block i = behind_blank soft_space (inner ⊕ soft_line) soft_blank (before_blank inner soft_line (f.within (ap goes_on i)) soft_line_written)
-    by_shape an_empty i = before_blank (punctuator semicolon) soft_line (good_semicolon c (ends_open t) (sym (m i))) soft_line_written
+    by_shape shapes.Block i = behind_blank soft_space (inner ⊕ soft_line) soft_blank (before_blank inner soft_line (f.within (ap goes_on i)) soft_line_written)
+    by_shape shapes.Empty i = before_blank (punctuator semicolon) soft_line (good_semicolon c (ends_open t) (sym (m i))) soft_line_written
     by_shape s i = behind_blank body_space whole body_blank (f.among)

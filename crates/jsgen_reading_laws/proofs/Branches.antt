@@ -15,7 +15,9 @@ use Rattle.jsgen_model.specs.Grammar as grammar
 use Rattle.jsgen_model.specs.Normal.{normal, normal_trees, unbraced, nothing_of}
 use Rattle.jsgen_model.specs.Renamed.{renamed}
 use Rattle.jsgen_place.specs.Place.{among_statements, within_statement, in_brackets}
-use Rattle.jsgen_model.specs.Spell.{spell, filled_braces, Shape, a_block, an_if, an_empty, shape, braces_end, body_end, consequent_items, body_items, alternate_items, spell_alternate}
+use Rattle.jsgen_model.specs.Spell.{spell, filled_braces, shape, braces_end, body_end, consequent_items, body_items, alternate_items, spell_alternate}
+use Rattle.jsgen_place.specs.declared.shape.Shape.{Shape}
+use Rattle.jsgen_place.specs.declared.shape.Shape.TheVariants as shapes
 use Rattle.jsgen_token_laws.proofs.Characters.{letters_spelled}
 use Rattle.jsgen_token_laws.proofs.Last.{Last, Open, After, line_of, Knows}
 use Rattle.jsgen_token_laws.proofs.Writes.{Writes, wrote_both, then_assoc}
@@ -65,7 +67,7 @@ added_braces {names} c t e whole o row p l z y k =
     stands_since (λ last ts u s r. r e (λ h. refl)) (λ u s. s) (block_of false (λ us s. same_unbraced (renamed names t) us o s) (filled_written whole row p l z k))
 
 braced : (s : Shape) (inner whole : Items) (else_follows : Bool) → consequent_items s true inner whole else_follows ≡ soft_space ⊕ (filled_braces whole ⊕ braces_end else_follows)
-braced a_block inner whole e = refl
+braced shapes.Block inner whole e = refl
 braced s inner whole e = refl
 
 good_consequent : {names : Tables} (c : Allowed) (t : Tree) (else_follows : Bool) → ends_open (normal (renamed names t)) ≡ ends_open t → EmptyAlone names t → Stated names c t → ConsequentAt names c else_follows t (consequent_items (shape t) (ends_open t) (spell t within_statement) (spell t among_statements) else_follows)
@@ -81,8 +83,8 @@ good_consequent {names} c t e n m f = by (ends_open t) refl
     as_it_is items o g p l z y k = stands_since (λ last ts u s r. r e (λ h. o)) (λ u s. ap unbraced s) (g p l z y k)
 
     by_shape : (s : Shape) → shape t ≡ s → ends_open t ≡ false → ConsequentAt names c e t (consequent_items s false inner whole e)
-    by_shape a_block i o = behind_blank soft_space (inner ⊕ braces_end e) soft_blank (before_blank inner (braces_end e) (as_it_is inner o (f.within (ap goes_on i))) (braces_end_blank e))
-    by_shape an_empty i o =
+    by_shape shapes.Block i o = behind_blank soft_space (inner ⊕ braces_end e) soft_blank (before_blank inner (braces_end e) (as_it_is inner o (f.within (ap goes_on i))) (braces_end_blank e))
+    by_shape shapes.Empty i o =
         let g = before_blank (punctuator semicolon) soft_line (good_semicolon c (ends_open t) (sym (m i))) soft_line_written in
         before_blank (punctuator semicolon ⊕ soft_line) (body_end e) (as_it_is (punctuator semicolon ⊕ soft_line) o g) (body_end_blank e)
     by_shape s i o = behind_blank body_space (whole ⊕ body_end e) body_blank (before_blank whole (body_end e) (as_it_is whole o (f.among)) (body_end_blank e))
@@ -105,13 +107,13 @@ good_alternate {names} c t m f = by_shape (shape t) refl
     whole = spell t among_statements
 
     by_shape : (s : Shape) → shape t ≡ s → StatedAt names c t (alternate_items s inner whole)
-    by_shape an_if i = behind_blank hard_space inner hard_blank (f.within (ap goes_on i))
+    by_shape shapes.If i = behind_blank hard_space inner hard_blank (f.within (ap goes_on i))
     by_shape s i = subst (λ x. StatedAt names c t (body_items x inner whole)) i (good_body c t m f)
 
 -- ---- `if`
 
 if_reads : {c : Allowed} {last mark next : Bool} {test ts : Tokens} {t s : Tree} → ReadsExpression (with_in c) grammar.Expression test t → ReadsStatement c last false ts s → ReadsClosed c true last (piece mark (Word (codes "if")) (group next Round test ts)) (tree.if_statement (nothing_of 0) t s absent)
-if_reads r s false n = grammar.an_if r s
+if_reads r s false n = grammar.shapes.If r s
 if_reads r s true n = absurd (both_ways true (n refl) refl)
 
 -- the test and the consequent, in front of what the alternate gives

@@ -14,7 +14,7 @@ use Rattle.jsgen_model.specs.Normal.{normal, nothing_of}
 use Rattle.jsgen_model.specs.Renamed.{renamed}
 use Rattle.jsgen_place.specs.declared.place.Place.{Place}
 use Rattle.jsgen_place.specs.Place.{within, child, in_brackets, with_calls, wraps}
-use Rattle.jsgen_model.specs.Spell.{spell, choice}
+use Rattle.jsgen_model.specs.Spell.{spell}
 use Rattle.jsgen_token_laws.proofs.Last.{Last, After, line_of}
 use Rattle.jsgen_token_laws.proofs.Writes.{Writes, wrote_both}
 use Rattle.jsgen_token_laws.proofs.Steps.{Soft, wrote_punctuator, soft_space_written}

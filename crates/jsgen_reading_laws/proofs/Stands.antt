@@ -13,7 +13,9 @@ use Rattle.jsgen_model.specs.Grammar as grammar
 use Rattle.jsgen_model.specs.Normal.{normal, normal_trees}
 use Rattle.jsgen_model.specs.Renamed.{renamed, renamed_trees}
 use Rattle.jsgen_place.specs.Place.{among_statements, within_statement}
-use Rattle.jsgen_model.specs.Spell.{spell, Shape, a_block, an_if, shape}
+use Rattle.jsgen_model.specs.Spell.{spell, shape}
+use Rattle.jsgen_place.specs.declared.shape.Shape.{Shape}
+use Rattle.jsgen_place.specs.declared.shape.Shape.TheVariants as shapes
 use Rattle.jsgen_token_laws.proofs.Last.{Last, Open, line_of, Ready, Knows}
 use Rattle.jsgen_token_laws.proofs.Writes.{Writes, wrote_both, wrote_and_none}
 use Rattle.jsgen_token_laws.proofs.Steps.{Gap, gap, indentation_written, end_written, end_left}
@@ -130,8 +132,8 @@ StatedAt names c t items = StandsAt names (ReadsClosed c (ends_open t)) (SameTre
 
 -- a block and an `if` may go on with a line
 abbrev pub goes_on : Shape → Bool
-goes_on a_block = true
-goes_on an_if = true
+goes_on shapes.Block = true
+goes_on shapes.If = true
 goes_on s = false
 
 -- a statement, printed among others, and where it may go on with a line there too

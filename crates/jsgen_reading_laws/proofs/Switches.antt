@@ -13,7 +13,8 @@ use Rattle.jsgen_model.specs.Grammar as grammar
 use Rattle.jsgen_model.specs.Normal.{nothing_of}
 use Rattle.jsgen_place.specs.declared.place.Place.{Place}
 use Rattle.jsgen_place.specs.Place.{among_statements, within_statement, in_brackets}
-use Rattle.jsgen_model.specs.Spell.{spell, spell_only, spell_statements, braces, case_items, other, shape, body_items}
+use Rattle.jsgen_model.specs.Spell.{spell, spell_only, spell_statements, braces, case_items, shape, body_items}
+use Rattle.jsgen_place.specs.declared.shape.Shape.TheVariants as shapes
 use Rattle.jsgen_token_laws.proofs.Characters.{letters_spelled}
 use Rattle.jsgen_token_laws.proofs.Last.{Last, Open, After, line_of}
 use Rattle.jsgen_token_laws.proofs.Writes.{Writes, wrote_both, same_writes, then_assoc}
@@ -53,7 +54,7 @@ OnlyOf names c t = StandsAt names (ReadsItem c) (SameTree names t) (spell_only (
 pub only_statement : {names : Tables} (c : Allowed) (t : Tree) → EmptyAlone names t → Stated names c t → OnlyOf names c t
 only_statement c t m f p l z y k = item_since (good_body c t m f p l z y k)
 
-pub only_declaration : {names : Tables} (c : Allowed) (t : Tree) → shape t ≡ other → Listed names c t → OnlyOf names c t
+pub only_declaration : {names : Tables} (c : Allowed) (t : Tree) → shape t ≡ shapes.Other → Listed names c t → OnlyOf names c t
 only_declaration {names} c t h f = subst (λ s. StandsAt names (ReadsItem c) (SameTree names t) (body_items s (spell t within_statement) (spell t among_statements))) (sym h) (behind_blank body_space (spell t among_statements) body_blank f)
 
 pub some_consequents : {names : Tables} (c : Allowed) (t : Tree) (ss : Trees) → OnlyOf names c t → (RowAt names c (spell_statements (more t ss)) (more t ss)) → ConsequentOf names c (more t ss)

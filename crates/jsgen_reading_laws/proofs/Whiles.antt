@@ -15,7 +15,9 @@ use Rattle.jsgen_model.specs.Grammar.{Allowed, ReadsStatement}
 use Rattle.jsgen_model.specs.Grammar as grammar
 use Rattle.jsgen_model.specs.Normal.{nothing_of}
 use Rattle.jsgen_place.specs.Place.{among_statements, within_statement, in_brackets}
-use Rattle.jsgen_model.specs.Spell.{spell, Shape, a_block, an_empty, shape, body_items, do_items}
+use Rattle.jsgen_model.specs.Spell.{spell, shape, body_items, do_items}
+use Rattle.jsgen_place.specs.declared.shape.Shape.{Shape}
+use Rattle.jsgen_place.specs.declared.shape.Shape.TheVariants as shapes
 use Rattle.jsgen_token_laws.proofs.Characters.{letters_spelled}
 use Rattle.jsgen_token_laws.proofs.Last.{Last, Open, After, line_of, Ready, Knows}
 use Rattle.jsgen_token_laws.proofs.Writes.{Writes, wrote_both, wrote_and_none, same_writes}
@@ -98,7 +100,7 @@ finished_deeper {p = p} {p2 = p2} depth e g = record {
 }
 
 -- no semicolon is due behind a block
-block_left : (t : Tree) → shape t ≡ a_block → (p : Pen) → p.pending_semicolon ≡ false → (layout (spell t within_statement) p).pending_semicolon ≡ false
+block_left : (t : Tree) → shape t ≡ shapes.Block → (p : Pen) → p.pending_semicolon ≡ false → (layout (spell t within_statement) p).pending_semicolon ≡ false
 block_left (tree.block a no_trees) i p z = refl
 block_left (tree.block a (more s ss)) i p z = refl
 block_left (tree.block a (hole ss)) i p z = refl
@@ -106,7 +108,7 @@ block_left (node types.BlockStatement a slots) i p z = z
 block_left t i p z = absurd (both_ways (is_block (shape t)) refl (ap is_block i))
   where
     is_block : Shape → Bool
-    is_block a_block = true
+    is_block shapes.Block = true
     is_block s = false
 
 good_finished : {names : Tables} (c : Allowed) (t : Tree) → EmptyAlone names t → Stated names c t → (p : Pen) (l : Last) → p.pending_semicolon ≡ false → Ready l → Knows names p l → Finished names c t p l (layout (do_items (shape t) (spell t within_statement) (spell t among_statements)) p)
@@ -119,13 +121,13 @@ good_finished {names} c t m f p l z y k = by_shape (shape t) refl
     whole = spell t among_statements
 
     by_shape : (s : Shape) → shape t ≡ s → Finished names c t p l (layout (do_items s inner whole) p)
-    by_shape a_block i =
+    by_shape shapes.Block i =
         let p1 : Pen = layout soft_space p in
         let n = soft_space_written p l k in
         let g = f.within (ap goes_on i) p1 n.last (n.semicolon ∙ z) (n.ready y) n.writes.knows in
         let d : Finished names c t p1 n.last (layout inner p1) = finished_itself g (block_left t i p1 (n.semicolon ∙ z)) in
         finished_before (gap n) (finished_behind d (gap (soft_space_written (layout inner p1) d.last d.writes.knows)))
-    by_shape an_empty i =
+    by_shape shapes.Empty i =
         let p1 : Pen = layout (punctuator semicolon) p in
         let d : Finished names c t p l p1 = finished_itself (good_semicolon c (ends_open t) (sym (m i)) p l z y k) z in
         let n = finished_behind d (soft_line_written p1 d.last d.writes.knows) in
