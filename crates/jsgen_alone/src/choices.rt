@@ -18,11 +18,7 @@ use jsgen_tree::{CatchClause, SwitchCase, SwitchStatement, TryStatement};
 impl<N: PrintNode> PrintAlone for SwitchStatement<N> {
     ghost alone = { λ n context. spell (switch_statement_row N.plain n) among_statements };
 
-    fn print_alone(
-        &self,
-        p: &mut Printer<'_>,
-        context: Context,
-    ) {
+    fn print_alone(&self, p: &mut Printer<'_>, context: Context) {
         let _ = context;
         print_switch_statement(self, p, Place::among_statements());
     }
@@ -31,11 +27,7 @@ impl<N: PrintNode> PrintAlone for SwitchStatement<N> {
 impl<N: PrintNode> PrintAlone for SwitchCase<N> {
     ghost alone = { λ n context. due_semicolon ⊕ spell (switch_case_row N.plain n) among_statements };
 
-    fn print_alone(
-        &self,
-        p: &mut Printer<'_>,
-        context: Context,
-    ) {
+    fn print_alone(&self, p: &mut Printer<'_>, context: Context) {
         let _ = context;
         p.print_due_semicolon();
         print_switch_case(self, p, Place::among_statements());
@@ -45,11 +37,7 @@ impl<N: PrintNode> PrintAlone for SwitchCase<N> {
 impl<N: PrintNode> PrintAlone for TryStatement<N> {
     ghost alone = { λ n context. spell (try_statement_row N.plain n) among_statements };
 
-    fn print_alone(
-        &self,
-        p: &mut Printer<'_>,
-        context: Context,
-    ) {
+    fn print_alone(&self, p: &mut Printer<'_>, context: Context) {
         let _ = context;
         print_try_statement(self, p, Place::among_statements());
     }
@@ -58,11 +46,7 @@ impl<N: PrintNode> PrintAlone for TryStatement<N> {
 impl<N: PrintNode> PrintAlone for CatchClause<N> {
     ghost alone = { λ n context. spell (catch_clause_row N.plain n) (at_level Lowest context) };
 
-    fn print_alone(
-        &self,
-        p: &mut Printer<'_>,
-        context: Context,
-    ) {
+    fn print_alone(&self, p: &mut Printer<'_>, context: Context) {
         print_catch_clause(self, p, Place::at_level(Precedence::Lowest, context));
     }
 }

@@ -6,7 +6,9 @@ ghost use Rattle.jsgen_place.specs.Place.{at_level, in_brackets};
 ghost use Rattle.jsgen_model.specs.Spell.{spell};
 
 use crate::{PrintAlone, PrintAtLevel};
-use jsgen_nodes::collections::{print_array_expression, print_object_expression, print_object_property};
+use jsgen_nodes::collections::{
+    print_array_expression, print_object_expression, print_object_property,
+};
 use jsgen_nodes::{Inside, PrintNode};
 use jsgen_place::{Context, Place};
 use jsgen_printer::Printer;
@@ -17,11 +19,7 @@ use jsgen_tree::{ArrayExpression, ObjectExpression, ObjectProperty, SpreadElemen
 impl<N: PrintNode> PrintAlone for SpreadElement<N> {
     ghost alone = { λ n context. spell (spread_element_row N.plain n) (at_level Lowest context) };
 
-    fn print_alone(
-        &self,
-        p: &mut Printer<'_>,
-        context: Context,
-    ) {
+    fn print_alone(&self, p: &mut Printer<'_>, context: Context) {
         print_spread_element::<_, Inside>(self, p, Place::at_level(Precedence::Lowest, context));
     }
 }
@@ -29,11 +27,7 @@ impl<N: PrintNode> PrintAlone for SpreadElement<N> {
 impl<N: PrintNode> PrintAlone for ArrayExpression<N> {
     ghost alone = { λ n context. spell (array_expression_row N.plain n) (at_level Lowest context) };
 
-    fn print_alone(
-        &self,
-        p: &mut Printer<'_>,
-        context: Context,
-    ) {
+    fn print_alone(&self, p: &mut Printer<'_>, context: Context) {
         print_array_expression(self, p, Place::at_level(Precedence::Lowest, context));
     }
 }
@@ -41,11 +35,7 @@ impl<N: PrintNode> PrintAlone for ArrayExpression<N> {
 impl<N: PrintNode> PrintAlone for ObjectProperty<N> {
     ghost alone = { λ n context. spell (object_property_row N.plain n) (in_brackets Comma) };
 
-    fn print_alone(
-        &self,
-        p: &mut Printer<'_>,
-        context: Context,
-    ) {
+    fn print_alone(&self, p: &mut Printer<'_>, context: Context) {
         let _ = context;
         print_object_property(self, p, Place::in_brackets(Precedence::Comma));
     }

@@ -7,23 +7,32 @@ ghost use Rattle.jsgen_model.specs.Spell.{spell};
 
 use crate::{PrintAlone, PrintAtLevel};
 use jsgen_inside::print_identifier_reference;
-use jsgen_nodes::expressions::{print_big_int_literal, print_binary_expression, print_boolean_literal, print_logical_expression, print_numeric_literal, print_string_literal};
-use jsgen_nodes::links::{print_call_expression, print_chain_expression, print_computed_member_expression, print_static_member_expression};
+use jsgen_nodes::expressions::{
+    print_big_int_literal, print_binary_expression, print_boolean_literal,
+    print_logical_expression, print_numeric_literal, print_string_literal,
+};
+use jsgen_nodes::links::{
+    print_call_expression, print_chain_expression, print_computed_member_expression,
+    print_static_member_expression,
+};
 use jsgen_nodes::{Inside, PrintNode};
 use jsgen_place::{Context, Place};
 use jsgen_printer::Printer;
-use jsgen_spelled::{print_identifier_name, print_null_literal, print_parenthesized_expression, print_this_expression};
+use jsgen_spelled::{
+    print_identifier_name, print_null_literal, print_parenthesized_expression,
+    print_this_expression,
+};
 use jsgen_syntax::Precedence;
-use jsgen_tree::{BigIntLiteral, BinaryExpression, BooleanLiteral, CallExpression, ChainExpression, ComputedMemberExpression, IdentifierName, IdentifierReference, LogicalExpression, NullLiteral, NumericLiteral, ParenthesizedExpression, StaticMemberExpression, StringLiteral, ThisExpression};
+use jsgen_tree::{
+    BigIntLiteral, BinaryExpression, BooleanLiteral, CallExpression, ChainExpression,
+    ComputedMemberExpression, IdentifierName, IdentifierReference, LogicalExpression, NullLiteral,
+    NumericLiteral, ParenthesizedExpression, StaticMemberExpression, StringLiteral, ThisExpression,
+};
 
 impl PrintAlone for IdentifierReference {
     ghost alone = { λ n context. spell (identifier_reference_row n) (at_level Lowest context) };
 
-    fn print_alone(
-        &self,
-        p: &mut Printer<'_>,
-        context: Context,
-    ) {
+    fn print_alone(&self, p: &mut Printer<'_>, context: Context) {
         print_identifier_reference(self, p, Place::at_level(Precedence::Lowest, context));
     }
 }
@@ -31,11 +40,7 @@ impl PrintAlone for IdentifierReference {
 impl PrintAlone for ThisExpression {
     ghost alone = { λ n context. spell (this_expression_row n) (at_level Lowest context) };
 
-    fn print_alone(
-        &self,
-        p: &mut Printer<'_>,
-        context: Context,
-    ) {
+    fn print_alone(&self, p: &mut Printer<'_>, context: Context) {
         print_this_expression(self, p, Place::at_level(Precedence::Lowest, context));
     }
 }
@@ -43,11 +48,7 @@ impl PrintAlone for ThisExpression {
 impl PrintAlone for NullLiteral {
     ghost alone = { λ n context. spell (null_literal_row n) (at_level Lowest context) };
 
-    fn print_alone(
-        &self,
-        p: &mut Printer<'_>,
-        context: Context,
-    ) {
+    fn print_alone(&self, p: &mut Printer<'_>, context: Context) {
         print_null_literal(self, p, Place::at_level(Precedence::Lowest, context));
     }
 }
@@ -55,11 +56,7 @@ impl PrintAlone for NullLiteral {
 impl PrintAlone for BooleanLiteral {
     ghost alone = { λ n context. spell (boolean_literal_row n) (at_level Lowest context) };
 
-    fn print_alone(
-        &self,
-        p: &mut Printer<'_>,
-        context: Context,
-    ) {
+    fn print_alone(&self, p: &mut Printer<'_>, context: Context) {
         print_boolean_literal(self, p, Place::at_level(Precedence::Lowest, context));
     }
 }
@@ -83,11 +80,7 @@ impl PrintAtLevel for BigIntLiteral {
 impl PrintAlone for StringLiteral {
     ghost alone = { λ n context. spell (string_literal_row n) (at_level Lowest context) };
 
-    fn print_alone(
-        &self,
-        p: &mut Printer<'_>,
-        context: Context,
-    ) {
+    fn print_alone(&self, p: &mut Printer<'_>, context: Context) {
         print_string_literal(self, p, Place::at_level(Precedence::Lowest, context));
     }
 }
@@ -119,11 +112,7 @@ impl<N: PrintNode> PrintAtLevel for LogicalExpression<N> {
 impl PrintAlone for IdentifierName {
     ghost alone = { λ n context. spell (identifier_name_row n) (at_level Lowest context) };
 
-    fn print_alone(
-        &self,
-        p: &mut Printer<'_>,
-        context: Context,
-    ) {
+    fn print_alone(&self, p: &mut Printer<'_>, context: Context) {
         print_identifier_name(self, p, Place::at_level(Precedence::Lowest, context));
     }
 }

@@ -13,16 +13,15 @@ use jsgen_place::{Context, Place};
 use jsgen_printer::Printer;
 use jsgen_spelled::{print_formal_parameter, print_formal_parameter_rest};
 use jsgen_syntax::Precedence;
-use jsgen_tree::{ArrowFunctionExpression, FormalParameter, FormalParameterRest, FormalParameters, Function, FunctionBody};
+use jsgen_tree::{
+    ArrowFunctionExpression, FormalParameter, FormalParameterRest, FormalParameters, Function,
+    FunctionBody,
+};
 
 impl<N: PrintNode> PrintAlone for FormalParameter<N> {
     ghost alone = { λ n context. spell (formal_parameter_row N.plain n) (at_level Lowest context) };
 
-    fn print_alone(
-        &self,
-        p: &mut Printer<'_>,
-        context: Context,
-    ) {
+    fn print_alone(&self, p: &mut Printer<'_>, context: Context) {
         print_formal_parameter::<_, Inside>(self, p, Place::at_level(Precedence::Lowest, context));
     }
 }
@@ -30,23 +29,19 @@ impl<N: PrintNode> PrintAlone for FormalParameter<N> {
 impl<N: PrintNode> PrintAlone for FormalParameterRest<N> {
     ghost alone = { λ n context. spell (formal_parameter_rest_row N.plain n) (at_level Lowest context) };
 
-    fn print_alone(
-        &self,
-        p: &mut Printer<'_>,
-        context: Context,
-    ) {
-        print_formal_parameter_rest::<_, Inside>(self, p, Place::at_level(Precedence::Lowest, context));
+    fn print_alone(&self, p: &mut Printer<'_>, context: Context) {
+        print_formal_parameter_rest::<_, Inside>(
+            self,
+            p,
+            Place::at_level(Precedence::Lowest, context),
+        );
     }
 }
 
 impl<N: PrintNode> PrintAlone for FormalParameters<N> {
     ghost alone = { λ n context. spell (formal_parameters_row N.plain n) (at_level Lowest context) };
 
-    fn print_alone(
-        &self,
-        p: &mut Printer<'_>,
-        context: Context,
-    ) {
+    fn print_alone(&self, p: &mut Printer<'_>, context: Context) {
         print_formal_parameters(self, p, Place::at_level(Precedence::Lowest, context));
     }
 }
@@ -54,11 +49,7 @@ impl<N: PrintNode> PrintAlone for FormalParameters<N> {
 impl<N: PrintNode> PrintAlone for Function<N> {
     ghost alone = { λ n context. spell (function_row N.plain n) (at_level Lowest context) };
 
-    fn print_alone(
-        &self,
-        p: &mut Printer<'_>,
-        context: Context,
-    ) {
+    fn print_alone(&self, p: &mut Printer<'_>, context: Context) {
         print_function(self, p, Place::at_level(Precedence::Lowest, context));
     }
 }
@@ -66,11 +57,7 @@ impl<N: PrintNode> PrintAlone for Function<N> {
 impl<N: PrintNode> PrintAlone for FunctionBody<N> {
     ghost alone = { λ n context. spell (function_body_row N.plain n) (at_level Lowest context) };
 
-    fn print_alone(
-        &self,
-        p: &mut Printer<'_>,
-        context: Context,
-    ) {
+    fn print_alone(&self, p: &mut Printer<'_>, context: Context) {
         print_function_body(self, p, Place::at_level(Precedence::Lowest, context));
     }
 }

@@ -25,11 +25,7 @@ impl<N: PrintNode> PrintAtLevel for UnaryExpression<N> {
 impl PrintAlone for NewTarget {
     ghost alone = { λ n context. spell (new_target_row n) (at_level Lowest context) };
 
-    fn print_alone(
-        &self,
-        p: &mut Printer<'_>,
-        context: Context,
-    ) {
+    fn print_alone(&self, p: &mut Printer<'_>, context: Context) {
         print_new_target(self, p, Place::at_level(Precedence::Lowest, context));
     }
 }
@@ -53,11 +49,7 @@ impl<N: PrintNode> PrintAtLevel for NewExpression<N> {
 impl PrintAlone for Super {
     ghost alone = { λ n context. spell (super_row n) (at_level Lowest context) };
 
-    fn print_alone(
-        &self,
-        p: &mut Printer<'_>,
-        context: Context,
-    ) {
+    fn print_alone(&self, p: &mut Printer<'_>, context: Context) {
         print_super(self, p, Place::at_level(Precedence::Lowest, context));
     }
 }

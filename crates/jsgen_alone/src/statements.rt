@@ -12,18 +12,20 @@ use jsgen_nodes::statements::{print_directive, print_program};
 use jsgen_nodes::{Inside, PrintNode};
 use jsgen_place::{Context, Place};
 use jsgen_printer::Printer;
-use jsgen_spelled::{print_empty_statement, print_expression_statement, print_variable_declaration, print_variable_declarator};
+use jsgen_spelled::{
+    print_empty_statement, print_expression_statement, print_variable_declaration,
+    print_variable_declarator,
+};
 use jsgen_syntax::Precedence;
-use jsgen_tree::{BindingIdentifier, BlockStatement, Directive, EmptyStatement, ExpressionStatement, IfStatement, Program, VariableDeclaration, VariableDeclarator};
+use jsgen_tree::{
+    BindingIdentifier, BlockStatement, Directive, EmptyStatement, ExpressionStatement, IfStatement,
+    Program, VariableDeclaration, VariableDeclarator,
+};
 
 impl<N: PrintNode> PrintAlone for Program<N> {
     ghost alone = { λ n context. spell (program_row N.plain n) among_statements };
 
-    fn print_alone(
-        &self,
-        p: &mut Printer<'_>,
-        context: Context,
-    ) {
+    fn print_alone(&self, p: &mut Printer<'_>, context: Context) {
         let _ = context;
         print_program(self, p, Place::among_statements());
     }
@@ -32,11 +34,7 @@ impl<N: PrintNode> PrintAlone for Program<N> {
 impl PrintAlone for Directive {
     ghost alone = { λ n context. spell (directive_row n) among_statements };
 
-    fn print_alone(
-        &self,
-        p: &mut Printer<'_>,
-        context: Context,
-    ) {
+    fn print_alone(&self, p: &mut Printer<'_>, context: Context) {
         let _ = context;
         print_directive(self, p, Place::among_statements());
     }
@@ -45,35 +43,31 @@ impl PrintAlone for Directive {
 impl<N: PrintNode> PrintAlone for VariableDeclaration<N> {
     ghost alone = { λ n context. spell (variable_declaration_row N.plain n) (at_level Lowest context) };
 
-    fn print_alone(
-        &self,
-        p: &mut Printer<'_>,
-        context: Context,
-    ) {
-        print_variable_declaration::<_, Inside>(self, p, Place::at_level(Precedence::Lowest, context));
+    fn print_alone(&self, p: &mut Printer<'_>, context: Context) {
+        print_variable_declaration::<_, Inside>(
+            self,
+            p,
+            Place::at_level(Precedence::Lowest, context),
+        );
     }
 }
 
 impl<N: PrintNode> PrintAlone for VariableDeclarator<N> {
     ghost alone = { λ n context. spell (variable_declarator_row N.plain n) (at_level Lowest context) };
 
-    fn print_alone(
-        &self,
-        p: &mut Printer<'_>,
-        context: Context,
-    ) {
-        print_variable_declarator::<_, Inside>(self, p, Place::at_level(Precedence::Lowest, context));
+    fn print_alone(&self, p: &mut Printer<'_>, context: Context) {
+        print_variable_declarator::<_, Inside>(
+            self,
+            p,
+            Place::at_level(Precedence::Lowest, context),
+        );
     }
 }
 
 impl PrintAlone for BindingIdentifier {
     ghost alone = { λ n context. spell (binding_identifier_row n) (at_level Lowest context) };
 
-    fn print_alone(
-        &self,
-        p: &mut Printer<'_>,
-        context: Context,
-    ) {
+    fn print_alone(&self, p: &mut Printer<'_>, context: Context) {
         print_binding_identifier(self, p, Place::at_level(Precedence::Lowest, context));
     }
 }
@@ -81,11 +75,7 @@ impl PrintAlone for BindingIdentifier {
 impl<N: PrintNode> PrintAlone for ExpressionStatement<N> {
     ghost alone = { λ n context. spell (expression_statement_row N.plain n) among_statements };
 
-    fn print_alone(
-        &self,
-        p: &mut Printer<'_>,
-        context: Context,
-    ) {
+    fn print_alone(&self, p: &mut Printer<'_>, context: Context) {
         let _ = context;
         print_expression_statement::<_, Inside>(self, p, Place::among_statements());
     }
@@ -94,11 +84,7 @@ impl<N: PrintNode> PrintAlone for ExpressionStatement<N> {
 impl<N: PrintNode> PrintAlone for BlockStatement<N> {
     ghost alone = { λ n context. spell (block_statement_row N.plain n) among_statements };
 
-    fn print_alone(
-        &self,
-        p: &mut Printer<'_>,
-        context: Context,
-    ) {
+    fn print_alone(&self, p: &mut Printer<'_>, context: Context) {
         let _ = context;
         print_block_statement(self, p, Place::among_statements());
     }
@@ -107,11 +93,7 @@ impl<N: PrintNode> PrintAlone for BlockStatement<N> {
 impl<N: PrintNode> PrintAlone for IfStatement<N> {
     ghost alone = { λ n context. spell (if_statement_row N.plain n) among_statements };
 
-    fn print_alone(
-        &self,
-        p: &mut Printer<'_>,
-        context: Context,
-    ) {
+    fn print_alone(&self, p: &mut Printer<'_>, context: Context) {
         let _ = context;
         print_if_statement(self, p, Place::among_statements());
     }
@@ -120,11 +102,7 @@ impl<N: PrintNode> PrintAlone for IfStatement<N> {
 impl PrintAlone for EmptyStatement {
     ghost alone = { λ n context. spell (empty_statement_row n) among_statements };
 
-    fn print_alone(
-        &self,
-        p: &mut Printer<'_>,
-        context: Context,
-    ) {
+    fn print_alone(&self, p: &mut Printer<'_>, context: Context) {
         let _ = context;
         print_empty_statement(self, p, Place::among_statements());
     }

@@ -113,7 +113,7 @@ good_alternate {names} c t m f = by_shape (shape t) refl
 -- ---- `if`
 
 if_reads : {c : Allowed} {last mark next : Bool} {test ts : Tokens} {t s : Tree} → ReadsExpression (with_in c) grammar.Expression test t → ReadsStatement c last false ts s → ReadsClosed c true last (piece mark (Word (codes "if")) (group next Round test ts)) (tree.if_statement (nothing_of 0) t s absent)
-if_reads r s false n = grammar.shapes.If r s
+if_reads r s false n = grammar.an_if r s
 if_reads r s true n = absurd (both_ways true (n refl) refl)
 
 -- the test and the consequent, in front of what the alternate gives

@@ -6,7 +6,7 @@ use Rattle.jsgen_tree.specs.Tree.{Tree, Atoms}
 use Rattle.jsgen_tree.specs.Nodes as tree
 use Rattle.jsgen_model.specs.Punctuator.{question, colon}
 use Rattle.jsgen_model.specs.Tokens.{Tokens, done, piece, ◌⧺◌, Sign}
-use Rattle.jsgen_model.specs.Items.{Items, soft_space, punctuator}
+use Rattle.jsgen_model.specs.Items.{Items, soft_space, punctuator, ◌⊕◌}
 use Rattle.jsgen_model.specs.Layout.{Pen, layout}
 use Rattle.jsgen_model.specs.Grammar.{Allowed, with_in}
 use Rattle.jsgen_model.specs.Grammar as grammar
@@ -43,7 +43,7 @@ choice_parts {names} a x y z {p = p} g s o n h m u r i =
     }
 
 abbrev items_of : Tree → Tree → Tree → Place → Bool → Items
-items_of x y z place w = choice (spell x (with_calls (child levels.Conditional (within w place)))) (spell y (in_brackets levels.Yield)) (spell z (with_calls (child levels.Yield (within w place))))
+items_of x y z place w = spell x (with_calls (child levels.Conditional (within w place))) ⊕ (soft_space ⊕ (punctuator question ⊕ (soft_space ⊕ (spell y (in_brackets levels.Yield) ⊕ (soft_space ⊕ (punctuator colon ⊕ (soft_space ⊕ spell z (with_calls (child levels.Yield (within w place))))))))))
 
 pub good_choice : {names : Tables} (c : Allowed) (a : Atoms) (x y z : Tree) → Printed names c x → Printed names c y → Printed names c z → Printed names c (tree.conditional a x y z)
 good_choice {names} c a x y z f g h place =

@@ -108,7 +108,7 @@ def of_file(table, types):
                ("Rattle.jsgen_place.specs.Place", ["at_level", "in_brackets", "among_statements", "loop_head"]),
                ("Rattle.jsgen_model.specs.Items", ["◌⊕◌", "due_semicolon"]),
                ("Rattle.jsgen_model.specs.Spell", ["spell", "key_text", "left_place"])]
-    homes = print_functions(table, "jsgen_nodes") + [("jsgen_nodes::iterations", ["print_left"])]
+    homes = print_functions(table, "jsgen_nodes")
     homes += [("jsgen_nodes::sets", [f"print_{snake(s.name)}" for s in table.nesting() + chosen(table)]),
               ("crate", ["PrintAlone", "PrintAtLevel"]), ("jsgen_nodes", ["Inside", "PrintNode"]),
               ("jsgen_place", ["Context", "Place"]), ("jsgen_printer", ["Printer"]),
