@@ -1,5 +1,5 @@
 -- A program of which each node is plain by its type and flags is plain.
-use Rattle.std.proofs.Common.{◌≡◌, Bool, true, ◌&&◌, refl, sym, subst}
+use Rattle.std.proofs.Common.{Bool, ◌&&◌, refl, sym, subst}
 use Rattle.std.proofs.lemmas.Bool.{and_from}
 use Rattle.jsgen_tree.specs.Tree.{Tree, node, Slots, no_slots, one, maybe, many, maybe_many, Maybe, absent, given, Trees, no_trees, more, hole, MaybeTrees, no_list, listed}
 use Rattle.jsgen_tree.specs.Everywhere.{Everywhere, EverywhereInSlots, EverywhereIfGiven, EverywhereInTrees, EverywhereIfListed}

@@ -53,12 +53,12 @@ abbrev pub declared_as : VariableDeclarationKind → Atoms
 declared_as kind = bare (declaration_kind kind ∷ no_value ∷ [])
 
 -- a function by where it stands; whether it is pure or marked as called doesn't count
-abbrev pub function_values : FunctionKind → Bool → Bool → Bool → Atoms
-function_values kind is_async generator declare = bare (kind_of_function kind ∷ if_set is_async ∷ if_set generator ∷ if_set declare ∷ no_value ∷ no_value ∷ [])
+abbrev pub function_values : FunctionKind → Atom → Atom → Atom → Atoms
+function_values kind is_async generator declare = bare (kind_of_function kind ∷ is_async ∷ generator ∷ declare ∷ no_value ∷ no_value ∷ [])
 
 -- of one that is neither `async` nor a generator
 abbrev pub function_as : FunctionKind → Atoms
-function_as kind = function_values kind false false false
+function_as kind = function_values kind no_value no_value no_value
 
 abbrev pub number_text : NumericKind → Atoms → List ℕ
 number_text Whole a = decimal (numeric_literal_digits a)
@@ -145,7 +145,7 @@ abbrev pub property_form : Atoms → Tree → Atoms
 property_form a key = property_values (object_property_kind a) (is_written_as_method (object_property_kind a) (object_property_method a))
     (is_proto_shorthand (is_method (object_property_kind a) (object_property_method a)) (object_property_shorthand a) key) (is_computed (object_property_computed a) key)
 
--- Parentheses, spans, the source and the kind of a program are away, and whether a call, `new` or a function is pure, or is marked as called; a flag as `async` that is false counts like one that is absent; a directive is its value; a
+-- Parentheses, spans, the source and the kind of a program are away, and whether a call, `new` or a function is pure, or is marked as called; a flag such as `is_async` that is false counts like one that is absent; a directive is its value; a
 -- whole number is its digits, and a minus before a number is an operation; a negative number that is a key is a computed one; a chain of one logical operator is one list, however it was grouped, and so is a sequence; braces round a consequent
 -- that ends in an `if` without `else` are away; a property that its value alone says is written out, but for `__proto__`.
 abbrev mutual
@@ -205,7 +205,7 @@ abbrev mutual
   normal (tree.formal_parameter_rest a argument) = tree.formal_parameter_rest (nothing_of 0) (normal argument)
   normal (tree.formal_parameters a items rest) = tree.formal_parameters (nothing_of 0) (normal_trees items) (normal_maybe rest)
   normal (tree.arrow_function a params body) = tree.arrow_function (bare (if_set (arrow_function_expression_is_async a) ∷ no_value ∷ no_value ∷ [])) (normal params) (normal body)
-  normal (tree.function a id params body) = tree.function (function_values (function_kind a) (function_is_async a) (function_generator a) (function_declare a)) (normal_maybe id) (normal params) (normal_maybe body)
+  normal (tree.function a id params body) = tree.function (function_values (function_kind a) (if_set (function_is_async a)) (if_set (function_generator a)) (if_set (function_declare a))) (normal_maybe id) (normal params) (normal_maybe body)
   normal (tree.function_body a directives statements) = tree.function_body (nothing_of 0) (normal_trees directives) (normal_trees statements)
   normal (tree.return_statement a argument) = tree.return_statement (nothing_of 0) (normal_maybe argument)
   normal (node type a slots) = node type (bare a.values) (normal_slots slots)

@@ -18,7 +18,7 @@ use Rattle.jsgen_model.specs.Items.{Items, ◌⊕◌, word, brackets, soft_space
 use Rattle.jsgen_model.specs.Layout.{Pen, Start, nowhere, arrow_body, other_end, layout, written, unless_printed, statement, default_export, is_barred, written_if}
 use Rattle.jsgen_model.specs.Grammar.{Allowed, ReadsParameters, ReadsParameter, ReadsFunction, ReadsItem, ReadsBody, in_function, function_of, ReadsExpression}
 use Rattle.jsgen_model.specs.Grammar as grammar
-use Rattle.jsgen_model.specs.Normal.{normal, normal_maybe, nothing_of, unnumbered, function_values}
+use Rattle.jsgen_model.specs.Normal.{normal, normal_maybe, nothing_of, unnumbered, function_values, if_set}
 use Rattle.jsgen_model.specs.Renamed.{renamed, renamed_maybe}
 use Rattle.jsgen_place.specs.declared.place.Place.{Place}
 use Rattle.jsgen_place.specs.Place.{among_statements, within_statement, child, in_brackets, within, with_calls}
@@ -197,7 +197,7 @@ good_method_items t u f h place p l z k =
     method_parts t u g s b
 
 pub same_function : (a : Atoms) (kind : FunctionKind) (i j : Maybe) (ps : Trees) (rest : Maybe) (ds ss : Trees) (x y : Tree) → function_kind a ≡ kind → IsSynchronous a → normal_maybe j ≡ normal_maybe i → normal (tree.formal_parameters (nothing_of 0) ps rest) ≡ normal x → normal (tree.function_body (nothing_of 0) ds ss) ≡ normal y → normal (function_of kind j ps rest ds ss) ≡ normal (tree.function a i x (given y))
-same_function a kind i j ps rest ds ss x y h m e f g = λ k. tree.function (function_values (sym h k) (sym m.0 k) (sym m.1 k) (sym m.2 k)) (e k) (f k) (given (g k))
+same_function a kind i j ps rest ds ss x y h m e f g = λ k. tree.function (function_values (sym h k) (if_set (sym m.0 k)) (if_set (sym m.1 k)) (if_set (sym m.2 k))) (e k) (f k) (given (g k))
 
 -- ---- functions without their surroundings
 

@@ -214,7 +214,7 @@ mutual
   normal_again (tree.formal_parameter_rest a argument) = ap (λ e. tree.formal_parameter_rest (nothing_of 0) e) (normal_again argument)
   normal_again (tree.formal_parameters a items rest) = let e = normal_trees_again items in let f = normal_maybe_again rest in λ i. tree.formal_parameters (nothing_of 0) (e i) (f i)
   normal_again (tree.arrow_function a params body) = let s = flag_again (arrow_function_expression_is_async a) in let e = normal_again params in let f = normal_again body in λ i. tree.arrow_function (bare (if_set (s i) ∷ no_value ∷ no_value ∷ [])) (e i) (f i)
-  normal_again (tree.function a id params body) = let s = flag_again (function_is_async a) in let u = flag_again (function_generator a) in let v = flag_again (function_declare a) in let e = normal_maybe_again id in let f = normal_again params in let g = normal_maybe_again body in λ i. tree.function (function_values (function_kind a) (s i) (u i) (v i)) (e i) (f i) (g i)
+  normal_again (tree.function a id params body) = let s = flag_again (function_is_async a) in let u = flag_again (function_generator a) in let v = flag_again (function_declare a) in let e = normal_maybe_again id in let f = normal_again params in let g = normal_maybe_again body in λ i. tree.function (function_values (function_kind a) (if_set (s i)) (if_set (u i)) (if_set (v i))) (e i) (f i) (g i)
   normal_again (tree.function_body a directives statements) = let e = normal_trees_again directives in let f = normal_trees_again statements in λ i. tree.function_body (nothing_of 0) (e i) (f i)
   normal_again (tree.return_statement a argument) = ap (λ m. tree.return_statement (nothing_of 0) m) (normal_maybe_again argument)
   normal_again (node type a slots) = ap (λ s. node type (bare a.values) s) (normal_slots_again slots)

@@ -90,7 +90,7 @@ mutual
   unrenamed (tree.formal_parameter_rest a argument) = ap (λ e. tree.formal_parameter_rest (nothing_of 0) e) (unrenamed argument)
   unrenamed (tree.formal_parameters a items rest) = let e = unrenamed_trees items in let f = unrenamed_maybe rest in λ i. tree.formal_parameters (nothing_of 0) (e i) (f i)
   unrenamed (tree.arrow_function a params body) = let e = unrenamed params in let f = unrenamed body in λ i. tree.arrow_function (bare (if_set (arrow_function_expression_is_async a) ∷ no_value ∷ no_value ∷ [])) (e i) (f i)
-  unrenamed (tree.function a id params body) = let e = unrenamed_maybe id in let f = unrenamed params in let g = unrenamed_maybe body in λ i. tree.function (function_values (function_kind a) (function_is_async a) (function_generator a) (function_declare a)) (e i) (f i) (g i)
+  unrenamed (tree.function a id params body) = let e = unrenamed_maybe id in let f = unrenamed params in let g = unrenamed_maybe body in λ i. tree.function (function_values (function_kind a) (if_set (function_is_async a)) (if_set (function_generator a)) (if_set (function_declare a))) (e i) (f i) (g i)
   unrenamed (tree.function_body a directives statements) = let e = unrenamed_trees directives in let f = unrenamed_trees statements in λ i. tree.function_body (nothing_of 0) (e i) (f i)
   unrenamed (tree.return_statement a argument) = ap (λ m. tree.return_statement (nothing_of 0) m) (unrenamed_maybe argument)
   unrenamed (node type a slots) = ap (λ s. node type (bare a.values) s) (unrenamed_slots slots)
