@@ -6,7 +6,6 @@ use Rattle.jsgen_tree.specs.Job.{Tables, JobData}
 use Rattle.jsgen_tree.specs.Scoping.{tables_plain}
 use Rattle.jsgen_tree.specs.Tree.{Tree}
 use Rattle.jsgen_model.specs.Layout.{Pen}
-use Rattle.jsgen_model.specs.Spell.{Settings}
 use Rattle.jsgen_model.specs.Printing.{Reaches}
 use Rattle.jsgen_printer.specs.Printer.{pen_of}
 use Rattle.jsgen_printer.specs.Steps as steps
@@ -27,10 +26,6 @@ job_for c program = record { options = options_of c; tables = tables_of c; progr
 -- the text so far, and what matters of its end
 abbrev pub pen_at : Codegen → Pen
 pen_at c = pen_of c.printer
-
--- what a spelling depends on beside the tree
-abbrev pub settings_at : Codegen → Settings
-settings_at c = record { minified = (options_of c).minify }
 
 -- the text so far, in bytes
 abbrev pub printed_so_far : Codegen → List ℕ

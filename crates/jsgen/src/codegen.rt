@@ -10,21 +10,21 @@ ghost use Rattle.jsgen_syntax.specs.Raw.{tag_free};
 ghost use Rattle.jsgen_model.specs.Items.{string};
 ghost use Rattle.jsgen_model.specs.Layout.{style_of, empty_pen, written, other_end, layout};
 ghost use Rattle.jsgen_syntax.specs.declared.precedence.Precedence.TheVariants.{Lowest};
-ghost use Rattle.jsgen_model.specs.Spell.{text_bytes, spell, free};
+ghost use Rattle.jsgen_model.specs.Spell.{text_bytes, spell};
 ghost use Rattle.std.specs.Str.{chars};
 ghost use Rattle.jsgen_model.specs.Plain.{IsPlain, IsQuiet};
 ghost use Rattle.jsgen_model.specs.Reading.{IsReadAs};
 ghost use Rattle.jsgen_model.specs.Valid.{job_breaches, expression_breaches, IsValid, IsValidExpression, Judges};
 ghost use Rattle.jsgen_check.specs.Verdict.{told};
 ghost use Rattle.jsgen_printer.specs.Printer.{pen_of, by_tables, name_written, unless_empty};
-ghost use Rattle.jsgen_place.specs.Place.{place_of, context_of, settings_of};
+ghost use Rattle.jsgen_place.specs.Place.{free, at_level};
 ghost use Rattle.jsgen.specs.Context.{context_at};
-ghost use Rattle.jsgen_nodes.specs.Alone.{at_level};
 
+use jsgen_alone::{PrintAlone, PrintAtLevel};
 use jsgen_check::{check_expression, check_program};
 use jsgen_model::TreeFault;
-use jsgen_nodes::{PrintAlone, PrintAtLevel, print_program};
-use jsgen_place::{Place, Settings};
+use jsgen_nodes::statements::print_program;
+use jsgen_place::Place;
 use jsgen_printer::{Context, Printer};
 use jsgen_syntax::{JsStr, Memory, Precedence};
 use jsgen_tree::{CodegenOptions, Expression, PrivateMappings, Program, Scoping, Tables};
@@ -77,7 +77,7 @@ pub struct Codegen<'a> {
 
 impl<'a> Codegen<'a> {
     ghost use Rattle.std.specs.Prelude.{is_err};
-    ghost use Rattle.jsgen.specs.Codegen.{options_of, tables_of, job_for, has_printed, has_failed, pen_at, settings_at, printed_so_far, Prints};
+    ghost use Rattle.jsgen.specs.Codegen.{options_of, tables_of, job_for, has_printed, has_failed, pen_at, printed_so_far, Prints};
 
     /// A printer by the default options, of pretty text, that prints each name as it is.
     pub fn new(alloc: Global) -> Codegen<'a>
@@ -253,26 +253,15 @@ impl<'a> Codegen<'a> {
     pub fn print_expression(&mut self, expression: &Expression) -> Result<(), CodegenError>
         requires valid { IsValidExpression (options_of self.old) (tables_of self.old) (expression_plain node_plain expression.now) }
         requires unfailed { has_failed self.old ≡ false }
-        ensures { Prints self.old self.new (layout (spell (expression_plain node_plain expression.now) (at_level Lowest (settings_at self.old) free (pen_at self.old).start)) (pen_at self.old)) result }
+        ensures { Prints self.old self.new (layout (spell (expression_plain node_plain expression.now) (at_level Lowest free)) (pen_at self.old)) result }
     {
-        let place = Place::within_statement(self.settings());
-        self.print_at(expression, place)
-    }
-
-    // What a spelling depends on beside the tree.
-    fn settings(&self) -> Settings
-        ensures { settings_of result ≡ settings_at self.now }
-    {
-        Settings {
-            minified: self.options.minify,
-        }
+        self.print_at(expression, Place::within_statement())
     }
 
     // Prints what stands at a place.
-    #[tactic(auto, unfolding(jsgen_nodes::specs::Place::at_place))]
     fn print_at<T: PrintAtLevel>(&mut self, node: &T, place: Place) -> Result<(), CodegenError>
         requires unfailed { has_failed self.old ≡ false }
-        ensures { Prints self.old self.new (layout (spell (T.plain node.now) (place_of place (pen_at self.old))) (pen_at self.old)) result }
+        ensures { Prints self.old self.new (layout (spell (T.plain node.now) place) (pen_at self.old)) result }
     {
         self.has_printed = true;
         node.print_at(&mut self.printer, place);
@@ -287,10 +276,9 @@ impl<'a> Codegen<'a> {
         context: Context,
     ) -> Result<(), CodegenError>
         requires unfailed { has_failed self.old ≡ false }
-        ensures { Prints self.old self.new (layout (spell (T.plain node.now) (at_level level (settings_at self.old) (context_at context) (pen_at self.old).start)) (pen_at self.old)) result }
+        ensures { Prints self.old self.new (layout (spell (T.plain node.now) (at_level level (context_at context))) (pen_at self.old)) result }
     {
-        let place = Place::at_level(level, self.settings(), place_context(context));
-        self.print_at(node, place)
+        self.print_at(node, Place::at_level(level, place_context(context)))
     }
 
     // Prints what stands by itself.
@@ -300,11 +288,10 @@ impl<'a> Codegen<'a> {
         context: Context,
     ) -> Result<(), CodegenError>
         requires unfailed { has_failed self.old ≡ false }
-        ensures { Prints self.old self.new (layout (T.alone node.now (settings_at self.old) (context_at context) (pen_at self.old).start) (pen_at self.old)) result }
+        ensures { Prints self.old self.new (layout (T.alone node.now (context_at context)) (pen_at self.old)) result }
     {
-        let settings = self.settings();
         self.has_printed = true;
-        node.print_alone(&mut self.printer, settings, place_context(context));
+        node.print_alone(&mut self.printer, place_context(context));
         self.outcome()
     }
 
@@ -350,10 +337,9 @@ impl<'a> Codegen<'a> {
         ensures reads { IfOk result (λ printed. IsPlain (program_plain program.now) → IsQuiet (job_for self.entry (program_plain program.now))
             → IsReadAs (chars (string_bytes printed.code)) (job_for self.entry (program_plain program.now))) }
     {
-        let settings = self.settings();
         let mut p = self.printer;
         p.set_depth(self.options.initial_indent);
-        print_program(program, &mut p, settings);
+        print_program(program, &mut p, Place::among_statements());
         if p.has_failed() {
             return Err(CodegenError::Memory);
         }
@@ -365,7 +351,7 @@ impl<'a> Codegen<'a> {
 
 // What the context of a call forbids.
 fn place_context(context: Context) -> jsgen_place::Context
-    ensures { context_of result ≡ context_at context }
+    ensures { result ≡ context_at context }
 {
     jsgen_place::Context {
         forbids_in: context.forbid_in(),

@@ -16,6 +16,7 @@ use jsgen_printer::Printer;
 
 /// What is printed by itself, at a place that its type says.
 pub trait PrintAlone {
+    ghost use Rattle.jsgen_place.specs.declared.place.Context.{Context};
     ghost use Rattle.jsgen_model.specs.Items.{Items};
     ghost use Rattle.jsgen_printer.specs.Steps.{Lays};
 

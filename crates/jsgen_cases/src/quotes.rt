@@ -1,5 +1,5 @@
 // The calls that keep the strings of a CommonJS module out of backticks.
-use jsgen_nodes::{
+use jsgen_nodes::quotes::{
     try_print_define_property_call, try_print_equality_string, try_print_exports_computed_target,
     try_print_require_call,
 };

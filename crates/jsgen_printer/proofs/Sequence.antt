@@ -108,6 +108,9 @@ before_went true fb h e = absurd (both_ways fb e (h refl))
 pub went_before : {a b : Printer} {f : Pen → Pen} → Goes a b f → has_failed b ≡ false → has_failed a ≡ false
 went_before {a} {b} h going = before_went (has_failed a) (has_failed b) (λ stopped. (h.stays stopped).0) going
 
+pub went : {a b : Printer} {f : Pen → Pen} → Goes a b f → has_failed b ≡ false → pen_of b ≡ f (pen_of a)
+went {a} {b} {f} h going = subst (λ failed. Ends failed (pen_of a) (pen_of b) (f (pen_of a))) going (h.goes (went_before h going))
+
 -- ---- a level deeper, and the level before behind it
 
 at_level_before : (fd : Bool) (depth before : ℕ) (pa pd inner : Pen) → (fd ≡ false → depth ≡ before) → Ends fd pa pd (at_depth depth inner) → Ends fd pa pd (at_depth before inner)

@@ -11,7 +11,7 @@ returns-clause-text c =
     let going = sym c.has_failed.ensures ∙ c.if-has_failed.false in
     let behind = went (items_go c.print_program.ensures) going in
     let before = went c.set_depth.ensures.goes (went_before (items_go c.print_program.ensures) going) in
-    rw (behind, before, c.args.self.fresh c.requires.unprinted, c.settings-settings.ensures) at c.into_string.ensures
+    rw (behind, before, c.args.self.fresh c.requires.unprinted) at c.into_string.ensures
 
 pub returns-clause-reads : goal.returns-clause-reads
 returns-clause-reads c = λ plain quiet.
@@ -19,5 +19,5 @@ returns-clause-reads c = λ plain quiet.
     let behind = went (items_go c.print_program.ensures) going in
     let before = went c.set_depth.ensures.goes (went_before (items_go c.print_program.ensures) going) in
     let job = job_for c.args.self (program_plain c.args.program.now) in
-    let text : string_bytes c.into_string.result ≡ text_bytes job = rw (behind, before, c.args.self.fresh c.requires.unprinted, c.settings-settings.ensures) at c.into_string.ensures in
+    let text : string_bytes c.into_string.result ≡ text_bytes job = rw (behind, before, c.args.self.fresh c.requires.unprinted) at c.into_string.ensures in
     read_back job (string_bytes c.into_string.result) text refl c.requires.valid plain quiet
