@@ -1,10 +1,10 @@
 -- Members that may be left out, the parts of a loop, and the pen within braces.
 use Rattle.std.specs.Prelude.{ℕ, Bool, Option, Some, None}
-use Rattle.jsgen_tree.specs.Tree.{Tree, Trees, Maybe}
-use Rattle.jsgen_model.specs.Punctuator.{Brace, semicolon, opening, closing}
-use Rattle.jsgen_model.specs.Items.{Items, nothing, ◌⊕◌, punctuator, soft_line, indentation, drop_semicolon}
+use Rattle.jsgen_tree.specs.Tree.{Tree, Trees}
+use Rattle.jsgen_model.specs.Punctuator.{Brace, opening, closing}
+use Rattle.jsgen_model.specs.Items.{Items, nothing, ◌⊕◌, soft_line, indentation, drop_semicolon}
 use Rattle.jsgen_model.specs.Layout.{Pen, layout, written, other_end}
-use Rattle.jsgen_model.specs.Spell.{spell, spell_elements, spell_if_given, spell_apart, ends_in_hole, comma_if}
+use Rattle.jsgen_model.specs.Spell.{spell, spell_elements, ends_in_hole, comma_if}
 use Rattle.jsgen_printer.specs.Printer.{deepened, at_depth}
 use Rattle.jsgen_place.specs.declared.place.Place.{Place}
 
@@ -16,10 +16,6 @@ element_items (Some t) place = spell t place
 -- members, and behind a last one that is left out its comma
 abbrev pub all_elements : Bool → Trees → Place → Items
 all_elements lines ts place = spell_elements lines ts place ⊕ comma_if (ends_in_hole ts)
-
--- what is done before a loop, before each round, and behind each round
-abbrev pub loop_parts : Maybe → Maybe → Maybe → Place → Place → Items
-loop_parts init test update first place = spell_if_given init first ⊕ ((punctuator semicolon ⊕ spell_apart test place) ⊕ (punctuator semicolon ⊕ spell_apart update place))
 
 -- the pen within braces, one level deeper, and behind them, at the level before
 abbrev pub braces_opened : Pen → Pen

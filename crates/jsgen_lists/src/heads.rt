@@ -27,29 +27,6 @@ pub fn print_behind_word<E, L: PrintMember<E>>(
     print_behind_space::<E, L>(member, p, place);
 }
 
-/// A word between spaces, and something behind it.
-pub fn print_behind_spaced_word<E, L: PrintMember<E>>(
-    text: &str,
-    member: &E,
-    p: &mut Printer<'_>,
-    place: Place,
-)
-    requires { IsTrue (is_ascii text.now) }
-    ensures { Lays p.old p.new (soft_space ⊕ (word text.now ⊕ (soft_space ⊕ spell (L.plain member.now) place))) }
-{
-    p.print_soft_space();
-    print_behind_word::<E, L>(text, member, p, place);
-}
-
-/// A word, and something behind it in parentheses.
-pub fn print_head<E, L: PrintMember<E>>(text: &str, member: &E, p: &mut Printer<'_>, place: Place)
-    requires { IsTrue (is_ascii text.now) }
-    ensures { Lays p.old p.new (word text.now ⊕ (soft_space ⊕ brackets Round (spell (L.plain member.now) place))) }
-{
-    p.print_word(text);
-    print_apart_in_parentheses::<E, L>(member, p, place);
-}
-
 /// Behind a space, in parentheses.
 pub fn print_apart_in_parentheses<E, L: PrintMember<E>>(
     member: &E,
@@ -68,21 +45,6 @@ pub fn print_in_parentheses<E, L: PrintMember<E>>(member: &E, p: &mut Printer<'_
     p.print_opening(Bracket::Round);
     L::print_member(member, p, place);
     p.print_closing(Bracket::Round);
-}
-
-/// A word, and behind it what it may name, up to the end of a statement.
-pub fn print_jump<E, L: PrintMember<E>>(
-    text: &str,
-    label: &Option<E>,
-    p: &mut Printer<'_>,
-    place: Place,
-)
-    requires { IsTrue (is_ascii text.now) }
-    ensures { Lays p.old p.new (word text.now ⊕ (spell_apart (optional (option_map L.plain label.now)) place ⊕ statement_end)) }
-{
-    p.print_word(text);
-    print_apart::<E, L>(label, p, place);
-    p.print_statement_end();
 }
 
 /// What stands before the key of an accessor (ECMA-262, 15.4), and nothing before that of a method.

@@ -10,7 +10,6 @@ mod heads;
 mod links;
 mod maybe;
 mod members;
-mod parts;
 mod statements;
 mod updates;
 
@@ -18,17 +17,11 @@ pub use arguments::{PlainQuotes, print_arguments};
 pub use braces::{close_braces, open_braces, print_braces, print_empty_braces};
 pub use cases::{PrintOnly, print_case};
 pub use elements::{PrintElement, print_array, print_object};
-pub use heads::{
-    print_accessor_word, print_behind_spaced_word, print_behind_word, print_head,
-    print_in_parentheses, print_jump,
-};
+pub use heads::{print_accessor_word, print_behind_word, print_in_parentheses};
 pub use links::{print_bracket_link, print_named_member};
 pub use maybe::{
     print_apart, print_behind_space, print_caught, print_comma_between, print_if_given, print_value,
 };
 pub use members::{PrintMember, print_in_brackets, print_list, print_more};
-pub use parts::print_loop_parts;
-pub use statements::{
-    PrintStatement, print_body, print_deeper_body, print_statements, print_whole_body,
-};
+pub use statements::{PrintStatement, print_body, print_deeper_body, print_statements};
 pub use updates::print_update;

@@ -22,14 +22,6 @@ pub trait PrintStatement<E> {
         ensures { Lays p.old p.new (first_statement (plain statement.now) (spell (plain statement.now) place)) };
 }
 
-/// A program's statements, and the semicolon that is due behind the last.
-pub fn print_whole_body<E, S: PrintStatement<E>>(statements: &[E], p: &mut Printer<'_>)
-    ensures { Lays p.old p.new (spell_body (trees (map S.plain statements.now)) ⊕ due_semicolon) }
-{
-    print_body::<E, S>(statements, p);
-    p.print_due_semicolon();
-}
-
 /// The statements of a body, of which the first may not become a directive.
 pub fn print_body<E, S: PrintStatement<E>>(statements: &[E], p: &mut Printer<'_>)
     ensures { Lays p.old p.new (spell_body (trees (map S.plain statements.now))) }

@@ -1,5 +1,0 @@
-use Rattle.jsgen_printer.proofs.Sequence.{◌⨾◌}
-use Rattle.jsgen_lists.proofs.heads.print_behind_spaced_word.Goals as goal
-
-pub returns : goal.returns
-returns g c = c.print_soft_space.ensures ⨾ c.print_behind_word.ensures

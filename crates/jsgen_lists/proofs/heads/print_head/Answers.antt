@@ -1,5 +1,0 @@
-use Rattle.jsgen_printer.proofs.Sequence.{◌⨾◌}
-use Rattle.jsgen_lists.proofs.heads.print_head.Goals as goal
-
-pub returns : goal.returns
-returns g c = c.print_word.ensures ⨾ c.print_apart_in_parentheses.ensures
