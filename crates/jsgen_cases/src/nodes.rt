@@ -103,7 +103,8 @@ fn print_twice<G: Gen>(printer: &mut Codegen<'_>, node: &G) -> Result<(), Codege
     printer.print_str("|")
 }
 
-// The first statement, and the declaration, the property with its key, or the parameters in it, each by itself.
+// The first statement, and the declaration, what a loop's head begins with, the case, the property with its key, or the
+// parameters in it, each by itself.
 fn print_nodes(printer: &mut Codegen<'_>, program: &Program) -> Result<(), CodegenError>
     requires unfailed { has_failed printer.old ≡ false }
 {
@@ -120,6 +121,15 @@ fn print_nodes(printer: &mut Codegen<'_>, program: &Program) -> Result<(), Codeg
                 printer,
                 declaration,
             ),
+            _ => Ok(()),
+        },
+        (Statement::ForStatement(node), _) => match &node.init {
+            Some(init) => print_twice(printer, init),
+            None => Ok(()),
+        },
+        (Statement::ForInStatement(node), _) => print_twice(printer, &node.left),
+        (Statement::SwitchStatement(node), _) => match node.cases.as_slice() {
+            [case] => print_twice(printer, case),
             _ => Ok(()),
         },
         (_, Some(Expression::ObjectExpression(object))) => match object.properties.as_slice() {
