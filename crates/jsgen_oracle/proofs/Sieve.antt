@@ -303,7 +303,7 @@ mutual
   passed (grammar.an_assignment r) = by first (alone (passed r))
   passed (grammar.a_sequence m e r s) = by second (apart _ _ e refl (passed r) (parts_pass s))
   passed (grammar.a_conditional r) = by first (alone (passed r))
-  passed (grammar.an_assignment_to o m e r h s) = by second (apart _ _ e (assignment_is o) (target_passes r refl h) (passed s))
+  passed (grammar.an_assignment_to o m e r h s n) = by second (apart _ _ e (assignment_is o) (target_passes r refl h) (passed s))
   passed (grammar.a_short_circuit r) = by first (alone (passed r))
   passed (grammar.a_logical_or r) = by first (alone (passed r))
   passed (grammar.a_logical_and r) = by first (alone (passed r))
