@@ -171,6 +171,30 @@ simple_target (tree.computed_member a object expression) = Some (tree.computed_m
 simple_target (tree.parenthesized a expression) = simple_target expression
 simple_target t = None
 
+-- an assignment by the operator may give a function its target's name (13.15.2)
+abbrev pub may_name : AssignmentOperator → Bool
+may_name assignment_operators.Assign = true
+may_name assignment_operators.LogicalAnd = true
+may_name assignment_operators.LogicalOr = true
+may_name assignment_operators.LogicalNullish = true
+may_name o = false
+
+-- a name without parentheses (8.4.4, IsIdentifierRef)
+abbrev pub is_reference : Tree → Bool
+is_reference (tree.identifier_reference a) = true
+is_reference t = false
+
+-- a function without a name, maybe in parentheses (8.4.3, IsAnonymousFunctionDefinition); so is a class without one, once classes are read
+abbrev pub is_anonymous_function : Tree → Bool
+is_anonymous_function (tree.function a absent params body) = true
+is_anonymous_function (tree.arrow_function a params body) = true
+is_anonymous_function (tree.parenthesized a expression) = is_anonymous_function expression
+is_anonymous_function t = false
+
+-- the assignment gives a function its target's name, as `a=function(){}` does and `(a)=function(){}` doesn't (13.15.2)
+abbrev pub names_function : AssignmentOperator → Tree → Tree → Bool
+names_function o target value = may_name o && (is_reference target && is_anonymous_function value)
+
 -- `in` stands where it is allowed
 abbrev pub may_stand : Allowed → BinaryOperator → Bool
 may_stand allowed operators.In = allowed.in_operator
@@ -254,8 +278,9 @@ mutual
     an_assignment : {c : Allowed} {ts : Tokens} {t : Tree} → ReadsExpression c Assignment ts t → ReadsExpression c Expression ts t
     a_sequence : {c : Allowed} {ts a b : Tokens} {t : Tree} {us : Trees} (mark : Bool) → ts ≡ a ⧺ piece mark (Sign comma) b → ReadsExpression c Assignment a t → ReadsParts c b us → ReadsExpression c Expression ts (tree.sequence (nothing_of 0) (more t us))
     a_conditional : {c : Allowed} {ts : Tokens} {t : Tree} → ReadsExpression c Conditional ts t → ReadsExpression c Assignment ts t
-    -- what is given a value is a left-hand side, to which it is all one whether `in` may stand outside (13.15)
-    an_assignment_to : {c : Allowed} {ts a b : Tokens} {t u v : Tree} (o : AssignmentOperator) (mark : Bool) → ts ≡ a ⧺ piece mark (Sign (assignment_sign o)) b → ReadsExpression (with_in c) LeftHandSide a t → simple_target t ≡ Some u → ReadsExpression c Assignment b v → ReadsExpression c Assignment ts (tree.assignment (bare (assignment_operator o ∷ [])) u v)
+    -- what is given a value is a left-hand side, to which it is all one whether `in` may stand outside (13.15); without its parentheses, which
+    -- the tree doesn't have, it names no function that it doesn't name with them
+    an_assignment_to : {c : Allowed} {ts a b : Tokens} {t u v : Tree} (o : AssignmentOperator) (mark : Bool) → ts ≡ a ⧺ piece mark (Sign (assignment_sign o)) b → ReadsExpression (with_in c) LeftHandSide a t → simple_target t ≡ Some u → ReadsExpression c Assignment b v → names_function o t v ≡ names_function o u v → ReadsExpression c Assignment ts (tree.assignment (bare (assignment_operator o ∷ [])) u v)
     a_short_circuit : {c : Allowed} {ts : Tokens} {t : Tree} → ReadsExpression c ShortCircuit ts t → ReadsExpression c Conditional ts t
     a_logical_or : {c : Allowed} {ts : Tokens} {t : Tree} → ReadsExpression c LogicalOr ts t → ReadsExpression c ShortCircuit ts t
     a_logical_and : {c : Allowed} {ts : Tokens} {t : Tree} → ReadsExpression c LogicalAnd ts t → ReadsExpression c LogicalOr ts t

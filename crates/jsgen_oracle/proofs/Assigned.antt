@@ -41,7 +41,7 @@ unfolding unicode_ident longer_stands word_value
 assignments_to_the_right = (
   word (codes "a") (sign equal (word (codes "b") (sign equal (word (codes "c") (sign semicolon done))))),
   ([], codes "=b=c;", refl, refl, refl, refl, refl, ([], codes "b=c;", refl, refl, refl, refl, refl, ([], codes "=c;", refl, refl, refl, refl, refl, ([], codes "c;", refl, refl, refl, refl, refl, ([], codes ";", refl, refl, refl, refl, refl, ([], [], refl, refl, refl, refl, refl, refl)))))),
-  undirected refl (grammar.last_statement (item {a = word (codes "a") (sign equal (word (codes "b") (sign equal (word (codes "c") done))))} refl (grammar.an_assignment (grammar.an_assignment_to {a = word (codes "a") done} {b = word (codes "b") (sign equal (word (codes "c") done))} Assign false refl (grammar.a_new (grammar.a_member (grammar.a_primary read_a))) refl (grammar.an_assignment_to {a = word (codes "b") done} {b = word (codes "c") done} Assign false refl (grammar.a_new (grammar.a_member (grammar.a_primary read_b))) refl (value (first_of_sum read_c))))))),
+  undirected refl (grammar.last_statement (item {a = word (codes "a") (sign equal (word (codes "b") (sign equal (word (codes "c") done))))} refl (grammar.an_assignment (grammar.an_assignment_to {a = word (codes "a") done} {b = word (codes "b") (sign equal (word (codes "c") done))} Assign false refl (grammar.a_new (grammar.a_member (grammar.a_primary read_a))) refl (grammar.an_assignment_to {a = word (codes "b") done} {b = word (codes "c") done} Assign false refl (grammar.a_new (grammar.a_member (grammar.a_primary read_b))) refl (value (first_of_sum read_c)) refl) refl)))),
 )
 
 pub assignment_to_parentheses : IsRead (codes "(a)=b;") (samples.module_of (more (samples.statement_of (samples.assignment_of samples.a samples.b)) no_trees))
@@ -49,7 +49,7 @@ unfolding unicode_ident longer_stands word_value
 assignment_to_parentheses = (
   group false Round (word (codes "a") done) (sign equal (word (codes "b") (sign semicolon done))),
   ([], codes "a", codes "=b;", refl, refl, refl, ([], [], refl, refl, refl, refl, refl, refl), ([], codes "b;", refl, refl, refl, refl, refl, ([], codes ";", refl, refl, refl, refl, refl, ([], [], refl, refl, refl, refl, refl, refl)))),
-  undirected refl (grammar.last_statement (item {a = group false Round (word (codes "a") done) (sign equal (word (codes "b") done))} refl (grammar.an_assignment (grammar.an_assignment_to {a = group false Round (word (codes "a") done) done} {b = word (codes "b") done} Assign false refl (grammar.a_new (grammar.a_member (grammar.a_primary (grammar.in_parentheses (whole (first_of_sum read_a)))))) refl (value (first_of_sum read_b)))))),
+  undirected refl (grammar.last_statement (item {a = group false Round (word (codes "a") done) (sign equal (word (codes "b") done))} refl (grammar.an_assignment (grammar.an_assignment_to {a = group false Round (word (codes "a") done) done} {b = word (codes "b") done} Assign false refl (grammar.a_new (grammar.a_member (grammar.a_primary (grammar.in_parentheses (whole (first_of_sum read_a)))))) refl (value (first_of_sum read_b)) refl)))),
 )
 
 pub assignment_in_alternate : IsRead (codes "a?b:c=d;") (samples.module_of (more (samples.statement_of (samples.conditional_of samples.a samples.b (samples.assignment_of samples.c samples.d))) no_trees))
@@ -57,7 +57,7 @@ unfolding unicode_ident longer_stands word_value
 assignment_in_alternate = (
   word (codes "a") (sign question (word (codes "b") (sign colon (word (codes "c") (sign equal (word (codes "d") (sign semicolon done))))))),
   ([], codes "?b:c=d;", refl, refl, refl, refl, refl, ([], codes "b:c=d;", refl, refl, refl, refl, refl, ([], codes ":c=d;", refl, refl, refl, refl, refl, ([], codes "c=d;", refl, refl, refl, refl, refl, ([], codes "=d;", refl, refl, refl, refl, refl, ([], codes "d;", refl, refl, refl, refl, refl, ([], codes ";", refl, refl, refl, refl, refl, ([], [], refl, refl, refl, refl, refl, refl)))))))),
-  undirected refl (grammar.last_statement (item {a = word (codes "a") (sign question (word (codes "b") (sign colon (word (codes "c") (sign equal (word (codes "d") done))))))} refl (grammar.an_assignment (grammar.a_conditional (grammar.a_choice {a = word (codes "a") done} {b = word (codes "b") done} {d = word (codes "c") (sign equal (word (codes "d") done))} false false refl (test (first_of_sum read_a)) (value (first_of_sum read_b)) (grammar.an_assignment_to {a = word (codes "c") done} {b = word (codes "d") done} Assign false refl (grammar.a_new (grammar.a_member (grammar.a_primary read_c))) refl (value (first_of_sum read_d)))))))),
+  undirected refl (grammar.last_statement (item {a = word (codes "a") (sign question (word (codes "b") (sign colon (word (codes "c") (sign equal (word (codes "d") done))))))} refl (grammar.an_assignment (grammar.a_conditional (grammar.a_choice {a = word (codes "a") done} {b = word (codes "b") done} {d = word (codes "c") (sign equal (word (codes "d") done))} false false refl (test (first_of_sum read_a)) (value (first_of_sum read_b)) (grammar.an_assignment_to {a = word (codes "c") done} {b = word (codes "d") done} Assign false refl (grammar.a_new (grammar.a_member (grammar.a_primary read_c))) refl (value (first_of_sum read_d)) refl)))))),
 )
 
 pub chain : IsRead (codes "a?.b.c;") (samples.module_of (more (samples.statement_of (samples.chain_of (samples.member_of (samples.optional_member_of samples.a (codes "b")) (codes "c")))) no_trees))

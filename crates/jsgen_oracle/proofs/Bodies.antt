@@ -96,7 +96,7 @@ unfolding unicode_ident longer_stands word_value
 named_in_assignment = (
   word (codes "a") (sign equal (word (codes "function") (word (codes "b") (group false Round done (group false Brace done (sign semicolon done)))))),
   ([], codes "=function b(){};", refl, refl, refl, refl, refl, ([], codes "function b(){};", refl, refl, refl, refl, refl, ([], codes " b(){};", refl, refl, refl, refl, refl, (codes " ", codes "(){};", refl, refl, refl, refl, refl, ([], [], codes "{};", refl, refl, refl, refl, ([], [], codes ";", refl, refl, refl, refl, ([], [], refl, refl, refl, refl, refl, refl))))))),
-  undirected refl (grammar.last_statement (item {a = word (codes "a") (sign equal (word (codes "function") (word (codes "b") (group false Round done (group false Brace done done)))))} refl (grammar.an_assignment (grammar.an_assignment_to {a = word (codes "a") done} {b = word (codes "function") (word (codes "b") (group false Round done (group false Brace done done)))} Assign false refl (grammar.a_new (grammar.a_member (grammar.a_primary read_a))) refl (value (first_of_sum (grammar.a_function (grammar.a_named_function value_b free_b grammar.no_parameter no_statements)))))))),
+  undirected refl (grammar.last_statement (item {a = word (codes "a") (sign equal (word (codes "function") (word (codes "b") (group false Round done (group false Brace done done)))))} refl (grammar.an_assignment (grammar.an_assignment_to {a = word (codes "a") done} {b = word (codes "function") (word (codes "b") (group false Round done (group false Brace done done)))} Assign false refl (grammar.a_new (grammar.a_member (grammar.a_primary read_a))) refl (value (first_of_sum (grammar.a_function (grammar.a_named_function value_b free_b grammar.no_parameter no_statements)))) refl)))),
 )
 
 pub called : IsRead (codes "(function(){})();") (samples.module_of (more (samples.statement_of (samples.call_of (samples.in_parentheses (functions.function_with Expression absent functions.no_parameters samples.empty_body)) no_trees)) no_trees))

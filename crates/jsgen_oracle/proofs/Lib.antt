@@ -11,6 +11,7 @@ pub mod Samples
 pub mod Assigned
 pub mod Arrows
 pub mod Looped
+pub mod Named
 pub mod Nested
 pub mod Bodies
 pub mod Sieve

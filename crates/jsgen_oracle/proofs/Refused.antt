@@ -42,6 +42,10 @@ pub optional_target : IsNotRead (codes "a?.b=c;")
 unfolding unicode_ident longer_stands word_value is_reserved is_strict_reserved encode
 optional_target = refused 30 (codes "a?.b=c;") (word (codes "a") (sign question_dot (word (codes "b") (sign equal (word (codes "c") (sign semicolon done)))))) ([], codes "?.b=c;", refl, refl, refl, refl, refl, ([], codes "b=c;", refl, refl, refl, refl, refl, ([], codes "=c;", refl, refl, refl, refl, refl, ([], codes "c;", refl, refl, refl, refl, refl, ([], codes ";", refl, refl, refl, refl, refl, ([], [], refl, refl, refl, refl, refl, refl)))))) refl
 
+pub unnamed_function : IsNotRead (codes "(a)=function(){};")
+unfolding unicode_ident longer_stands word_value is_reserved is_strict_reserved encode
+unnamed_function = refused 30 (codes "(a)=function(){};") (group false Round (word (codes "a") done) (sign equal (word (codes "function") (group false Round done (group false Brace done (sign semicolon done)))))) ([], codes "a", codes "=function(){};", refl, refl, refl, ([], [], refl, refl, refl, refl, refl, refl), ([], codes "function(){};", refl, refl, refl, refl, refl, ([], codes "(){};", refl, refl, refl, refl, refl, ([], [], codes "{};", refl, refl, refl, refl, ([], [], codes ";", refl, refl, refl, refl, ([], [], refl, refl, refl, refl, refl, refl)))))) refl
+
 pub called_body : IsNotRead (codes "a=>{}();")
 unfolding unicode_ident longer_stands word_value is_reserved is_strict_reserved encode
 called_body = refused 30 (codes "a=>{}();") (word (codes "a") (sign arrow (group false Brace done (group false Round done (sign semicolon done))))) ([], codes "=>{}();", refl, refl, refl, refl, refl, ([], codes "{}();", refl, refl, refl, refl, refl, ([], [], codes "();", refl, refl, refl, refl, ([], [], codes ";", refl, refl, refl, refl, ([], [], refl, refl, refl, refl, refl, refl))))) refl

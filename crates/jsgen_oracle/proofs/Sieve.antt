@@ -10,7 +10,7 @@ use Rattle.jsgen_syntax.specs.Escapes.{word_value}
 use Rattle.jsgen_syntax.specs.Name.{is_free_name}
 use Rattle.jsgen_model.specs.Punctuator.{Punctuator, punctuator_text, plus, minus, star, slash, percent, star_star, equal_equal, not_equal, equal_equal_equal, not_equal_equal, less, less_equal, greater, greater_equal, shift_left, shift_right, shift_right_zero, bit_and, bit_or, bit_xor, and_and, or_or, nullish, dot, question_dot, comma, semicolon, colon, question, arrow, bang, tilde, plus_plus, minus_minus, equal, plus_equal, minus_equal, star_equal, slash_equal, percent_equal, star_star_equal, shift_left_equal, shift_right_equal, shift_right_zero_equal, bit_or_equal, bit_xor_equal, bit_and_equal, or_or_equal, and_and_equal, nullish_equal, Bracket, Round, Square, Brace}
 use Rattle.jsgen_model.specs.Tokens.{Tokens, done, piece, group, ◌⧺◌, Piece, Word, Number, Quoted, Sign, AreTokensOf}
-use Rattle.jsgen_model.specs.Grammar.{Level, Expression, Assignment, Conditional, ShortCircuit, Coalesced, CoalesceHead, LogicalOr, LogicalAnd, BitOr, BitXor, BitAnd, Equality, Relational, Shift, Additive, Multiplicative, Exponent, Unary, Update, LeftHandSide, New, Callee, Call, Member, Primary, on_same_line, starts_in_brace, starts_statement, may_precede_of, Allowed, with_in, is_power, operation_level, next_level, operator_piece, unary_piece, update_sign, assignment_sign, may_stand, simple_target, declaring, EndsBy, ReadsExpression, ReadsArrowParameters, ReadsParts, ReadsChain, ReadsChainBase, ReadsVariables, ReadsStatement, ReadsInit, ReadsLeft, ReadsItem, ReadsStatements, ReadsBody, ReadsModule, a_module}
+use Rattle.jsgen_model.specs.Grammar.{Level, Expression, Assignment, Conditional, ShortCircuit, Coalesced, CoalesceHead, LogicalOr, LogicalAnd, BitOr, BitXor, BitAnd, Equality, Relational, Shift, Additive, Multiplicative, Exponent, Unary, Update, LeftHandSide, New, Callee, Call, Member, Primary, on_same_line, starts_in_brace, starts_statement, may_precede_of, Allowed, with_in, is_power, operation_level, next_level, operator_piece, unary_piece, update_sign, assignment_sign, may_name, may_stand, simple_target, declaring, EndsBy, ReadsExpression, ReadsArrowParameters, ReadsParts, ReadsChain, ReadsChainBase, ReadsVariables, ReadsStatement, ReadsInit, ReadsLeft, ReadsItem, ReadsStatements, ReadsBody, ReadsModule, a_module}
 use Rattle.jsgen_syntax.specs.declared.operator.BinaryOperator.{BinaryOperator}
 use Rattle.jsgen_syntax.specs.declared.operator.BinaryOperator.TheVariants as operators
 use Rattle.jsgen_syntax.specs.declared.operator.UnaryOperator.{UnaryOperator}
@@ -26,6 +26,7 @@ use Rattle.jsgen_model.specs.Grammar as grammar
 use Rattle.jsgen_token_laws.proofs.Plain.{all_plain}
 use Rattle.jsgen_token_laws.proofs.OneList.{one_token_list}
 use Rattle.jsgen_oracle.specs.RefusedTexts.{IsNotRead}
+use Rattle.jsgen_oracle.proofs.Named.{is_keyword, has_tokens, is_name_in_parentheses, is_nameless_function, unnamed}
 
 -- ---- rules
 
@@ -85,13 +86,13 @@ is_update p = is_among_signs (plus_plus ∷ minus_minus ∷ []) p
 abbrev pub assigns : Piece → Bool
 assigns p = is_among_signs (equal ∷ plus_equal ∷ minus_equal ∷ star_equal ∷ slash_equal ∷ percent_equal ∷ star_star_equal ∷ shift_left_equal ∷ shift_right_equal ∷ shift_right_zero_equal ∷ bit_or_equal ∷ bit_xor_equal ∷ bit_and_equal ∷ or_or_equal ∷ and_and_equal ∷ nullish_equal ∷ []) p
 
+-- and names no function
+abbrev pub only_assigns : Piece → Bool
+only_assigns p = is_among_signs (plus_equal ∷ minus_equal ∷ star_equal ∷ slash_equal ∷ percent_equal ∷ star_star_equal ∷ shift_left_equal ∷ shift_right_equal ∷ shift_right_zero_equal ∷ bit_or_equal ∷ bit_xor_equal ∷ bit_and_equal ∷ []) p
+
 abbrev pub is_name : Piece → Bool
 is_name (Word w) = option_map_or is_free_name (word_value w) false
 is_name p = false
-
--- a keyword that is an operand
-abbrev pub is_keyword : List ℕ → Bool
-is_keyword w = is_among_words (codes "this" ∷ codes "null" ∷ codes "true" ∷ codes "false" ∷ []) (Word w)
 
 -- an operand that is one token
 abbrev pub is_operand : Piece → Bool
@@ -114,10 +115,6 @@ is_word p = false
 abbrev pub is_quoted : Piece → Bool
 is_quoted (Quoted q w) = true
 is_quoted p = false
-
-abbrev pub has_tokens : Tokens → Bool
-has_tokens done = false
-has_tokens ts = true
 
 abbrev pub one : (Piece → Bool) → Symbol
 one test = token (λ mark p. test p)
@@ -148,7 +145,8 @@ between g s h = some g ∷ s ∷ some h ∷ []
 abbrev pub rules : Goal → List (List Symbol)
 rules (expression i Expression) = only (expression i Assignment) ∷ between (expression i Assignment) (sign comma) (expression i Expression) ∷ []
 rules (expression i Assignment) =
-    only (expression i Conditional) ∷ between (target true) (one assigns) (expression i Assignment)
+    only (expression i Conditional) ∷ (part (λ ts. not (is_name_in_parentheses ts)) (target true) ∷ one assigns ∷ some (expression i Assignment) ∷ []) ∷ between (target true) (one only_assigns) (expression i Assignment)
+    ∷ (some (target true) ∷ one assigns ∷ part (λ ts. not (is_nameless_function ts)) (expression i Assignment) ∷ [])
     ∷ (some parameters ∷ on_line (is_sign arrow) ∷ part (λ ts. not (starts_in_brace ts)) (expression i Assignment) ∷ []) ∷ (some parameters ∷ on_line (is_sign arrow) ∷ brackets Brace ∷ []) ∷ []
 rules (expression i Conditional) = only (expression i ShortCircuit) ∷ (some (expression i ShortCircuit) ∷ sign question ∷ some (expression true Assignment) ∷ sign colon ∷ some (expression i Assignment) ∷ []) ∷ []
 rules (expression i ShortCircuit) = only (expression i LogicalOr) ∷ only (expression i Coalesced) ∷ []
@@ -258,6 +256,13 @@ assignment_is : (o : AssignmentOperator) → assigns (Sign (assignment_sign o)) 
 assignment_is assignment_operators.Assign = refl
 assignment_is o = refl
 
+only_assignment_is : (o : AssignmentOperator) → may_name o ≡ false → only_assigns (Sign (assignment_sign o)) ≡ true
+only_assignment_is assignment_operators.Assign h = absurd (both_ways true h refl)
+only_assignment_is assignment_operators.LogicalAnd h = absurd (both_ways true h refl)
+only_assignment_is assignment_operators.LogicalOr h = absurd (both_ways true h refl)
+only_assignment_is assignment_operators.LogicalNullish h = absurd (both_ways true h refl)
+only_assignment_is o h = refl
+
 declaring_is : (kind : VariableDeclarationKind) → declares (Word (declaring kind)) ≡ true
 declaring_is kinds.Const = refl
 declaring_is kinds.Let = refl
@@ -290,6 +295,15 @@ parameters_pass : {c : Allowed} {ts : Tokens} {t : Tree} → ReadsArrowParameter
 parameters_pass (grammar.a_parameter_name {w = w} e h) = by first (a_token (free_is w e h) the_end)
 parameters_pass (grammar.grouped_parameters r) = by second (some_brackets the_end)
 
+-- an assignment, by whether its target is a name in parentheses, and its value a function without a name
+assigned_passes : {i : Bool} {ts a b : Tokens} (o : AssignmentOperator) (m : Bool) → ts ≡ a ⧺ piece m (Sign (assignment_sign o)) b → (is_name_in_parentheses a ≡ true → is_nameless_function b ≡ true → may_name o ≡ false) → Passes (target true) a → Passes (expression i Assignment) b → Passes (expression i Assignment) ts
+assigned_passes {i} {ts} {a} {b} o m e n r s = go (is_name_in_parentheses a) (is_nameless_function b) refl refl
+  where
+    go : (x y : Bool) → is_name_in_parentheses a ≡ x → is_nameless_function b ≡ y → Passes (expression i Assignment) ts
+    go false y h k = by second (a_part e (ap not h) r (a_token (assignment_is o) (alone s)))
+    go true false h k = by (further first) (a_part e refl r (a_token (assignment_is o) (whole (ap not k) s)))
+    go true true h k = by third (a_part e refl r (a_token (only_assignment_is o (n h k)) (alone s)))
+
 abbrev pub is_left : Level → Bool
 is_left LeftHandSide = true
 is_left l = false
@@ -303,7 +317,7 @@ mutual
   passed (grammar.an_assignment r) = by first (alone (passed r))
   passed (grammar.a_sequence m e r s) = by second (apart _ _ e refl (passed r) (parts_pass s))
   passed (grammar.a_conditional r) = by first (alone (passed r))
-  passed (grammar.an_assignment_to o m e r h s) = by second (apart _ _ e (assignment_is o) (target_passes r refl h) (passed s))
+  passed (grammar.an_assignment_to o m e r h s n) = assigned_passes o m e (unnamed o r h s n) (target_passes r refl h) (passed s)
   passed (grammar.a_short_circuit r) = by first (alone (passed r))
   passed (grammar.a_logical_or r) = by first (alone (passed r))
   passed (grammar.a_logical_and r) = by first (alone (passed r))
@@ -362,8 +376,8 @@ mutual
   passed (grammar.an_optional_chain r) = by third (alone (chain_passes r))
   passed (grammar.a_function (grammar.a_named_function e h r s)) = by (further third) (a_token refl (a_token refl (some_brackets (some_brackets the_end))))
   passed (grammar.a_function (grammar.a_nameless_function r s)) = by (further second) (a_token refl (some_brackets (some_brackets the_end)))
-  passed (grammar.an_arrow_function e r h s) = by third (a_part e refl (parameters_pass r) (a_token refl (whole (ap not h) (passed s))))
-  passed (grammar.an_arrow_with_body m e r s) = by (further first) (a_part e refl (parameters_pass r) (a_token refl (some_brackets the_end)))
+  passed (grammar.an_arrow_function e r h s) = by (further second) (a_part e refl (parameters_pass r) (a_token refl (whole (ap not h) (passed s))))
+  passed (grammar.an_arrow_with_body m e r s) = by (further third) (a_part e refl (parameters_pass r) (a_token refl (some_brackets the_end)))
 
   parts_pass : {c : Allowed} {ts : Tokens} {us : Trees} → ReadsParts c ts us → Passes (expression c.in_operator Expression) ts
   parts_pass (grammar.last_part r) = by first (alone (passed r))

@@ -26,6 +26,8 @@ pub record RefusedTexts : Type 0 where
   pub optional_link_behind_new : IsNotRead (codes "new a?.b();")
   -- nothing is assigned to a chain with an optional link (13.15.1)
   pub optional_target : IsNotRead (codes "a?.b=c;")
+  -- `a=function(){}` gives the function a name, and this doesn't (13.15.2), whereas the tree has no parentheses round a target
+  pub unnamed_function : IsNotRead (codes "(a)=function(){};")
   -- an arrow function is no operand, not even where a brace ends it (15.3)
   pub called_body : IsNotRead (codes "a=>{}();")
   -- no line end stands before an arrow (15.3)

@@ -54,7 +54,7 @@ assignment_parts {names} a t u {p = p} g simple left b w n h =
       begins = λ d e. begins_then p.start g.tokens others d g.begins refl;
       line = λ e. line_then g.tokens others (g.line e);
       tree = tree.assignment (bare (assignment_operator o ∷ [])) g.tree h.tree;
-      reads = grammar.an_assignment_to o (line_of b.last) refl left simple h.reads;
+      reads = grammar.an_assignment_to o (line_of b.last) refl left simple h.reads refl;
       same = same_assignment o g.tree h.tree (renamed names t) (renamed names u) g.same h.same;
     }
 

@@ -16,7 +16,7 @@ mutual
   freed (grammar.an_assignment x) = grammar.an_assignment (freed x)
   freed (grammar.a_sequence mark x y z) = grammar.a_sequence mark x (freed y) (freed_parts z)
   freed (grammar.a_conditional x) = grammar.a_conditional (freed x)
-  freed (grammar.an_assignment_to o mark x y z u) = grammar.an_assignment_to o mark x y z (freed u)
+  freed (grammar.an_assignment_to o mark x y z u v) = grammar.an_assignment_to o mark x y z (freed u) v
   freed (grammar.a_short_circuit x) = grammar.a_short_circuit (freed x)
   freed (grammar.a_logical_or x) = grammar.a_logical_or (freed x)
   freed (grammar.a_logical_and x) = grammar.a_logical_and (freed x)

@@ -76,7 +76,7 @@ mutual
   pub opens : {c : Allowed} {g : Level} {ts : Tokens} {t : Tree} → ReadsExpression c g ts t → Opens ts t
   opens (grammar.an_assignment r) = opens r
   opens (grammar.a_sequence {a = a} {t = t} m e r s) = opens_behind _ a (piece m (Sign comma) _) t _ e (opens r) tt
-  opens (grammar.an_assignment_to {a = a} {t = t} o m e r s w) = opens_behind _ a (piece m (Sign (assignment_sign o)) _) t _ e (opens r) (assignment_goes o m _)
+  opens (grammar.an_assignment_to {a = a} {t = t} o m e r s w n) = opens_behind _ a (piece m (Sign (assignment_sign o)) _) t _ e (opens r) (assignment_goes o m _)
   opens (grammar.a_conditional r) = opens r
   opens (grammar.a_short_circuit r) = opens r
   opens (grammar.a_logical_or r) = opens r
