@@ -34,6 +34,7 @@ use Rattle.jsgen_model.specs.Layout.{layout, empty_pen, style_of}
 use Rattle.jsgen_model.specs.Operators.{operator_item, logical_item, unary_sign, behind_unary, update_item, assignment_item}
 -- generated from tools/nodes/table.txt: names
 use Rattle.jsgen_model.specs.Items.{marked_word, comments, all_of_them, mark}
+
 -- end of what is generated: names
 
 -- what a loop gives its values: a declaration, or what is given a value, where nothing is forbidden

@@ -201,7 +201,7 @@ def spell_file(table):
     items = ["marked_word", "comments", "all_of_them", "with_key_annotation", "mark", "end_mark", "hard_space", "soft_line"]
     homes = [(f"{SPECS}.Values", [v for v in values if v not in already]), (f"{MODEL}.Items", [v for v in items if v not in already])]
     imports = "\n".join(f"use {module}.{{{', '.join(names)}}}" for module, names in layout.used(clauses, homes))
-    return region(region(text, "names", imports), "clauses", clauses)
+    return region(region(text, "names", imports + "\n"), "clauses", clauses)    # the empty line is how `rt fmt` lays it out
 
 
 # ---- print functions
