@@ -32,3 +32,19 @@ def rust(about, ghosts, aliases, homes, body):
     uses = [f"use {m}::{{{', '.join(sorted(ns))}}};" for m, ns in used(body, homes)]
     uses = sorted(re.sub(r"\{(\w+)\}", r"\1", u) for u in uses)
     return "\n".join(lines + [""] + uses) + "\n\n" + body.strip() + "\n"
+
+
+def region(text, name, body):
+    """The text of a file that is written by hand, with this between the two marks of the name."""
+    first, last = f"-- generated from tools/nodes/table.txt: {name}\n", f"-- end of what is generated: {name}\n"
+    before, there, rest = text.partition(first)
+    _, ends, after = rest.partition(last)
+    if not there or not ends:
+        raise SystemExit(f"no place for what is generated: {name}")
+    indent = " " * (len(before) - len(before.rstrip(" ")))
+    return before + first + body + "\n" + indent + last + after
+
+
+def by_hand(text):
+    """The text without what stands between marks."""
+    return re.sub(r"(?s)-- generated from.*?-- end of what is generated: \w+\n", "", text)

@@ -31,6 +31,8 @@ class Field:
     parts: list = None  # the fields of the format that a field by hand stands for
     needed: bool = False  # of a flag, that it is required
     place: str = None   # the place that it is, where the rules speak of it by a name
+    dropped: bool = False       # whether its value doesn't count in the normal form
+    unpromised: bool = False    # of a flag, whether no reading is promised where it is set
 
     @property
     def is_list(self):
@@ -52,6 +54,7 @@ class Node:
     ghosts: list = field(default_factory=list)
     rules: bool = False  # whether it has rules of its own, which are checked by hand
     spelling: str = ""  # how it is spelled, in the notation of notation.py; empty where that is written by hand
+    unpromised: bool = False    # whether no reading is promised of it
     is_copy: bool = False   # whether its struct holds nothing that is owned, and is copied
 
     @property
@@ -145,6 +148,8 @@ class Table:
                     at.rules = True
                 elif line == "copied":
                     at.is_copy = True
+                elif line == "unpromised":
+                    at.unpromised = True
                 elif line.startswith("ghost "):
                     at.ghosts.append(line)
                 elif indent > 4:
@@ -234,9 +239,12 @@ def read_field(line):
     if rest[0] == "by":
         rest, parts = rest[1:], []
     unread = rest[0] == "unread"
-    kind, _, other = (rest[1] if unread else rest[0]).partition("/")
+    kind, *marks = rest[1:] if unread else rest
+    if set(marks) - {"dropped", "unpromised"}:
+        raise ValueError("a mark of a field is neither dropped nor unpromised")
+    kind, _, other = kind.partition("/")
     needed = kind == "flag!"
     kind = kind.removesuffix("!") if needed else kind
     bare = kind.rstrip("?*")
     return Field(name, rust, bare, kind[len(bare):], default or None, only_for.strip() or None, unread, doc.strip(),
-                 other or None, parts, needed, place.strip() or None)
+                 other or None, parts, needed, place.strip() or None, "dropped" in marks, "unpromised" in marks)

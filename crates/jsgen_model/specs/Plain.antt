@@ -18,18 +18,23 @@ use Rattle.jsgen_tree.specs.Job.{JobData}
 
 -- ---- types and flags
 
--- Each type of which no reading is promised is left out here by its name. So far none is.
+-- Each type of which no reading is promised is left out here by its name.
 abbrev pub is_plain_type : NodeType → Bool
+-- generated from tools/nodes/table.txt: types
+
+-- end of what is generated: types
 is_plain_type type = true
 
 -- no flag is set of which no reading is promised
 abbrev pub has_plain_flags : NodeType → Atoms → Bool
+-- generated from tools/nodes/table.txt: flags
 has_plain_flags types.VariableDeclaration a = not (variable_declaration_declare a)
 has_plain_flags types.VariableDeclarator a = not (variable_declarator_definite a)
 has_plain_flags types.FormalParameter a = not (formal_parameter_is_override a) && not (formal_parameter_readonly a) && not (formal_parameter_optional a)
 has_plain_flags types.Function a = not (function_is_async a) && not (function_generator a) && not (function_declare a)
 has_plain_flags types.ArrowFunctionExpression a = not (arrow_function_expression_is_async a)
 has_plain_flags types.ForOfStatement a = not (for_of_statement_is_await a)
+-- end of what is generated: flags
 has_plain_flags type a = true
 
 -- by its type and its flags a reading is promised of the node
@@ -59,25 +64,49 @@ has_no_hole (hole ts) = false
 -- The node has the children that its type has, and no hole stands in a list but an array's; a program is a module, a whole number is of 128 bits, a string is of units of 16 bits, and a directive has its raw text. Each node that is built in Rust is so.
 abbrev pub is_formed : Tree → Bool
 is_formed (tree.program a comments directives body) = is_module (program_kind a) && has_no_hole directives && has_no_hole body
-is_formed (tree.comment a) = true
 is_formed (tree.directive a) = is_raw (directive_directive a)
-is_formed (tree.expression_statement a expression) = true
+is_formed (tree.numeric_literal a) = is_number (numeric_literal_kind a) a
+is_formed (tree.string_literal a) = are_units (string_literal_value a)
+-- generated from tools/nodes/table.txt: formed
+is_formed (tree.comment a) = true
 is_formed (tree.variable_declaration a declarations) = has_no_hole declarations
 is_formed (tree.variable_declarator a id init) = true
 is_formed (tree.binding_identifier a) = true
+is_formed (tree.expression_statement a expression) = true
+is_formed (tree.block a body) = has_no_hole body
+is_formed (tree.if_statement a test consequent alternate) = true
+is_formed (tree.empty_statement a) = true
 is_formed (tree.identifier_reference a) = true
 is_formed (tree.this_expression a) = true
 is_formed (tree.null_literal a) = true
 is_formed (tree.boolean_literal a) = true
-is_formed (tree.numeric_literal a) = is_number (numeric_literal_kind a) a
 is_formed (tree.big_int_literal a) = true
-is_formed (tree.string_literal a) = are_units (string_literal_value a)
 is_formed (tree.parenthesized a expression) = true
 is_formed (tree.binary a left right) = true
 is_formed (tree.logical a left right) = true
-is_formed (tree.block a body) = has_no_hole body
-is_formed (tree.if_statement a test consequent alternate) = true
-is_formed (tree.empty_statement a) = true
+is_formed (tree.identifier_name a) = true
+is_formed (tree.static_member a object property) = true
+is_formed (tree.computed_member a object expression) = true
+is_formed (tree.call a callee arguments) = has_no_hole arguments
+is_formed (tree.chain a expression) = true
+is_formed (tree.spread a argument) = true
+is_formed (tree.array a elements) = true
+is_formed (tree.object_property a key value) = true
+is_formed (tree.object_expression a properties) = has_no_hole properties
+is_formed (tree.unary a argument) = true
+is_formed (tree.new_target a) = true
+is_formed (tree.update a argument) = true
+is_formed (tree.new_expression a callee arguments) = has_no_hole arguments
+is_formed (tree.super a) = true
+is_formed (tree.conditional a test consequent alternate) = true
+is_formed (tree.sequence a expressions) = has_no_hole expressions
+is_formed (tree.assignment a left right) = true
+is_formed (tree.formal_parameter a pattern initializer) = true
+is_formed (tree.formal_parameter_rest a argument) = true
+is_formed (tree.formal_parameters a items rest) = has_no_hole items
+is_formed (tree.function a id params body) = true
+is_formed (tree.function_body a directives statements) = has_no_hole directives && has_no_hole statements
+is_formed (tree.arrow_function a params body) = true
 is_formed (tree.for_statement a init test update body) = true
 is_formed (tree.for_in_statement a left right body) = true
 is_formed (tree.for_of_statement a left right body) = true
@@ -87,36 +116,14 @@ is_formed (tree.label_identifier a) = true
 is_formed (tree.labeled_statement a label body) = true
 is_formed (tree.continue_statement a label) = true
 is_formed (tree.break_statement a label) = true
+is_formed (tree.return_statement a argument) = true
 is_formed (tree.throw_statement a argument) = true
 is_formed (tree.debugger_statement a) = true
 is_formed (tree.switch_statement a discriminant cases) = has_no_hole cases
 is_formed (tree.switch_case a test consequent) = has_no_hole consequent
 is_formed (tree.try_statement a block handler finalizer) = true
 is_formed (tree.catch_clause a param body) = true
-is_formed (tree.identifier_name a) = true
-is_formed (tree.static_member a object property) = true
-is_formed (tree.computed_member a object expression) = true
-is_formed (tree.call a callee arguments) = has_no_hole arguments
-is_formed (tree.chain a element) = true
-is_formed (tree.spread a argument) = true
-is_formed (tree.array a elements) = true
-is_formed (tree.unary a argument) = true
-is_formed (tree.update a argument) = true
-is_formed (tree.new_expression a callee arguments) = has_no_hole arguments
-is_formed (tree.super a) = true
-is_formed (tree.new_target a) = true
-is_formed (tree.object_expression a properties) = has_no_hole properties
-is_formed (tree.object_property a key value) = true
-is_formed (tree.conditional a test consequent alternate) = true
-is_formed (tree.sequence a expressions) = has_no_hole expressions
-is_formed (tree.assignment a left right) = true
-is_formed (tree.formal_parameter a pattern initializer) = true
-is_formed (tree.formal_parameter_rest a argument) = true
-is_formed (tree.formal_parameters a items rest) = has_no_hole items
-is_formed (tree.arrow_function a params body) = true
-is_formed (tree.function a id params body) = true
-is_formed (tree.function_body a directives statements) = has_no_hole directives && has_no_hole statements
-is_formed (tree.return_statement a argument) = true
+-- end of what is generated: formed
 is_formed t = false
 
 -- ---- plain

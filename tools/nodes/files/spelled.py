@@ -182,26 +182,16 @@ def broken(line):
     return "\n".join(found + [line])
 
 
-def region(text, name, body):
-    first, last = f"-- generated from tools/nodes/table.txt: {name}\n", f"-- end of what is generated: {name}\n"
-    before, there, rest = text.partition(first)
-    _, ends, after = rest.partition(last)
-    if not there or not ends:
-        raise SystemExit(f"Spell.antt: no place for {name}")
-    indent = " " * (len(before) - len(before.rstrip(" ")))
-    return before + first + body + "\n" + indent + last + after
-
-
 def spell_file(table):
     text = SPELL.read_text()
     clauses = "\n".join(clause(table, n) for n in spelled(table))
-    outside = re.sub(r"(?s)-- generated from.*?-- end of what is generated: \w+\n", "", text)
+    outside = layout.by_hand(text)
     already = set(re.findall(r"[\w◌⊕]+", "\n".join(line for line in outside.splitlines() if line.startswith("use "))))
     values = [f"{snake(n.name)}_{f.name}" for n in spelled(table) for f in table.values(n)]
     items = ["marked_word", "comments", "all_of_them", "with_key_annotation", "mark", "end_mark", "hard_space", "soft_line"]
     homes = [(f"{SPECS}.Values", [v for v in values if v not in already]), (f"{MODEL}.Items", [v for v in items if v not in already])]
     imports = "\n".join(f"use {module}.{{{', '.join(names)}}}" for module, names in layout.used(clauses, homes))
-    return region(region(text, "names", imports + "\n"), "clauses", clauses)    # the empty line is how `rt fmt` lays it out
+    return layout.region(layout.region(text, "names", imports + "\n"), "clauses", clauses)    # the empty line is how `rt fmt` lays it out
 
 
 # ---- print functions
