@@ -8,8 +8,9 @@ ghost use Rattle.jsgen_model.specs.Spell.{spell};
 
 use crate::PrintAlone;
 use jsgen_nodes::PrintNode;
-use jsgen_nodes::cases::{print_switch_case, print_switch_statement};
-use jsgen_nodes::handlers::{print_catch_clause, print_try_statement};
+use jsgen_nodes::choices::{
+    print_catch_clause, print_switch_case, print_switch_statement, print_try_statement,
+};
 use jsgen_place::{Context, Place};
 use jsgen_printer::Printer;
 use jsgen_syntax::Precedence;

@@ -8,12 +8,9 @@ ghost use Rattle.jsgen_model.specs.Spell.{spell};
 use crate::{PrintAlone, PrintAtLevel};
 use jsgen_inside::print_identifier_reference;
 use jsgen_nodes::expressions::{
-    print_big_int_literal, print_binary_expression, print_boolean_literal,
-    print_logical_expression, print_numeric_literal, print_string_literal,
-};
-use jsgen_nodes::links::{
-    print_call_expression, print_chain_expression, print_computed_member_expression,
-    print_static_member_expression,
+    print_big_int_literal, print_binary_expression, print_boolean_literal, print_call_expression,
+    print_chain_expression, print_computed_member_expression, print_logical_expression,
+    print_numeric_literal, print_static_member_expression, print_string_literal,
 };
 use jsgen_nodes::{Inside, PrintNode};
 use jsgen_place::{Context, Place};

@@ -6,8 +6,9 @@ ghost use Rattle.jsgen_place.specs.Place.{at_level};
 ghost use Rattle.jsgen_model.specs.Spell.{spell};
 
 use crate::{PrintAlone, PrintAtLevel};
-use jsgen_nodes::definitions::{print_function, print_function_body};
-use jsgen_nodes::functions::{print_arrow_function_expression, print_formal_parameters};
+use jsgen_nodes::functions::{
+    print_arrow_function_expression, print_formal_parameters, print_function, print_function_body,
+};
 use jsgen_nodes::{Inside, PrintNode};
 use jsgen_place::{Context, Place};
 use jsgen_printer::Printer;

@@ -6,8 +6,9 @@ ghost use Rattle.jsgen_place.specs.Place.{at_level, among_statements};
 ghost use Rattle.jsgen_model.specs.Spell.{spell};
 
 use crate::PrintAlone;
-use jsgen_nodes::iterations::{print_for_in_statement, print_for_of_statement};
-use jsgen_nodes::loops::{print_do_while_statement, print_for_statement};
+use jsgen_nodes::loops::{
+    print_do_while_statement, print_for_in_statement, print_for_of_statement, print_for_statement,
+};
 use jsgen_nodes::{Inside, PrintNode};
 use jsgen_place::{Context, Place};
 use jsgen_printer::Printer;

@@ -6,7 +6,7 @@ ghost use Rattle.jsgen_place.specs.Place.{at_level};
 ghost use Rattle.jsgen_model.specs.Spell.{spell};
 
 use crate::{PrintAlone, PrintAtLevel};
-use jsgen_nodes::operators::{print_new_expression, print_update_expression};
+use jsgen_nodes::operations::{print_new_expression, print_update_expression};
 use jsgen_nodes::{Inside, PrintNode};
 use jsgen_place::{Context, Place};
 use jsgen_printer::Printer;

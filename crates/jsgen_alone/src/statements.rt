@@ -7,8 +7,9 @@ ghost use Rattle.jsgen_model.specs.Spell.{spell};
 
 use crate::PrintAlone;
 use jsgen_inside::print_binding_identifier;
-use jsgen_nodes::blocks::{print_block_statement, print_if_statement};
-use jsgen_nodes::statements::{print_directive, print_program};
+use jsgen_nodes::statements::{
+    print_block_statement, print_directive, print_if_statement, print_program,
+};
 use jsgen_nodes::{Inside, PrintNode};
 use jsgen_place::{Context, Place};
 use jsgen_printer::Printer;

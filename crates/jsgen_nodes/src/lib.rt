@@ -2,18 +2,13 @@
 #![tactic(auto)]
 
 pub mod assignments;
-pub mod blocks;
-pub mod cases;
+pub mod choices;
 pub mod collections;
-pub mod definitions;
 pub mod expressions;
 pub mod functions;
-pub mod handlers;
 mod inside;
-pub mod iterations;
-pub mod links;
 pub mod loops;
-pub mod operators;
+pub mod operations;
 pub mod quotes;
 pub mod sets;
 pub mod statements;
@@ -30,7 +25,7 @@ ghost use Rattle.jsgen_printer.specs.Steps.{Lays};
 ghost use Rattle.jsgen_questions.specs.Names.{is_binding_name};
 ghost use Rattle.jsgen_questions.specs.Operands.{operand_of};
 
-use definitions::print_behind_name;
+use functions::print_behind_name;
 pub use inside::Inside;
 use jsgen_place::Place;
 use jsgen_printer::Printer;

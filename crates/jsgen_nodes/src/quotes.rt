@@ -16,7 +16,7 @@ ghost use Rattle.jsgen_nodes.specs.Quotes.{where_it_holds, plain_string};
 
 use crate::PrintNode;
 use crate::collections::key_string;
-use crate::links::print_from_callee;
+use crate::expressions::print_from_callee;
 use crate::sets::print_assignment_target;
 use jsgen_lists::PlainQuotes;
 use jsgen_place::{Context, Place};

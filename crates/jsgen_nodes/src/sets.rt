@@ -7,23 +7,19 @@ ghost use Rattle.jsgen_model.specs.Spell.{spell};
 ghost use Rattle.jsgen_nodes.specs.Parts.{expression_part, declaration_part, statement_part};
 
 use crate::assignments::print_assignment_expression;
-use crate::blocks::{print_block_statement, print_if_statement};
-use crate::cases::print_switch_statement;
+use crate::choices::{print_switch_statement, print_try_statement};
 use crate::collections::{print_array_expression, print_object_expression};
-use crate::definitions::print_function;
 use crate::expressions::{
-    print_big_int_literal, print_binary_expression, print_boolean_literal,
-    print_logical_expression, print_numeric_literal, print_string_literal,
+    print_big_int_literal, print_binary_expression, print_boolean_literal, print_call_expression,
+    print_chain_expression, print_computed_member_expression, print_logical_expression,
+    print_numeric_literal, print_static_member_expression, print_string_literal,
 };
-use crate::functions::print_arrow_function_expression;
-use crate::handlers::print_try_statement;
-use crate::iterations::{print_for_in_statement, print_for_of_statement};
-use crate::links::{
-    print_call_expression, print_chain_expression, print_computed_member_expression,
-    print_static_member_expression,
+use crate::functions::{print_arrow_function_expression, print_function};
+use crate::loops::{
+    print_do_while_statement, print_for_in_statement, print_for_of_statement, print_for_statement,
 };
-use crate::loops::{print_do_while_statement, print_for_statement};
-use crate::operators::{print_new_expression, print_update_expression};
+use crate::operations::{print_new_expression, print_update_expression};
+use crate::statements::{print_block_statement, print_if_statement};
 use crate::{Inside, PrintNode};
 use jsgen_inside::{print_binding_identifier, print_identifier_reference};
 use jsgen_place::Place;

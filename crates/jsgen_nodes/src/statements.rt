@@ -1,15 +1,24 @@
 // Programs and directives (ECMA-262, 11.2.1 and clause 16), one function for each row.
-ghost use Rattle.std.specs.Prelude.{map};
-ghost use Rattle.jsgen_tree.specs.Tree.{trees};
-ghost use Rattle.jsgen_tree.specs.Rows.{program_row, directive_row, in_statement};
-ghost use Rattle.jsgen_model.specs.Spell.{spell, spell_directives, first_statement};
+ghost use Rattle.std.specs.Prelude.{map, ◌≡◌, false, option_map};
+ghost use Rattle.jsgen_tree.specs.Tree.{trees, optional};
+ghost use Rattle.jsgen_tree.specs.Rows.{program_row, directive_row, in_statement, block_statement_row, if_statement_row};
+ghost use Rattle.jsgen_model.specs.Spell.{spell, spell_directives, first_statement, spell_alternate, shape, consequent_items, alternate_items, filled_braces, braces_end, body_end, is_given};
 ghost use Rattle.jsgen_printer.specs.Steps.{Lays};
+ghost use Rattle.jsgen_tree.specs.Inside.{ends_open};
+ghost use Rattle.jsgen_place.specs.Place.{within_statement, among_statements};
+ghost use Rattle.jsgen_model.specs.Punctuator.{semicolon};
+ghost use Rattle.jsgen_model.specs.Items.{◌⊕◌, punctuator, soft_space, soft_line, body_space};
 
 use crate::PrintNode;
-use jsgen_lists::{PrintStatement, print_body};
-use jsgen_place::Place;
-use jsgen_printer::Printer;
-use jsgen_tree::{Directive, Program, StatementNode};
+use crate::inside::Inside;
+use jsgen_inside::{print_body, shape_of};
+use jsgen_lists::{
+    PrintMember, PrintStatement, close_braces, open_braces, print_body, print_braces,
+};
+use jsgen_place::{Place, Shape};
+use jsgen_printer::{Bracket, Printer};
+use jsgen_syntax::Precedence;
+use jsgen_tree::{BlockStatement, Directive, IfStatement, Program, StatementNode};
 
 pub fn print_program<N: PrintNode>(node: &Program<N>, p: &mut Printer<'_>, place: Place)
     ensures { Lays p.old p.new (spell (program_row N.plain node.now) place) }
@@ -63,5 +72,147 @@ impl<N: PrintNode> PrintStatement<StatementNode<N>> for Statements {
 
     fn print_first_statement(statement: &StatementNode<N>, p: &mut Printer<'_>, place: Place) {
         print_first_statement(statement.get(), p, place);
+    }
+}
+
+/// Among statements a line of its own.
+pub fn print_block_statement<N: PrintNode>(
+    node: &BlockStatement<N>,
+    p: &mut Printer<'_>,
+    place: Place,
+)
+    ensures { Lays p.old p.new (spell (block_statement_row N.plain node.now) place) }
+{
+    p.print_indentation_if(place.in_list);
+    print_braces::<_, Statements>(&node.body, p);
+    p.print_soft_line_if(place.in_list);
+}
+
+pub fn print_if_statement<N: PrintNode>(node: &IfStatement<N>, p: &mut Printer<'_>, place: Place)
+    ensures { Lays p.old p.new (spell (if_statement_row N.plain node.now) place) }
+{
+    p.print_indentation_if(place.in_list);
+    p.print_word("if");
+    p.print_soft_space();
+    p.print_opening(Bracket::Round);
+    node.test
+        .get()
+        .print(p, Place::in_brackets(Precedence::Lowest));
+    p.print_closing(Bracket::Round);
+    print_consequent(node.consequent.get(), p, has_alternate(node));
+    print_alternate(&node.alternate, p);
+}
+
+fn has_alternate<N: PrintNode>(node: &IfStatement<N>) -> bool
+    ensures { result ≡ is_given (optional (option_map (in_statement N.plain) node.now.alternate)) }
+{
+    node.alternate.is_some()
+}
+
+// What follows the test. An `else` must not go with an `if` within.
+fn print_consequent<N: PrintNode>(consequent: &N, p: &mut Printer<'_>, else_follows: bool)
+    ensures { Lays p.old p.new (consequent_items (shape (N.plain consequent.now)) (ends_open (N.plain consequent.now))
+        (spell (N.plain consequent.now) within_statement) (spell (N.plain consequent.now) among_statements) else_follows) }
+{
+    if consequent.ends_open() {
+        print_braced(consequent, p, else_follows);
+    } else {
+        print_closed_consequent(consequent, p, else_follows);
+    }
+}
+
+fn print_closed_consequent<N: PrintNode>(consequent: &N, p: &mut Printer<'_>, else_follows: bool)
+    ensures { Lays p.old p.new (consequent_items (shape (N.plain consequent.now)) false
+        (spell (N.plain consequent.now) within_statement) (spell (N.plain consequent.now) among_statements) else_follows) }
+{
+    match shape_of::<_, Inside>(consequent) {
+        Shape::Block => {
+            p.print_soft_space();
+            consequent.print(p, Place::within_statement());
+            print_braces_end(p, else_follows);
+        }
+        Shape::Empty => {
+            p.print_semicolon();
+            p.print_soft_line();
+            print_body_end(p, else_follows);
+        }
+        Shape::If => print_line_consequent(consequent, p, else_follows),
+        Shape::Other => print_line_consequent(consequent, p, else_follows),
+    }
+}
+
+// On the line of the head, behind one space.
+fn print_line_consequent<N: PrintNode>(consequent: &N, p: &mut Printer<'_>, else_follows: bool)
+    ensures { Lays p.old p.new (body_space ⊕ (spell (N.plain consequent.now) among_statements ⊕ body_end else_follows)) }
+{
+    p.begin_body();
+    consequent.print(p, Place::among_statements());
+    print_body_end(p, else_follows);
+}
+
+// A consequent in braces of its own.
+fn print_braced<N: PrintNode>(consequent: &N, p: &mut Printer<'_>, else_follows: bool)
+    ensures { Lays p.old p.new (soft_space ⊕ (filled_braces (spell (N.plain consequent.now) among_statements) ⊕ braces_end else_follows)) }
+{
+    p.print_soft_space();
+    let depth = open_braces(p);
+    consequent.print(p, Place::among_statements());
+    close_braces(p, depth);
+    print_braces_end(p, else_follows);
+}
+
+fn print_braces_end(p: &mut Printer<'_>, else_follows: bool)
+    ensures { Lays p.old p.new (braces_end else_follows) }
+{
+    if else_follows {
+        p.print_soft_space();
+    } else {
+        p.print_soft_line();
+    }
+}
+
+fn print_body_end(p: &mut Printer<'_>, else_follows: bool)
+    ensures { Lays p.old p.new (body_end else_follows) }
+{
+    if else_follows {
+        p.print_indentation();
+    }
+}
+
+fn print_alternate<N: PrintNode>(alternate: &Option<StatementNode<N>>, p: &mut Printer<'_>)
+    ensures { Lays p.old p.new (spell_alternate (optional (option_map (in_statement N.plain) alternate.now))) }
+{
+    match alternate {
+        Some(alternate) => {
+            p.print_due_semicolon();
+            p.print_word("else");
+            print_behind_else(alternate.get(), p);
+        }
+        None => {}
+    }
+}
+
+fn print_behind_else<N: PrintNode>(alternate: &N, p: &mut Printer<'_>)
+    ensures { Lays p.old p.new (alternate_items (shape (N.plain alternate.now)) (spell (N.plain alternate.now) within_statement) (spell (N.plain alternate.now) among_statements)) }
+{
+    match shape_of::<_, Inside>(alternate) {
+        Shape::If => {
+            p.print_hard_space();
+            alternate.print(p, Place::within_statement());
+        }
+        Shape::Block => print_body::<_, Inside>(alternate, p),
+        Shape::Empty => print_body::<_, Inside>(alternate, p),
+        Shape::Other => print_body::<_, Inside>(alternate, p),
+    }
+}
+
+/// Blocks that stand by themselves in other statements.
+pub struct Blocks;
+
+impl<N: PrintNode> PrintMember<Box<BlockStatement<N>>> for Blocks {
+    ghost plain = { λ b. block_statement_row N.plain b.value };
+
+    fn print_member(block: &Box<BlockStatement<N>>, p: &mut Printer<'_>, place: Place) {
+        print_block_statement(block, p, place);
     }
 }

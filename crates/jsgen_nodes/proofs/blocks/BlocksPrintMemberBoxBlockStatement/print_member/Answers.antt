@@ -1,4 +1,0 @@
-use Rattle.jsgen_nodes.proofs.blocks.BlocksPrintMemberBoxBlockStatement.print_member.Goals as goal
-
-pub returns : goal.returns
-returns g c = rw c.deref.ensures at c.print_block_statement.ensures

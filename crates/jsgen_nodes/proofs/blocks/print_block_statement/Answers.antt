@@ -1,5 +1,0 @@
-use Rattle.jsgen_printer.proofs.Sequence.{◌⨾◌}
-use Rattle.jsgen_nodes.proofs.blocks.print_block_statement.Goals as goal
-
-pub returns : goal.returns
-returns g c = c.print_indentation_if.ensures ⨾ ((rw c.deref.ensures.value at c.print_braces.ensures) ⨾ c.print_soft_line_if.ensures)

@@ -1,5 +1,0 @@
-use Rattle.jsgen_printer.proofs.Sequence.{◌⨾◌}
-use Rattle.jsgen_nodes.proofs.blocks.print_line_consequent.Goals as goal
-
-pub returns : goal.returns
-returns g c = c.begin_body.ensures.lays ⨾ ((rw c.among_statements.ensures at c.print.ensures) ⨾ c.print_body_end.ensures)

@@ -1,4 +1,0 @@
-use Rattle.jsgen_nodes.proofs.cases.print_switch_case.Goals as goal
-
-pub returns : goal.returns
-returns g c = rw c.deref.ensures.value at c.print_case.ensures

@@ -1,4 +1,0 @@
-use Rattle.jsgen_nodes.proofs.definitions.NamesPrintMemberBoxBindingIdentifier.print_member.Goals as goal
-
-pub returns : goal.returns
-returns c = rw c.deref.ensures at c.print_binding_identifier.ensures
