@@ -12,9 +12,7 @@ ghost use Rattle.jsgen_model.specs.Items.{◌⊕◌, punctuator, soft_space, sof
 use crate::PrintNode;
 use crate::inside::Inside;
 use jsgen_inside::{print_body, shape_of};
-use jsgen_lists::{
-    PrintMember, PrintStatement, close_braces, open_braces, print_body, print_braces,
-};
+use jsgen_lists::{PrintMember, PrintStatement, close_braces, open_braces, print_braces};
 use jsgen_place::{Place, Shape};
 use jsgen_printer::{Bracket, Printer};
 use jsgen_syntax::Precedence;
@@ -25,7 +23,7 @@ pub fn print_program<N: PrintNode>(node: &Program<N>, p: &mut Printer<'_>, place
 {
     let _ = place;
     print_directives(&node.directives, p);
-    print_body::<_, Statements>(&node.body, p);
+    jsgen_lists::print_body::<_, Statements>(&node.body, p);
     p.print_due_semicolon();
 }
 

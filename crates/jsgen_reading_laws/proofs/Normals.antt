@@ -151,6 +151,7 @@ flag_again false = refl
 mutual
   pub normal_again : (t : Tree) → normal (normal t) ≡ normal t
   normal_again (tree.program a comments directives body) = let e = normal_trees_again directives in let f = normal_trees_again body in λ i. tree.program (nothing_of 4) no_trees (e i) (f i)
+  normal_again (tree.comment a) = refl
   normal_again (tree.directive a) = refl
   normal_again (tree.expression_statement a expression) = ap (λ e. tree.expression_statement (nothing_of 0) e) (normal_again expression)
   normal_again (tree.variable_declaration a declarations) = let s = flag_again (variable_declaration_declare a) in let e = normal_trees_again declarations in λ i. tree.variable_declaration (bare (declaration_kind (variable_declaration_kind a) ∷ if_set (s i) ∷ [])) (e i)

@@ -31,6 +31,7 @@ signed_as_it_was names t = refl
 mutual
   pub unrenamed : (t : Tree) → normal (renamed no_tables t) ≡ normal t
   unrenamed (tree.program a comments directives body) = let e = unrenamed_trees directives in let f = unrenamed_trees body in λ i. tree.program (nothing_of 4) no_trees (e i) (f i)
+  unrenamed (tree.comment a) = refl
   unrenamed (tree.directive a) = refl
   unrenamed (tree.expression_statement a expression) = ap (λ e. tree.expression_statement (nothing_of 0) e) (unrenamed expression)
   unrenamed (tree.variable_declaration a declarations) = ap (λ ts. tree.variable_declaration (bare (declaration_kind (variable_declaration_kind a) ∷ if_set (variable_declaration_declare a) ∷ [])) ts) (unrenamed_trees declarations)
