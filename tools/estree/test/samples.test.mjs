@@ -7,6 +7,10 @@ import { parsed } from "../parser.mjs";
 
 const EARLY_ERRORS = ["const a;", "super.a;", "continue;"];
 
+// A text that acorn parses, and that no tree stands for: in parentheses the target gives the function no name (13.15.2), whereas the
+// tree of acorn is the one without them.
+const WITHOUT_TREE = ["(a)=function(){};"];
+
 function samplesOf(name) {
   const specs = readFileSync(new URL(`../../../crates/jsgen_oracle/specs/${name}.antt`, import.meta.url), "utf8");
   return [...specs.matchAll(/^ {2}pub \w+ : (IsRead|IsNotRead) \(codes ("(?:[^"\\]|\\.)*")\)/gm)]
@@ -30,8 +34,9 @@ test("acorn parses the texts that have a reading, but for early errors", () => {
   assert.deepEqual(samples.map(({ text }) => text).filter((text) => !isParsed(text)), EARLY_ERRORS);
 });
 
-test("acorn parses none of the texts that have none", () => {
+test("acorn parses none of the texts that have none, but what no tree stands for", () => {
   const samples = samplesOf("RefusedTexts");
-  assert.equal(samples.length, 12);
-  for (const { isRead, text } of samples) assert.ok(!isRead && !isParsed(text), text);
+  assert.equal(samples.length, 13);
+  assert.deepEqual(samples.filter(({ isRead }) => isRead), []);
+  assert.deepEqual(samples.map(({ text }) => text).filter(isParsed), WITHOUT_TREE);
 });
