@@ -10,7 +10,7 @@ use jsgen_tree::{
     DebuggerStatement, Directive, DoWhileStatement, EmptyStatement, Expression,
     ExpressionStatement, ForInStatement, ForOfStatement, ForStatement, ForStatementInit,
     ForStatementLeft, FormalParameter, FormalParameterRest, FormalParameters, Function,
-    FunctionBody, IdentifierName, IdentifierReference, IfStatement, LabelIdentifier,
+    FunctionBody, IdentifierName, IdentifierReference, IfStatement, ImportMeta, LabelIdentifier,
     LabeledStatement, LogicalExpression, NewExpression, NewTarget, NullLiteral, NumericLiteral,
     ObjectExpression, ObjectProperty, ObjectPropertyKind, ParenthesizedExpression, Program,
     PropertyKey, ReturnStatement, SequenceExpression, SimpleAssignmentTarget, SpreadElement,
@@ -84,6 +84,8 @@ impl GenExpr for UpdateExpression {}
 impl GenExpr for NewExpression {}
 
 impl Gen for Super {}
+
+impl Gen for ImportMeta {}
 
 impl GenExpr for ConditionalExpression {}
 

@@ -1,6 +1,6 @@
 // Generated from tools/nodes/table.txt; edit that and run tools/nodes/generate.
 // What is printed by itself, or at a level.
-ghost use Rattle.jsgen_tree.specs.Rows.{unary_expression_row, new_target_row, update_expression_row, new_expression_row, super_row};
+ghost use Rattle.jsgen_tree.specs.Rows.{unary_expression_row, new_target_row, update_expression_row, new_expression_row, super_row, import_meta_row};
 ghost use Rattle.jsgen_syntax.specs.declared.precedence.Precedence.TheVariants.{Lowest};
 ghost use Rattle.jsgen_place.specs.Place.{at_level};
 ghost use Rattle.jsgen_model.specs.Spell.{spell};
@@ -10,9 +10,9 @@ use jsgen_nodes::operations::{print_new_expression, print_update_expression};
 use jsgen_nodes::{Inside, PrintNode};
 use jsgen_place::{Context, Place};
 use jsgen_printer::Printer;
-use jsgen_spelled::{print_new_target, print_super, print_unary_expression};
+use jsgen_spelled::{print_import_meta, print_new_target, print_super, print_unary_expression};
 use jsgen_syntax::Precedence;
-use jsgen_tree::{NewExpression, NewTarget, Super, UnaryExpression, UpdateExpression};
+use jsgen_tree::{ImportMeta, NewExpression, NewTarget, Super, UnaryExpression, UpdateExpression};
 
 impl<N: PrintNode> PrintAtLevel for UnaryExpression<N> {
     ghost plain = { unary_expression_row N.plain };
@@ -51,5 +51,13 @@ impl PrintAlone for Super {
 
     fn print_alone(&self, p: &mut Printer<'_>, context: Context) {
         print_super(self, p, Place::at_level(Precedence::Lowest, context));
+    }
+}
+
+impl PrintAlone for ImportMeta {
+    ghost alone = { λ n context. spell (import_meta_row n) (at_level Lowest context) };
+
+    fn print_alone(&self, p: &mut Printer<'_>, context: Context) {
+        print_import_meta(self, p, Place::at_level(Precedence::Lowest, context));
     }
 }

@@ -1,7 +1,7 @@
 // Generated from tools/nodes/table.txt; edit that and run tools/nodes/generate.
 // Operations of one operand, and `new` (ECMA-262, clause 13).
 ghost use Rattle.std.specs.Prelude.{◌≡◌};
-ghost use Rattle.jsgen_tree.specs.Rows.{unary_expression_row, new_target_row, update_expression_row, new_expression_row, super_row};
+ghost use Rattle.jsgen_tree.specs.Rows.{unary_expression_row, new_target_row, update_expression_row, new_expression_row, super_row, import_meta_row};
 ghost use Rattle.jsgen_check.specs.Verdict.{tree_verdict};
 
 use crate::children::{check_arguments, check_simple_assignment_target};
@@ -9,7 +9,9 @@ use crate::heights::{check_node, higher};
 use crate::rules::check_update_expression_rules;
 use crate::{CheckNode, Surroundings, check_child};
 use jsgen_model::TreeFault;
-use jsgen_tree::{NewExpression, NewTarget, NodeSet, Super, UnaryExpression, UpdateExpression};
+use jsgen_tree::{
+    ImportMeta, NewExpression, NewTarget, NodeSet, Super, UnaryExpression, UpdateExpression,
+};
 
 #[inline(never)]
 pub fn check_unary_expression<N: CheckNode>(
@@ -54,6 +56,12 @@ pub fn check_new_expression<N: CheckNode>(
 
 pub fn check_super(node: &Super, around: &Surroundings<'_>) -> Result<u64, TreeFault>
     ensures { result ≡ tree_verdict around.now (super_row node.now) }
+{
+    check_node(around, node.span, Ok(()), Ok(0))
+}
+
+pub fn check_import_meta(node: &ImportMeta, around: &Surroundings<'_>) -> Result<u64, TreeFault>
+    ensures { result ≡ tree_verdict around.now (import_meta_row node.now) }
 {
     check_node(around, node.span, Ok(()), Ok(0))
 }

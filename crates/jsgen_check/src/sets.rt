@@ -23,7 +23,7 @@ use crate::loops::{
     check_labeled_statement, check_return_statement, check_throw_statement, check_while_statement,
 };
 use crate::operations::{
-    check_new_expression, check_new_target, check_super, check_unary_expression,
+    check_import_meta, check_new_expression, check_new_target, check_super, check_unary_expression,
     check_update_expression,
 };
 use crate::statements::{
@@ -65,6 +65,7 @@ pub fn check_expression_set<N: CheckNode>(
         Expression::NewExpression(node) => check_new_expression(node, around),
         Expression::NewTarget(node) => check_new_target(node, around),
         Expression::Super(node) => check_super(node, around),
+        Expression::ImportMeta(node) => check_import_meta(node, around),
         Expression::ConditionalExpression(node) => check_conditional_expression(node, around),
         Expression::SequenceExpression(node) => check_sequence_expression(node, around),
         Expression::AssignmentExpression(node) => check_assignment_expression(node, around),

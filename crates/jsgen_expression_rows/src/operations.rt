@@ -2,7 +2,7 @@
 // Rows of a job: operations of one operand, and `new` (ECMA-262, clause 13).
 ghost use Rattle.std.specs.Prelude.{◌≡◌, true};
 ghost use Rattle.serde_json.specs.View.{view};
-ghost use Rattle.jsgen_tree.specs.RowFields.{unary_expression_fields, new_target_fields, update_expression_fields, new_expression_fields, super_fields};
+ghost use Rattle.jsgen_tree.specs.RowFields.{unary_expression_fields, new_target_fields, update_expression_fields, new_expression_fields, super_fields, import_meta_fields};
 ghost use Rattle.jsgen_fields.specs.Reads.{Gives, read_node, read_typed};
 ghost use Rattle.jsgen_pool.specs.Pool.{entries};
 ghost use Rattle.jsgen_fields.specs.Parts.{is_in_operations};
@@ -19,7 +19,8 @@ use jsgen_fields::words::{needed_unary_operator, needed_update_operator};
 use jsgen_pool::Kept;
 use jsgen_syntax::Span;
 use jsgen_tree::{
-    Expression, NewExpression, NewTarget, NodeType, Super, UnaryExpression, UpdateExpression,
+    Expression, ImportMeta, NewExpression, NewTarget, NodeType, Super, UnaryExpression,
+    UpdateExpression,
 };
 use serde_json::Value;
 use std::alloc::Global;
@@ -197,6 +198,32 @@ fn read_super<N: PlainNode + Drop, R: RowOf<N> + Drop>(
     }
 }
 
+#[tactic(auto, unfolding(jsgen_fields::specs::Reads::read_node))]
+fn read_import_meta<N: PlainNode + Drop, R: RowOf<N> + Drop>(
+    alloc: Global,
+    kept: &mut Vec<Kept<R>>,
+    number: usize,
+    span: Span,
+    row: &Value,
+) -> Result<R, InputFault>
+    ensures { Gives R.plain result (entries R.plain kept.new.items)
+        (read_node number types.ImportMeta import_meta_fields span (view row.now) (entries R.plain kept.old.items)) }
+{
+    let _ = kept;
+    let _ = number;
+    let _ = row;
+    let node = ImportMeta { span };
+    match boxed(alloc, node) {
+        Ok(node) => row_of_expression::<N, R>(
+            alloc,
+            OtherExpression {
+                expression: Expression::ImportMeta(node),
+            },
+        ),
+        Err(fault) => Err(fault),
+    }
+}
+
 /// The row of a type of this part.
 pub fn read_in_operations<N: ReadNode + Drop, R: RowOf<N> + Drop>(
     alloc: Global,
@@ -218,6 +245,7 @@ pub fn read_in_operations<N: ReadNode + Drop, R: RowOf<N> + Drop>(
         ),
         NodeType::NewExpression => read_new_expression::<N, R>(alloc, kept, number, span, row),
         NodeType::Super => read_super::<N, R>(alloc, kept, number, span, row),
+        NodeType::ImportMeta => read_import_meta::<N, R>(alloc, kept, number, span, row),
         _ => unreachable!(),
     }
 }

@@ -48,6 +48,7 @@ is_in_operations types.NewTarget = true
 is_in_operations types.UpdateExpression = true
 is_in_operations types.NewExpression = true
 is_in_operations types.Super = true
+is_in_operations types.ImportMeta = true
 is_in_operations other = false
 
 abbrev pub is_in_assignments : NodeType → Bool

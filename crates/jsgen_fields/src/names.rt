@@ -43,6 +43,7 @@ const TYPE_NAMES: [(&str, NodeType); 50] = [
     ("UpdateExpression", NodeType::UpdateExpression),
     ("NewExpression", NodeType::NewExpression),
     ("Super", NodeType::Super),
+    ("ImportMeta", NodeType::ImportMeta),
     ("ConditionalExpression", NodeType::ConditionalExpression),
     ("SequenceExpression", NodeType::SequenceExpression),
     ("AssignmentExpression", NodeType::AssignmentExpression),
@@ -58,10 +59,10 @@ const TYPE_NAMES: [(&str, NodeType); 50] = [
     ("WhileStatement", NodeType::WhileStatement),
     ("DoWhileStatement", NodeType::DoWhileStatement),
     ("LabelIdentifier", NodeType::LabelIdentifier),
-    ("LabeledStatement", NodeType::LabeledStatement),
 ];
 
-const TYPE_NAMES_2: [(&str, NodeType); 9] = [
+const TYPE_NAMES_2: [(&str, NodeType); 10] = [
+    ("LabeledStatement", NodeType::LabeledStatement),
     ("ContinueStatement", NodeType::ContinueStatement),
     ("BreakStatement", NodeType::BreakStatement),
     ("ReturnStatement", NodeType::ReturnStatement),

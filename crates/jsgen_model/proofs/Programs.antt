@@ -41,6 +41,7 @@ module _ {A : Type 0} (f : A → Node) (h : (a : A) → IsFormed (node_plain (f 
   expression_is_formed (expressions.NewExpression b) = (no_hole_changed _ _ _ b.value.arguments.items, (h b.value.callee.node, (all_changed _ _ _ (with_argument _ (λ b. (refl, (h b.value.argument.node, tt))) (λ b. h b.value.node)) b.value.arguments.items, tt)))
   expression_is_formed (expressions.NewTarget b) = (refl, tt)
   expression_is_formed (expressions.Super b) = (refl, tt)
+  expression_is_formed (expressions.ImportMeta b) = (refl, tt)
   expression_is_formed (expressions.ConditionalExpression b) = (refl, (h b.value.test.node, (h b.value.consequent.node, (h b.value.alternate.node, tt))))
   expression_is_formed (expressions.SequenceExpression b) = (no_hole_changed _ _ _ b.value.expressions.items, (all_changed _ _ _ (λ n. h n.node) b.value.expressions.items, tt))
   expression_is_formed (expressions.AssignmentExpression b) = (assignment_expression_by_left (λ n. IsFormed (layer (map-Node Node Tree node_plain (map-Node A Node f (opened.Expression (expressions.AssignmentExpression (record b { value = n }))))))) (λ n_left. (λ n. (refl, ((refl, tt), (h n.right.node, tt))))) (λ n_left. (λ n. (refl, ((refl, (h n_left.value.object.node, ((refl, tt), tt))), (h n.right.node, tt))))) (λ n_left. (λ n. (refl, ((refl, (h n_left.value.object.node, (h n_left.value.expression.node, tt))), (h n.right.node, tt)))))) b.value

@@ -21,7 +21,7 @@ use Rattle.jsgen_tree.specs.Job.{JobData}
 -- Each type of which no reading is promised is left out here by its name.
 abbrev pub is_plain_type : NodeType → Bool
 -- generated from tools/nodes/table.txt: types
-
+is_plain_type types.ImportMeta = false
 -- end of what is generated: types
 is_plain_type type = true
 
@@ -98,6 +98,7 @@ is_formed (tree.new_target a) = true
 is_formed (tree.update a argument) = true
 is_formed (tree.new_expression a callee arguments) = has_no_hole arguments
 is_formed (tree.super a) = true
+is_formed (tree.import_meta a) = true
 is_formed (tree.conditional a test consequent alternate) = true
 is_formed (tree.sequence a expressions) = has_no_hole expressions
 is_formed (tree.assignment a left right) = true

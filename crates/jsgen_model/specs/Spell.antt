@@ -450,6 +450,7 @@ abbrev mutual
       ⊕ spell argument (child Exponentiation (within (wraps Prefix place) place))))
   spell (tree.new_target a) place = marked_word a.span (codes "new") ⊕ (member_dot ⊕ word (codes "target"))
   spell (tree.super a) place = marked_word a.span (codes "super")
+  spell (tree.import_meta a) place = marked_word a.span (codes "import.meta")
   spell (tree.conditional a test consequent alternate) place =
       wrapped (wraps Conditional place) (spell test (with_calls (child Conditional (within (wraps Conditional place) place))) ⊕ (soft_space
       ⊕ (punctuator question ⊕ (soft_space ⊕ (spell consequent (in_brackets Yield) ⊕ (soft_space ⊕ (punctuator colon ⊕ (soft_space

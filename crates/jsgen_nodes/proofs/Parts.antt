@@ -46,29 +46,30 @@ expression_past_1 (expressions.ArrayExpression b) later no_0 no_1 = absurd (no_0
 expression_past_1 (expressions.ObjectExpression b) later no_0 no_1 = absurd (no_1 b refl)
 expression_past_1 n later no_0 no_1 = refl
 
-pub expression_past_2 : {N : Type 0} (n : Expression N) → nat_le 2 (expression_part n) ≡ true → IsNot n expressions.UnaryExpression → IsNot n expressions.NewTarget → IsNot n expressions.UpdateExpression → IsNot n expressions.NewExpression → IsNot n expressions.Super → nat_le 3 (expression_part n) ≡ true
-expression_past_2 (expressions.IdentifierReference b) later no_0 no_1 no_2 no_3 no_4 = let no : false ≡ true = later in cc
-expression_past_2 (expressions.ThisExpression b) later no_0 no_1 no_2 no_3 no_4 = let no : false ≡ true = later in cc
-expression_past_2 (expressions.NullLiteral b) later no_0 no_1 no_2 no_3 no_4 = let no : false ≡ true = later in cc
-expression_past_2 (expressions.BooleanLiteral b) later no_0 no_1 no_2 no_3 no_4 = let no : false ≡ true = later in cc
-expression_past_2 (expressions.NumericLiteral b) later no_0 no_1 no_2 no_3 no_4 = let no : false ≡ true = later in cc
-expression_past_2 (expressions.BigIntLiteral b) later no_0 no_1 no_2 no_3 no_4 = let no : false ≡ true = later in cc
-expression_past_2 (expressions.StringLiteral b) later no_0 no_1 no_2 no_3 no_4 = let no : false ≡ true = later in cc
-expression_past_2 (expressions.ParenthesizedExpression b) later no_0 no_1 no_2 no_3 no_4 = let no : false ≡ true = later in cc
-expression_past_2 (expressions.BinaryExpression b) later no_0 no_1 no_2 no_3 no_4 = let no : false ≡ true = later in cc
-expression_past_2 (expressions.LogicalExpression b) later no_0 no_1 no_2 no_3 no_4 = let no : false ≡ true = later in cc
-expression_past_2 (expressions.StaticMemberExpression b) later no_0 no_1 no_2 no_3 no_4 = let no : false ≡ true = later in cc
-expression_past_2 (expressions.ComputedMemberExpression b) later no_0 no_1 no_2 no_3 no_4 = let no : false ≡ true = later in cc
-expression_past_2 (expressions.CallExpression b) later no_0 no_1 no_2 no_3 no_4 = let no : false ≡ true = later in cc
-expression_past_2 (expressions.ChainExpression b) later no_0 no_1 no_2 no_3 no_4 = let no : false ≡ true = later in cc
-expression_past_2 (expressions.ArrayExpression b) later no_0 no_1 no_2 no_3 no_4 = let no : false ≡ true = later in cc
-expression_past_2 (expressions.ObjectExpression b) later no_0 no_1 no_2 no_3 no_4 = let no : false ≡ true = later in cc
-expression_past_2 (expressions.UnaryExpression b) later no_0 no_1 no_2 no_3 no_4 = absurd (no_0 b refl)
-expression_past_2 (expressions.NewTarget b) later no_0 no_1 no_2 no_3 no_4 = absurd (no_1 b refl)
-expression_past_2 (expressions.UpdateExpression b) later no_0 no_1 no_2 no_3 no_4 = absurd (no_2 b refl)
-expression_past_2 (expressions.NewExpression b) later no_0 no_1 no_2 no_3 no_4 = absurd (no_3 b refl)
-expression_past_2 (expressions.Super b) later no_0 no_1 no_2 no_3 no_4 = absurd (no_4 b refl)
-expression_past_2 n later no_0 no_1 no_2 no_3 no_4 = refl
+pub expression_past_2 : {N : Type 0} (n : Expression N) → nat_le 2 (expression_part n) ≡ true → IsNot n expressions.UnaryExpression → IsNot n expressions.NewTarget → IsNot n expressions.UpdateExpression → IsNot n expressions.NewExpression → IsNot n expressions.Super → IsNot n expressions.ImportMeta → nat_le 3 (expression_part n) ≡ true
+expression_past_2 (expressions.IdentifierReference b) later no_0 no_1 no_2 no_3 no_4 no_5 = let no : false ≡ true = later in cc
+expression_past_2 (expressions.ThisExpression b) later no_0 no_1 no_2 no_3 no_4 no_5 = let no : false ≡ true = later in cc
+expression_past_2 (expressions.NullLiteral b) later no_0 no_1 no_2 no_3 no_4 no_5 = let no : false ≡ true = later in cc
+expression_past_2 (expressions.BooleanLiteral b) later no_0 no_1 no_2 no_3 no_4 no_5 = let no : false ≡ true = later in cc
+expression_past_2 (expressions.NumericLiteral b) later no_0 no_1 no_2 no_3 no_4 no_5 = let no : false ≡ true = later in cc
+expression_past_2 (expressions.BigIntLiteral b) later no_0 no_1 no_2 no_3 no_4 no_5 = let no : false ≡ true = later in cc
+expression_past_2 (expressions.StringLiteral b) later no_0 no_1 no_2 no_3 no_4 no_5 = let no : false ≡ true = later in cc
+expression_past_2 (expressions.ParenthesizedExpression b) later no_0 no_1 no_2 no_3 no_4 no_5 = let no : false ≡ true = later in cc
+expression_past_2 (expressions.BinaryExpression b) later no_0 no_1 no_2 no_3 no_4 no_5 = let no : false ≡ true = later in cc
+expression_past_2 (expressions.LogicalExpression b) later no_0 no_1 no_2 no_3 no_4 no_5 = let no : false ≡ true = later in cc
+expression_past_2 (expressions.StaticMemberExpression b) later no_0 no_1 no_2 no_3 no_4 no_5 = let no : false ≡ true = later in cc
+expression_past_2 (expressions.ComputedMemberExpression b) later no_0 no_1 no_2 no_3 no_4 no_5 = let no : false ≡ true = later in cc
+expression_past_2 (expressions.CallExpression b) later no_0 no_1 no_2 no_3 no_4 no_5 = let no : false ≡ true = later in cc
+expression_past_2 (expressions.ChainExpression b) later no_0 no_1 no_2 no_3 no_4 no_5 = let no : false ≡ true = later in cc
+expression_past_2 (expressions.ArrayExpression b) later no_0 no_1 no_2 no_3 no_4 no_5 = let no : false ≡ true = later in cc
+expression_past_2 (expressions.ObjectExpression b) later no_0 no_1 no_2 no_3 no_4 no_5 = let no : false ≡ true = later in cc
+expression_past_2 (expressions.UnaryExpression b) later no_0 no_1 no_2 no_3 no_4 no_5 = absurd (no_0 b refl)
+expression_past_2 (expressions.NewTarget b) later no_0 no_1 no_2 no_3 no_4 no_5 = absurd (no_1 b refl)
+expression_past_2 (expressions.UpdateExpression b) later no_0 no_1 no_2 no_3 no_4 no_5 = absurd (no_2 b refl)
+expression_past_2 (expressions.NewExpression b) later no_0 no_1 no_2 no_3 no_4 no_5 = absurd (no_3 b refl)
+expression_past_2 (expressions.Super b) later no_0 no_1 no_2 no_3 no_4 no_5 = absurd (no_4 b refl)
+expression_past_2 (expressions.ImportMeta b) later no_0 no_1 no_2 no_3 no_4 no_5 = absurd (no_5 b refl)
+expression_past_2 n later no_0 no_1 no_2 no_3 no_4 no_5 = refl
 
 pub expression_past_3 : {N : Type 0} (n : Expression N) → nat_le 3 (expression_part n) ≡ true → IsNot n expressions.ConditionalExpression → IsNot n expressions.SequenceExpression → IsNot n expressions.AssignmentExpression → nat_le 4 (expression_part n) ≡ true
 expression_past_3 (expressions.IdentifierReference b) later no_0 no_1 no_2 = let no : false ≡ true = later in cc
@@ -92,6 +93,7 @@ expression_past_3 (expressions.NewTarget b) later no_0 no_1 no_2 = let no : fals
 expression_past_3 (expressions.UpdateExpression b) later no_0 no_1 no_2 = let no : false ≡ true = later in cc
 expression_past_3 (expressions.NewExpression b) later no_0 no_1 no_2 = let no : false ≡ true = later in cc
 expression_past_3 (expressions.Super b) later no_0 no_1 no_2 = let no : false ≡ true = later in cc
+expression_past_3 (expressions.ImportMeta b) later no_0 no_1 no_2 = let no : false ≡ true = later in cc
 expression_past_3 (expressions.ConditionalExpression b) later no_0 no_1 no_2 = absurd (no_0 b refl)
 expression_past_3 (expressions.SequenceExpression b) later no_0 no_1 no_2 = absurd (no_1 b refl)
 expression_past_3 (expressions.AssignmentExpression b) later no_0 no_1 no_2 = absurd (no_2 b refl)
@@ -119,6 +121,7 @@ expression_past_4 (expressions.NewTarget b) later no_0 no_1 = let no : false ≡
 expression_past_4 (expressions.UpdateExpression b) later no_0 no_1 = let no : false ≡ true = later in cc
 expression_past_4 (expressions.NewExpression b) later no_0 no_1 = let no : false ≡ true = later in cc
 expression_past_4 (expressions.Super b) later no_0 no_1 = let no : false ≡ true = later in cc
+expression_past_4 (expressions.ImportMeta b) later no_0 no_1 = let no : false ≡ true = later in cc
 expression_past_4 (expressions.ConditionalExpression b) later no_0 no_1 = let no : false ≡ true = later in cc
 expression_past_4 (expressions.SequenceExpression b) later no_0 no_1 = let no : false ≡ true = later in cc
 expression_past_4 (expressions.AssignmentExpression b) later no_0 no_1 = let no : false ≡ true = later in cc

@@ -30,6 +30,7 @@ expression_part (expression.NewTarget b) = 2
 expression_part (expression.UpdateExpression b) = 2
 expression_part (expression.NewExpression b) = 2
 expression_part (expression.Super b) = 2
+expression_part (expression.ImportMeta b) = 2
 expression_part (expression.ConditionalExpression b) = 3
 expression_part (expression.SequenceExpression b) = 3
 expression_part (expression.AssignmentExpression b) = 3

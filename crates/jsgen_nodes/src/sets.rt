@@ -26,7 +26,7 @@ use jsgen_place::Place;
 use jsgen_printer::Printer;
 use jsgen_spelled::{
     print_break_statement, print_conditional_expression, print_continue_statement,
-    print_debugger_statement, print_empty_statement, print_expression_statement,
+    print_debugger_statement, print_empty_statement, print_expression_statement, print_import_meta,
     print_labeled_statement, print_new_target, print_null_literal, print_parenthesized_expression,
     print_return_statement, print_sequence_expression, print_super, print_this_expression,
     print_throw_statement, print_unary_expression, print_variable_declaration,
@@ -91,6 +91,7 @@ fn print_expression_in_operations<N: PrintNode>(
         Expression::UpdateExpression(node) => print_update_expression(node, p, place),
         Expression::NewExpression(node) => print_new_expression(node, p, place),
         Expression::Super(node) => print_super(node, p, place),
+        Expression::ImportMeta(node) => print_import_meta(node, p, place),
         _ => print_expression_in_assignments(node, p, place),
     }
 }

@@ -85,6 +85,7 @@ fn is_in_operations(node_type: NodeType) -> bool
             | NodeType::UpdateExpression
             | NodeType::NewExpression
             | NodeType::Super
+            | NodeType::ImportMeta
     )
 }
 

@@ -24,7 +24,7 @@ pub use loops::{
     print_while_statement,
 };
 pub use members::{Leaves, Rows};
-pub use operations::{print_new_target, print_super, print_unary_expression};
+pub use operations::{print_import_meta, print_new_target, print_super, print_unary_expression};
 pub use statements::{
     print_empty_statement, print_expression_statement, print_variable_declaration,
     print_variable_declarator,

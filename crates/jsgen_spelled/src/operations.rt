@@ -1,6 +1,6 @@
 // Generated from tools/nodes/table.txt; edit that and run tools/nodes/generate.
 // Rows by their spelling: operations of one operand, and `new` (ECMA-262, clause 13).
-ghost use Rattle.jsgen_tree.specs.Rows.{unary_expression_row, new_target_row, super_row};
+ghost use Rattle.jsgen_tree.specs.Rows.{unary_expression_row, new_target_row, super_row, import_meta_row};
 ghost use Rattle.jsgen_model.specs.Spell.{spell};
 ghost use Rattle.jsgen_printer.specs.Steps.{Lays};
 
@@ -8,7 +8,7 @@ use jsgen_inside::PrintInside;
 use jsgen_place::Place;
 use jsgen_printer::Printer;
 use jsgen_syntax::Precedence;
-use jsgen_tree::{NewTarget, Super, UnaryExpression};
+use jsgen_tree::{ImportMeta, NewTarget, Super, UnaryExpression};
 
 pub fn print_unary_expression<N, L: PrintInside<N>>(
     node: &UnaryExpression<N>,
@@ -44,4 +44,11 @@ pub fn print_super(node: &Super, p: &mut Printer<'_>, place: Place)
 {
     let _ = place;
     p.print_marked_word(node.span, "super");
+}
+
+pub fn print_import_meta(node: &ImportMeta, p: &mut Printer<'_>, place: Place)
+    ensures { Lays p.old p.new (spell (import_meta_row node.now) place) }
+{
+    let _ = place;
+    p.print_marked_word(node.span, "import.meta");
 }

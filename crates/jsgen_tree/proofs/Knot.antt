@@ -48,6 +48,7 @@ natural_expression h (expressions.UpdateExpression b) = (update_expression_by_ar
 natural_expression h (expressions.NewExpression b) = same_slots (same_one refl (same_many (ap trees (map_after _ _ _ (with_argument _ (λ n. refl) (λ b. refl)) b.value.arguments.items)) refl))
 natural_expression h (expressions.NewTarget b) = refl
 natural_expression h (expressions.Super b) = refl
+natural_expression h (expressions.ImportMeta b) = refl
 natural_expression h (expressions.ConditionalExpression b) = refl
 natural_expression h (expressions.SequenceExpression b) = same_slots (same_many (ap trees (map_after _ _ _ (λ n. refl) b.value.expressions.items)) refl)
 natural_expression h (expressions.AssignmentExpression b) = (assignment_expression_by_left (λ n. layer (map-Node Node Tree h (opened.Expression (expressions.AssignmentExpression (record b { value = n })))) ≡ expression_plain h (expressions.AssignmentExpression (record b { value = n }))) (λ n_left. (λ n. refl)) (λ n_left. (λ n. refl)) (λ n_left. (λ n. refl))) b.value
@@ -114,6 +115,7 @@ of_expression h (expressions.UpdateExpression b) = refl
 of_expression h (expressions.NewExpression b) = refl
 of_expression h (expressions.NewTarget b) = refl
 of_expression h (expressions.Super b) = refl
+of_expression h (expressions.ImportMeta b) = refl
 of_expression h (expressions.ConditionalExpression b) = refl
 of_expression h (expressions.SequenceExpression b) = refl
 of_expression h (expressions.AssignmentExpression b) = refl

@@ -105,6 +105,9 @@ new_expression a callee arguments = node types.NewExpression a (one callee (many
 pattern abbrev pub super : Atoms → Tree
 super a = node types.Super a no_slots
 
+pattern abbrev pub import_meta : Atoms → Tree
+import_meta a = node types.ImportMeta a no_slots
+
 pattern abbrev pub conditional : Atoms → Tree → Tree → Tree → Tree
 conditional a test consequent alternate = node types.ConditionalExpression a (one test (one consequent (one alternate no_slots)))
 

@@ -107,6 +107,9 @@ new_expression_fields = fields types.NewExpression
 abbrev pub super_fields : List Field
 super_fields = fields types.Super
 
+abbrev pub import_meta_fields : List Field
+import_meta_fields = fields types.ImportMeta
+
 abbrev pub conditional_expression_fields : List Field
 conditional_expression_fields = fields types.ConditionalExpression
 

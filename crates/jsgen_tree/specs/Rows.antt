@@ -5,7 +5,7 @@ use Rattle.jsgen_syntax.specs.Units.{js_units}
 use Rattle.jsgen_tree.specs.Characters.{characters, number_if_given, numeric_values}
 use Rattle.jsgen_tree.specs.Tree.{Tree, optional, trees, holed}
 use Rattle.jsgen_tree.specs.Atom.{no_value, text, units, number, flag, kind_of_comment, content_of_comment, source_kind, declaration_kind, binary_operator, logical_operator, property_kind, unary_operator, update_operator, assignment_operator, kind_of_function}
-use Rattle.jsgen_tree.specs.Nodes.{program, comment, directive, variable_declaration, variable_declarator, binding_identifier, expression_statement, block, if_statement, empty_statement, identifier_reference, this_expression, null_literal, boolean_literal, numeric_literal, big_int_literal, string_literal, parenthesized, binary, logical, identifier_name, static_member, computed_member, call, chain, spread, array, object_property, object_expression, unary, new_target, update, new_expression, super, conditional, sequence, assignment, formal_parameter, formal_parameter_rest, formal_parameters, function, function_body, arrow_function, for_statement, for_in_statement, for_of_statement, while_statement, do_while_statement, label_identifier, labeled_statement, continue_statement, break_statement, return_statement, throw_statement, debugger_statement, switch_statement, switch_case, try_statement, catch_clause}
+use Rattle.jsgen_tree.specs.Nodes.{program, comment, directive, variable_declaration, variable_declarator, binding_identifier, expression_statement, block, if_statement, empty_statement, identifier_reference, this_expression, null_literal, boolean_literal, numeric_literal, big_int_literal, string_literal, parenthesized, binary, logical, identifier_name, static_member, computed_member, call, chain, spread, array, object_property, object_expression, unary, new_target, update, new_expression, super, import_meta, conditional, sequence, assignment, formal_parameter, formal_parameter_rest, formal_parameters, function, function_body, arrow_function, for_statement, for_in_statement, for_of_statement, while_statement, do_while_statement, label_identifier, labeled_statement, continue_statement, break_statement, return_statement, throw_statement, debugger_statement, switch_statement, switch_case, try_statement, catch_clause}
 use Rattle.jsgen_tree.specs.declared.nodes.ExpressionNode.{ExpressionNode}
 use Rattle.jsgen_tree.specs.declared.nodes.DeclarationNode.{DeclarationNode}
 use Rattle.jsgen_tree.specs.declared.nodes.StatementNode.{StatementNode}
@@ -44,6 +44,7 @@ use Rattle.jsgen_tree.specs.declared.operations.NewTarget.{NewTarget}
 use Rattle.jsgen_tree.specs.declared.operations.UpdateExpression.{UpdateExpression}
 use Rattle.jsgen_tree.specs.declared.operations.NewExpression.{NewExpression}
 use Rattle.jsgen_tree.specs.declared.operations.Super.{Super}
+use Rattle.jsgen_tree.specs.declared.operations.ImportMeta.{ImportMeta}
 use Rattle.jsgen_tree.specs.declared.assignments.ConditionalExpression.{ConditionalExpression}
 use Rattle.jsgen_tree.specs.declared.assignments.SequenceExpression.{SequenceExpression}
 use Rattle.jsgen_tree.specs.declared.assignments.AssignmentExpression.{AssignmentExpression}
@@ -242,6 +243,9 @@ new_expression_row plain n = new_expression (record { span = n.span; values = fl
 abbrev pub super_row : Super → Tree
 super_row n = super (record { span = n.span; values = [] })
 
+abbrev pub import_meta_row : ImportMeta → Tree
+import_meta_row n = import_meta (record { span = n.span; values = [] })
+
 abbrev pub conditional_expression_row : {N : Type 0} → (N → Tree) → ConditionalExpression N → Tree
 conditional_expression_row plain n = conditional (record { span = n.span; values = [] }) (in_expression plain n.test) (in_expression plain n.consequent) (in_expression plain n.alternate)
 
@@ -360,6 +364,7 @@ expression_plain plain (expression.UpdateExpression b) = update_expression_row p
 expression_plain plain (expression.NewExpression b) = new_expression_row plain b.value
 expression_plain plain (expression.NewTarget b) = new_target_row b.value
 expression_plain plain (expression.Super b) = super_row b.value
+expression_plain plain (expression.ImportMeta b) = import_meta_row b.value
 expression_plain plain (expression.ConditionalExpression b) = conditional_expression_row plain b.value
 expression_plain plain (expression.SequenceExpression b) = sequence_expression_row plain b.value
 expression_plain plain (expression.AssignmentExpression b) = assignment_expression_row plain b.value

@@ -28,6 +28,7 @@ is_expression types.UpdateExpression = true
 is_expression types.NewExpression = true
 is_expression types.NewTarget = true
 is_expression types.Super = true
+is_expression types.ImportMeta = true
 is_expression types.ConditionalExpression = true
 is_expression types.SequenceExpression = true
 is_expression types.AssignmentExpression = true

@@ -52,6 +52,7 @@ expression_span (expression.UpdateExpression b) = b.value.span
 expression_span (expression.NewExpression b) = b.value.span
 expression_span (expression.NewTarget b) = b.value.span
 expression_span (expression.Super b) = b.value.span
+expression_span (expression.ImportMeta b) = b.value.span
 expression_span (expression.ConditionalExpression b) = b.value.span
 expression_span (expression.SequenceExpression b) = b.value.span
 expression_span (expression.AssignmentExpression b) = b.value.span

@@ -50,7 +50,9 @@ pub use loops::{
 pub use names::is_proto;
 pub use nodes::{BindingPatternNode, DeclarationNode, ExpressionNode, Node, StatementNode};
 pub use numbers::{NumericValue, behind_minus};
-pub use operations::{NewExpression, NewTarget, Super, UnaryExpression, UpdateExpression};
+pub use operations::{
+    ImportMeta, NewExpression, NewTarget, Super, UnaryExpression, UpdateExpression,
+};
 pub use options::{CodegenOptions, CommentOptions, LegalComment};
 pub use scoping::{PrivateMappings, Scoping, Tables};
 pub use sets::{

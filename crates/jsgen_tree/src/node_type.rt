@@ -40,6 +40,7 @@ impl Expression {
             Expression::NewExpression(_) => NodeType::NewExpression,
             Expression::NewTarget(_) => NodeType::NewTarget,
             Expression::Super(_) => NodeType::Super,
+            Expression::ImportMeta(_) => NodeType::ImportMeta,
             Expression::ConditionalExpression(_) => NodeType::ConditionalExpression,
             Expression::SequenceExpression(_) => NodeType::SequenceExpression,
             Expression::AssignmentExpression(_) => NodeType::AssignmentExpression,

@@ -43,3 +43,9 @@ pub struct NewExpression<N = Node> {
 pub struct Super {
     pub span: Span,
 }
+
+/// The meta property `import.meta` (ECMA-262, 13.3.12).
+#[derive(Drop)]
+pub struct ImportMeta {
+    pub span: Span,
+}

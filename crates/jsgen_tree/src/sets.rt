@@ -16,7 +16,9 @@ use crate::loops::{
     WhileStatement,
 };
 use crate::nodes::{DeclarationNode, ExpressionNode, Node};
-use crate::operations::{NewExpression, NewTarget, Super, UnaryExpression, UpdateExpression};
+use crate::operations::{
+    ImportMeta, NewExpression, NewTarget, Super, UnaryExpression, UpdateExpression,
+};
 use crate::statements::{
     BindingIdentifier, BlockStatement, EmptyStatement, ExpressionStatement, IfStatement,
     VariableDeclaration,
@@ -45,6 +47,7 @@ pub enum Expression<N = Node> {
     NewExpression(Box<NewExpression<N>>),
     NewTarget(Box<NewTarget>),
     Super(Box<Super>),
+    ImportMeta(Box<ImportMeta>),
     ConditionalExpression(Box<ConditionalExpression<N>>),
     SequenceExpression(Box<SequenceExpression<N>>),
     AssignmentExpression(Box<AssignmentExpression<N>>),

@@ -23,7 +23,9 @@ use crate::loops::{
     ThrowStatement, WhileStatement,
 };
 use crate::nodes::Node;
-use crate::operations::{NewExpression, NewTarget, Super, UnaryExpression, UpdateExpression};
+use crate::operations::{
+    ImportMeta, NewExpression, NewTarget, Super, UnaryExpression, UpdateExpression,
+};
 use crate::sets::{
     Argument, ArrayExpressionElement, ArrowFunctionBody, AssignmentTarget, BindingPattern,
     ChainElement, Declaration, Expression, ForStatementInit, ForStatementLeft, ObjectPropertyKind,
@@ -317,6 +319,14 @@ impl GetSpan for Super {
     }
 }
 
+impl GetSpan for ImportMeta {
+    ghost own_span = { λ n. n.span };
+
+    fn span(&self) -> Span {
+        self.span
+    }
+}
+
 impl<N> GetSpan for ConditionalExpression<N> {
     ghost own_span = { λ n. n.span };
 
@@ -543,6 +553,7 @@ impl<N> GetSpan for Expression<N> {
             Expression::NewExpression(node) => node.span,
             Expression::NewTarget(node) => node.span,
             Expression::Super(node) => node.span,
+            Expression::ImportMeta(node) => node.span,
             Expression::ConditionalExpression(node) => node.span,
             Expression::SequenceExpression(node) => node.span,
             Expression::AssignmentExpression(node) => node.span,

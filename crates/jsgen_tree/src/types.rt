@@ -40,6 +40,7 @@ pub enum NodeType {
     UpdateExpression,
     NewExpression,
     Super,
+    ImportMeta,
     ConditionalExpression,
     SequenceExpression,
     AssignmentExpression,
@@ -162,6 +163,7 @@ impl NodeType {
                 | NodeType::NewExpression
                 | NodeType::NewTarget
                 | NodeType::Super
+                | NodeType::ImportMeta
                 | NodeType::ConditionalExpression
                 | NodeType::SequenceExpression
                 | NodeType::AssignmentExpression
@@ -198,6 +200,7 @@ impl NodeType {
                 | NodeType::NewExpression
                 | NodeType::NewTarget
                 | NodeType::Super
+                | NodeType::ImportMeta
                 | NodeType::ConditionalExpression
                 | NodeType::SequenceExpression
                 | NodeType::AssignmentExpression
@@ -234,6 +237,7 @@ impl NodeType {
                 | NodeType::NewExpression
                 | NodeType::NewTarget
                 | NodeType::Super
+                | NodeType::ImportMeta
                 | NodeType::ConditionalExpression
                 | NodeType::SequenceExpression
                 | NodeType::AssignmentExpression
@@ -306,6 +310,7 @@ impl NodeType {
                 | NodeType::NewExpression
                 | NodeType::NewTarget
                 | NodeType::Super
+                | NodeType::ImportMeta
                 | NodeType::ConditionalExpression
                 | NodeType::SequenceExpression
                 | NodeType::AssignmentExpression
@@ -342,6 +347,7 @@ impl NodeType {
                 | NodeType::NewExpression
                 | NodeType::NewTarget
                 | NodeType::Super
+                | NodeType::ImportMeta
                 | NodeType::ConditionalExpression
                 | NodeType::SequenceExpression
                 | NodeType::AssignmentExpression
@@ -398,6 +404,7 @@ impl NodeType {
                 | NodeType::NewExpression
                 | NodeType::NewTarget
                 | NodeType::Super
+                | NodeType::ImportMeta
                 | NodeType::ConditionalExpression
                 | NodeType::SequenceExpression
                 | NodeType::AssignmentExpression

@@ -18,8 +18,11 @@ returns-in-NewExpression g c = rw c.in-NewExpression.is (rw c.deref-in-NewExpres
 pub returns-in-Super : goal.returns-in-Super
 returns-in-Super g c = rw c.in-Super.is (rw c.deref-in-Super.ensures at c.print_super.ensures)
 
+pub returns-in-ImportMeta : goal.returns-in-ImportMeta
+returns-in-ImportMeta g c = rw c.in-ImportMeta.is (rw c.deref-in-ImportMeta.ensures at c.print_import_meta.ensures)
+
 pub returns-in_default : goal.returns-in_default
 returns-in_default g c = c.print_expression_in_assignments.ensures
 
 pub print_expression_in_assignments-requires : goal.print_expression_in_assignments-requires
-print_expression_in_assignments-requires g c = expression_past_2 c.args.node.now c.requires c.in_default.not-UnaryExpression c.in_default.not-NewTarget c.in_default.not-UpdateExpression c.in_default.not-NewExpression c.in_default.not-Super
+print_expression_in_assignments-requires g c = expression_past_2 c.args.node.now c.requires c.in_default.not-UnaryExpression c.in_default.not-NewTarget c.in_default.not-UpdateExpression c.in_default.not-NewExpression c.in_default.not-Super c.in_default.not-ImportMeta
