@@ -181,8 +181,11 @@ are_same tables m n = bytes_eq (printed_name tables m) (printed_name tables n)
 -- ---- regular expressions
 
 -- behind `/` a pattern would begin a comment, and behind `<` one that begins with `script` the end of a page's script
+abbrev pub is_barred_before : List ℕ → ℕ → Bool
+is_barred_before pattern c = (c == 47) || ((c == 60) && begins_script pattern)
+
 abbrev pub joins_pattern : List ℕ → List ℕ → Bool
-joins_pattern code pattern = option_map_or (λ c. (c == 47) || ((c == 60) && begins_script pattern)) (last_or None code) false
+joins_pattern code pattern = option_map_or (is_barred_before pattern) (last_or None code) false
 
 -- the pattern between its slashes, and the flags
 abbrev pub regular_expression_text : Bool → List ℕ → List ℕ → List ℕ

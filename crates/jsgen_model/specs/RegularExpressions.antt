@@ -33,15 +33,15 @@ abbrev pub flag_letters : List ℕ
 flag_letters = codes "dgimsuvy"
 
 abbrev pub is_flag : ℕ → Bool
-is_flag c = list_any (λ letter. letter == c) flag_letters
-
-abbrev pub holds : ℕ → List ℕ → Bool
-holds letter cs = list_any (λ c. c == letter) cs
+is_flag c = list_any (λ letter. c == letter) flag_letters
 
 abbrev pub comes_twice : ℕ → List ℕ → Bool
 comes_twice letter [] = false
-comes_twice letter (c ∷ cs) = if c == letter then holds letter cs else comes_twice letter cs
+comes_twice letter (c ∷ cs) = if c == letter then list_any (λ d. d == letter) cs else comes_twice letter cs
 
--- RegularExpressionFlags of which each is a flag and none comes twice
+abbrev pub some_comes_twice : List ℕ → Bool
+some_comes_twice cs = list_any (λ letter. comes_twice letter cs) flag_letters
+
+-- RegularExpressionFlags, of which each is one of these letters, and none comes twice
 abbrev pub are_flags : List ℕ → Bool
-are_flags cs = list_all is_flag cs && not (list_any (λ letter. comes_twice letter cs) flag_letters)
+are_flags cs = list_all is_flag cs && not (some_comes_twice cs)

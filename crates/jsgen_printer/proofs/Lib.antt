@@ -5,6 +5,7 @@ pub mod Bangs
 pub mod Handed
 pub mod Numbers
 pub mod Operators
+mod Patterns
 pub mod Prefixes
 pub mod Sequence
 pub mod Texts
