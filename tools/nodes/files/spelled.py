@@ -283,7 +283,9 @@ class Body:
         return self.step("print_name", "node.span", f"node.{f.rust}.as_str()")
 
     def step_pattern(self, pattern, flags):
-        return self.step("print_regular_expression", f"node.{pattern.rust}.as_str()", f"node.{flags.rust}.as_str()")
+        said = [self.call("as_str"), self.call("as_str")]
+        printed = self.step("print_regular_expression", f"node.{pattern.rust}.as_str()", f"node.{flags.rust}.as_str()")
+        return f"(rw ({said[0]}.ensures.value, {said[1]}.ensures.value) at {printed})"
 
     def step_unary_sign(self, f):
         return self.step("print_unary_operator", f"node.{f.rust}")
