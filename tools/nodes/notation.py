@@ -11,6 +11,7 @@
     HEAD             C TAB ^ m
     NAME f           a name as it is written, with its mark
     WORD f           the word of a field of words
+    PATTERN f g      a regular expression by its pattern and its flags
     UNARY f          an operator before its operand
     f                a child at the level Lowest, with what is forbidden here forbidden there; f@L+ the same at the level L;
                      f@L at the level L, with nothing forbidden; f@L% where calls may stand; f@= at the row's own place
@@ -143,6 +144,9 @@ class Reader:
 
     def read_NAME(self):
         return [("name", self.field(self.take()[1], ["text"]))]
+
+    def read_PATTERN(self):
+        return [("pattern", self.field(self.take()[1], ["text"]), self.field(self.take()[1], ["text"]))]
 
     def read_WORD(self):
         return [("field_word", self.field(self.take()[1], self.table.words))]

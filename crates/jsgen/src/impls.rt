@@ -13,10 +13,10 @@ use jsgen_tree::{
     FunctionBody, IdentifierName, IdentifierReference, IfStatement, ImportMeta, LabelIdentifier,
     LabeledStatement, LogicalExpression, NewExpression, NewTarget, NullLiteral, NumericLiteral,
     ObjectExpression, ObjectProperty, ObjectPropertyKind, ParenthesizedExpression, Program,
-    PropertyKey, ReturnStatement, SequenceExpression, SimpleAssignmentTarget, SpreadElement,
-    Statement, StaticMemberExpression, StringLiteral, Super, SwitchCase, SwitchStatement,
-    ThisExpression, ThrowStatement, TryStatement, UnaryExpression, UpdateExpression,
-    VariableDeclaration, VariableDeclarator, WhileStatement,
+    PropertyKey, RegExpLiteral, ReturnStatement, SequenceExpression, SimpleAssignmentTarget,
+    SpreadElement, Statement, StaticMemberExpression, StringLiteral, Super, SwitchCase,
+    SwitchStatement, ThisExpression, ThrowStatement, TryStatement, UnaryExpression,
+    UpdateExpression, VariableDeclaration, VariableDeclarator, WhileStatement,
 };
 
 impl Gen for Program {}
@@ -50,6 +50,8 @@ impl GenExpr for NumericLiteral {}
 impl GenExpr for BigIntLiteral {}
 
 impl Gen for StringLiteral {}
+
+impl Gen for RegExpLiteral {}
 
 impl GenExpr for ParenthesizedExpression {}
 

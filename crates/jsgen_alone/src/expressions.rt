@@ -1,6 +1,6 @@
 // Generated from tools/nodes/table.txt; edit that and run tools/nodes/generate.
 // What is printed by itself, or at a level.
-ghost use Rattle.jsgen_tree.specs.Rows.{identifier_reference_row, this_expression_row, null_literal_row, boolean_literal_row, numeric_literal_row, big_int_literal_row, string_literal_row, parenthesized_expression_row, binary_expression_row, logical_expression_row, identifier_name_row, static_member_expression_row, computed_member_expression_row, call_expression_row, chain_expression_row};
+ghost use Rattle.jsgen_tree.specs.Rows.{identifier_reference_row, this_expression_row, null_literal_row, boolean_literal_row, numeric_literal_row, big_int_literal_row, string_literal_row, reg_exp_literal_row, parenthesized_expression_row, binary_expression_row, logical_expression_row, identifier_name_row, static_member_expression_row, computed_member_expression_row, call_expression_row, chain_expression_row};
 ghost use Rattle.jsgen_syntax.specs.declared.precedence.Precedence.TheVariants.{Lowest};
 ghost use Rattle.jsgen_place.specs.Place.{at_level};
 ghost use Rattle.jsgen_model.specs.Spell.{spell};
@@ -17,13 +17,14 @@ use jsgen_place::{Context, Place};
 use jsgen_printer::Printer;
 use jsgen_spelled::{
     print_identifier_name, print_null_literal, print_parenthesized_expression,
-    print_this_expression,
+    print_reg_exp_literal, print_this_expression,
 };
 use jsgen_syntax::Precedence;
 use jsgen_tree::{
     BigIntLiteral, BinaryExpression, BooleanLiteral, CallExpression, ChainExpression,
     ComputedMemberExpression, IdentifierName, IdentifierReference, LogicalExpression, NullLiteral,
-    NumericLiteral, ParenthesizedExpression, StaticMemberExpression, StringLiteral, ThisExpression,
+    NumericLiteral, ParenthesizedExpression, RegExpLiteral, StaticMemberExpression, StringLiteral,
+    ThisExpression,
 };
 
 impl PrintAlone for IdentifierReference {
@@ -79,6 +80,14 @@ impl PrintAlone for StringLiteral {
 
     fn print_alone(&self, p: &mut Printer<'_>, context: Context) {
         print_string_literal(self, p, Place::at_level(Precedence::Lowest, context));
+    }
+}
+
+impl PrintAlone for RegExpLiteral {
+    ghost alone = { λ n context. spell (reg_exp_literal_row n) (at_level Lowest context) };
+
+    fn print_alone(&self, p: &mut Printer<'_>, context: Context) {
+        print_reg_exp_literal(self, p, Place::at_level(Precedence::Lowest, context));
     }
 }
 

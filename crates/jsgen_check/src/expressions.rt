@@ -1,7 +1,7 @@
 // Generated from tools/nodes/table.txt; edit that and run tools/nodes/generate.
 // Expressions (ECMA-262, clause 13).
 ghost use Rattle.std.specs.Prelude.{◌≡◌};
-ghost use Rattle.jsgen_tree.specs.Rows.{identifier_reference_row, this_expression_row, null_literal_row, boolean_literal_row, numeric_literal_row, big_int_literal_row, string_literal_row, parenthesized_expression_row, binary_expression_row, logical_expression_row, identifier_name_row, static_member_expression_row, computed_member_expression_row, call_expression_row, chain_expression_row};
+ghost use Rattle.jsgen_tree.specs.Rows.{identifier_reference_row, this_expression_row, null_literal_row, boolean_literal_row, numeric_literal_row, big_int_literal_row, string_literal_row, reg_exp_literal_row, parenthesized_expression_row, binary_expression_row, logical_expression_row, identifier_name_row, static_member_expression_row, computed_member_expression_row, call_expression_row, chain_expression_row};
 ghost use Rattle.jsgen_check.specs.Verdict.{tree_verdict};
 
 use crate::children::{check_arguments, check_chain_element};
@@ -9,7 +9,7 @@ use crate::heights::{check_node, higher};
 use crate::rules::{
     check_big_int_literal_rules, check_call_expression_rules, check_chain_expression_rules,
     check_computed_member_expression_rules, check_identifier_name_rules,
-    check_identifier_reference_rules, check_numeric_literal_rules,
+    check_identifier_reference_rules, check_numeric_literal_rules, check_reg_exp_literal_rules,
     check_static_member_expression_rules,
 };
 use crate::{CheckNode, Surroundings, check_child};
@@ -17,8 +17,8 @@ use jsgen_model::TreeFault;
 use jsgen_tree::{
     BigIntLiteral, BinaryExpression, BooleanLiteral, CallExpression, ChainExpression,
     ComputedMemberExpression, IdentifierName, IdentifierReference, LogicalExpression, NodeSet,
-    NullLiteral, NumericLiteral, ParenthesizedExpression, StaticMemberExpression, StringLiteral,
-    ThisExpression,
+    NullLiteral, NumericLiteral, ParenthesizedExpression, RegExpLiteral, StaticMemberExpression,
+    StringLiteral, ThisExpression,
 };
 
 pub fn check_identifier_reference(
@@ -82,6 +82,16 @@ pub fn check_string_literal(
     ensures { result ≡ tree_verdict around.now (string_literal_row node.now) }
 {
     check_node(around, node.span, Ok(()), Ok(0))
+}
+
+pub fn check_reg_exp_literal(
+    node: &RegExpLiteral,
+    around: &Surroundings<'_>,
+) -> Result<u64, TreeFault>
+    ensures { result ≡ tree_verdict around.now (reg_exp_literal_row node.now) }
+{
+    let rules = check_reg_exp_literal_rules(node, around);
+    check_node(around, node.span, rules, Ok(0))
 }
 
 #[inline(never)]

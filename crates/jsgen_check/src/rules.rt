@@ -3,7 +3,7 @@
 
 ghost use Rattle.std.specs.Prelude.{◌≡◌, map};
 ghost use Rattle.jsgen_tree.specs.Tree.{trees};
-ghost use Rattle.jsgen_tree.specs.Rows.{comment_row, directive_row, variable_declaration_row, variable_declarator_row, binding_identifier_row, identifier_reference_row, numeric_literal_row, big_int_literal_row, identifier_name_row, label_identifier_row, in_expression, sequence_expression_row};
+ghost use Rattle.jsgen_tree.specs.Rows.{comment_row, directive_row, variable_declaration_row, variable_declarator_row, binding_identifier_row, identifier_reference_row, numeric_literal_row, big_int_literal_row, reg_exp_literal_row, identifier_name_row, label_identifier_row, in_expression, sequence_expression_row};
 ghost use Rattle.jsgen_model.specs.Valid.{own_faults, declaration_faults, sequence_faults};
 ghost use Rattle.jsgen_rules.specs.Verdict.{verdict};
 ghost use Rattle.jsgen_check.specs.Verdict.{surroundings_plain};
@@ -18,12 +18,12 @@ pub use functions::{check_function_rules, check_return_statement_rules};
 use jsgen_model::TreeFault;
 use jsgen_rules::{
     check_big_integer, check_binding, check_comment, check_label, check_raw, check_raw_number,
-    check_reference, check_written_name,
+    check_reference, check_regular_expression, check_written_name,
 };
 use jsgen_syntax::Span;
 use jsgen_tree::{
     BigIntLiteral, BindingIdentifier, Comment, Directive, ExpressionNode, IdentifierName,
-    IdentifierReference, LabelIdentifier, NumericLiteral, NumericValue, SequenceExpression,
+    IdentifierReference, LabelIdentifier, NumericLiteral, NumericValue, RegExpLiteral, SequenceExpression,
     VariableDeclaration, VariableDeclarator,
 };
 pub use keys::check_object_property_rules;
@@ -130,6 +130,17 @@ pub fn check_numeric_literal_rules(
         NumericValue::Whole { .. } => Ok(()),
         NumericValue::Raw(text) => check_raw_number(text, node.span),
     }
+}
+
+#[tactic(auto)]
+pub fn check_reg_exp_literal_rules(
+    node: &RegExpLiteral,
+    around: &Surroundings<'_>,
+) -> Result<(), TreeFault>
+    ensures { result ≡ verdict (own_faults (surroundings_plain around.now) (reg_exp_literal_row node.now)) }
+{
+    let _ = around;
+    check_regular_expression(&node.pattern, &node.flags, node.span)
 }
 
 #[tactic(auto)]

@@ -13,8 +13,8 @@ use crate::expressions::{
     check_big_int_literal, check_binary_expression, check_boolean_literal, check_call_expression,
     check_chain_expression, check_computed_member_expression, check_identifier_reference,
     check_logical_expression, check_null_literal, check_numeric_literal,
-    check_parenthesized_expression, check_static_member_expression, check_string_literal,
-    check_this_expression,
+    check_parenthesized_expression, check_reg_exp_literal, check_static_member_expression,
+    check_string_literal, check_this_expression,
 };
 use crate::functions::{check_arrow_function_expression, check_function};
 use crate::loops::{
@@ -49,6 +49,7 @@ pub fn check_expression_set<N: CheckNode>(
         Expression::NumericLiteral(node) => check_numeric_literal(node, around),
         Expression::BigIntLiteral(node) => check_big_int_literal(node, around),
         Expression::StringLiteral(node) => check_string_literal(node, around),
+        Expression::RegExpLiteral(node) => check_reg_exp_literal(node, around),
         Expression::BinaryExpression(node) => check_binary_expression(node, around),
         Expression::LogicalExpression(node) => check_logical_expression(node, around),
         Expression::ParenthesizedExpression(node) => check_parenthesized_expression(node, around),

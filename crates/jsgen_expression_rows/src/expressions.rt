@@ -2,7 +2,7 @@
 // Rows of a job: expressions (ECMA-262, clause 13).
 ghost use Rattle.std.specs.Prelude.{◌≡◌, true};
 ghost use Rattle.serde_json.specs.View.{view};
-ghost use Rattle.jsgen_tree.specs.RowFields.{identifier_reference_fields, this_expression_fields, null_literal_fields, boolean_literal_fields, big_int_literal_fields, string_literal_fields, parenthesized_expression_fields, binary_expression_fields, logical_expression_fields, identifier_name_fields, static_member_expression_fields, computed_member_expression_fields, call_expression_fields, chain_expression_fields};
+ghost use Rattle.jsgen_tree.specs.RowFields.{identifier_reference_fields, this_expression_fields, null_literal_fields, boolean_literal_fields, big_int_literal_fields, string_literal_fields, reg_exp_literal_fields, parenthesized_expression_fields, binary_expression_fields, logical_expression_fields, identifier_name_fields, static_member_expression_fields, computed_member_expression_fields, call_expression_fields, chain_expression_fields};
 ghost use Rattle.jsgen_fields.specs.Reads.{Gives, read_node, read_typed};
 ghost use Rattle.jsgen_pool.specs.Pool.{entries};
 ghost use Rattle.jsgen_fields.specs.Parts.{is_in_expressions};
@@ -27,8 +27,8 @@ use jsgen_syntax::Span;
 use jsgen_tree::{
     BigIntLiteral, BinaryExpression, BooleanLiteral, CallExpression, ChainExpression,
     ComputedMemberExpression, Expression, IdentifierName, IdentifierReference, LogicalExpression,
-    NodeType, NullLiteral, ParenthesizedExpression, StaticMemberExpression, StringLiteral,
-    ThisExpression,
+    NodeType, NullLiteral, ParenthesizedExpression, RegExpLiteral, StaticMemberExpression,
+    StringLiteral, ThisExpression,
 };
 use serde_json::Value;
 use std::alloc::Global;
@@ -199,6 +199,42 @@ fn read_string_literal<N: PlainNode + Drop, R: RowOf<N> + Drop>(
             alloc,
             OtherExpression {
                 expression: Expression::StringLiteral(node),
+            },
+        ),
+        Err(fault) => Err(fault),
+    }
+}
+
+#[tactic(auto, unfolding(jsgen_fields::specs::Reads::read_node))]
+fn read_reg_exp_literal<N: PlainNode + Drop, R: RowOf<N> + Drop>(
+    alloc: Global,
+    kept: &mut Vec<Kept<R>>,
+    number: usize,
+    span: Span,
+    row: &Value,
+) -> Result<R, InputFault>
+    ensures { Gives R.plain result (entries R.plain kept.new.items)
+        (read_node number types.RegExpLiteral reg_exp_literal_fields span (view row.now) (entries R.plain kept.old.items)) }
+{
+    let _ = kept;
+    let pattern = match needed_text(alloc, number, 2, row, "pattern") {
+        Ok(pattern) => pattern,
+        Err(fault) => return Err(fault),
+    };
+    let flags = match needed_text(alloc, number, 3, row, "flags") {
+        Ok(flags) => flags,
+        Err(fault) => return Err(fault),
+    };
+    let node = RegExpLiteral {
+        span,
+        pattern,
+        flags,
+    };
+    match boxed(alloc, node) {
+        Ok(node) => row_of_expression::<N, R>(
+            alloc,
+            OtherExpression {
+                expression: Expression::RegExpLiteral(node),
             },
         ),
         Err(fault) => Err(fault),
@@ -514,6 +550,7 @@ pub fn read_in_expressions<N: ReadNode + Drop, R: RowOf<N> + Drop>(
         NodeType::NumericLiteral => read_numeric_literal::<N, R>(alloc, kept, number, span, row),
         NodeType::BigIntLiteral => read_big_int_literal::<N, R>(alloc, kept, number, span, row),
         NodeType::StringLiteral => read_string_literal::<N, R>(alloc, kept, number, span, row),
+        NodeType::RegExpLiteral => read_reg_exp_literal::<N, R>(alloc, kept, number, span, row),
         NodeType::ParenthesizedExpression => read_parenthesized_expression::<N, R>(
             alloc, kept, number, span, row,
         ),

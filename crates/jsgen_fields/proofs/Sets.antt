@@ -49,34 +49,35 @@ of_statement plain f b h0 h1 h2 h3 h4 h5 h6 h7 h8 h9 h10 h11 h12 h13 h14 h15 h16
 of_statement plain f b h0 h1 h2 h3 h4 h5 h6 h7 h8 h9 h10 h11 h12 h13 h14 h15 h16 (statements.SwitchStatement r) o = h15
 of_statement plain f b h0 h1 h2 h3 h4 h5 h6 h7 h8 h9 h10 h11 h12 h13 h14 h15 h16 (statements.TryStatement r) o = h16
 
-of_expression : {N : Type 0} (plain : N → Tree) (f : NodeType → Bool) (b : Bool) → f types.IdentifierReference ≡ b → f types.ThisExpression ≡ b → f types.NullLiteral ≡ b → f types.BooleanLiteral ≡ b → f types.NumericLiteral ≡ b → f types.BigIntLiteral ≡ b → f types.StringLiteral ≡ b → f types.BinaryExpression ≡ b → f types.LogicalExpression ≡ b → f types.ParenthesizedExpression ≡ b → f types.StaticMemberExpression ≡ b → f types.ComputedMemberExpression ≡ b → f types.CallExpression ≡ b → f types.ChainExpression ≡ b → f types.ArrayExpression ≡ b → f types.ObjectExpression ≡ b → f types.UnaryExpression ≡ b → f types.UpdateExpression ≡ b → f types.NewExpression ≡ b → f types.NewTarget ≡ b → f types.Super ≡ b → f types.ImportMeta ≡ b → f types.ConditionalExpression ≡ b → f types.SequenceExpression ≡ b → f types.AssignmentExpression ≡ b → f types.ArrowFunctionExpression ≡ b → (r : Expression N) → is_other_expression r ≡ true → f (type_of (expression_plain plain r)) ≡ b
-of_expression plain f b h0 h1 h2 h3 h4 h5 h6 h7 h8 h9 h10 h11 h12 h13 h14 h15 h16 h17 h18 h19 h20 h21 h22 h23 h24 h25 (expressions.Function r) o = cc
-of_expression plain f b h0 h1 h2 h3 h4 h5 h6 h7 h8 h9 h10 h11 h12 h13 h14 h15 h16 h17 h18 h19 h20 h21 h22 h23 h24 h25 (expressions.IdentifierReference r) o = h0
-of_expression plain f b h0 h1 h2 h3 h4 h5 h6 h7 h8 h9 h10 h11 h12 h13 h14 h15 h16 h17 h18 h19 h20 h21 h22 h23 h24 h25 (expressions.ThisExpression r) o = h1
-of_expression plain f b h0 h1 h2 h3 h4 h5 h6 h7 h8 h9 h10 h11 h12 h13 h14 h15 h16 h17 h18 h19 h20 h21 h22 h23 h24 h25 (expressions.NullLiteral r) o = h2
-of_expression plain f b h0 h1 h2 h3 h4 h5 h6 h7 h8 h9 h10 h11 h12 h13 h14 h15 h16 h17 h18 h19 h20 h21 h22 h23 h24 h25 (expressions.BooleanLiteral r) o = h3
-of_expression plain f b h0 h1 h2 h3 h4 h5 h6 h7 h8 h9 h10 h11 h12 h13 h14 h15 h16 h17 h18 h19 h20 h21 h22 h23 h24 h25 (expressions.NumericLiteral r) o = h4
-of_expression plain f b h0 h1 h2 h3 h4 h5 h6 h7 h8 h9 h10 h11 h12 h13 h14 h15 h16 h17 h18 h19 h20 h21 h22 h23 h24 h25 (expressions.BigIntLiteral r) o = h5
-of_expression plain f b h0 h1 h2 h3 h4 h5 h6 h7 h8 h9 h10 h11 h12 h13 h14 h15 h16 h17 h18 h19 h20 h21 h22 h23 h24 h25 (expressions.StringLiteral r) o = h6
-of_expression plain f b h0 h1 h2 h3 h4 h5 h6 h7 h8 h9 h10 h11 h12 h13 h14 h15 h16 h17 h18 h19 h20 h21 h22 h23 h24 h25 (expressions.BinaryExpression r) o = h7
-of_expression plain f b h0 h1 h2 h3 h4 h5 h6 h7 h8 h9 h10 h11 h12 h13 h14 h15 h16 h17 h18 h19 h20 h21 h22 h23 h24 h25 (expressions.LogicalExpression r) o = h8
-of_expression plain f b h0 h1 h2 h3 h4 h5 h6 h7 h8 h9 h10 h11 h12 h13 h14 h15 h16 h17 h18 h19 h20 h21 h22 h23 h24 h25 (expressions.ParenthesizedExpression r) o = h9
-of_expression plain f b h0 h1 h2 h3 h4 h5 h6 h7 h8 h9 h10 h11 h12 h13 h14 h15 h16 h17 h18 h19 h20 h21 h22 h23 h24 h25 (expressions.StaticMemberExpression r) o = h10
-of_expression plain f b h0 h1 h2 h3 h4 h5 h6 h7 h8 h9 h10 h11 h12 h13 h14 h15 h16 h17 h18 h19 h20 h21 h22 h23 h24 h25 (expressions.ComputedMemberExpression r) o = h11
-of_expression plain f b h0 h1 h2 h3 h4 h5 h6 h7 h8 h9 h10 h11 h12 h13 h14 h15 h16 h17 h18 h19 h20 h21 h22 h23 h24 h25 (expressions.CallExpression r) o = h12
-of_expression plain f b h0 h1 h2 h3 h4 h5 h6 h7 h8 h9 h10 h11 h12 h13 h14 h15 h16 h17 h18 h19 h20 h21 h22 h23 h24 h25 (expressions.ChainExpression r) o = h13
-of_expression plain f b h0 h1 h2 h3 h4 h5 h6 h7 h8 h9 h10 h11 h12 h13 h14 h15 h16 h17 h18 h19 h20 h21 h22 h23 h24 h25 (expressions.ArrayExpression r) o = h14
-of_expression plain f b h0 h1 h2 h3 h4 h5 h6 h7 h8 h9 h10 h11 h12 h13 h14 h15 h16 h17 h18 h19 h20 h21 h22 h23 h24 h25 (expressions.ObjectExpression r) o = h15
-of_expression plain f b h0 h1 h2 h3 h4 h5 h6 h7 h8 h9 h10 h11 h12 h13 h14 h15 h16 h17 h18 h19 h20 h21 h22 h23 h24 h25 (expressions.UnaryExpression r) o = h16
-of_expression plain f b h0 h1 h2 h3 h4 h5 h6 h7 h8 h9 h10 h11 h12 h13 h14 h15 h16 h17 h18 h19 h20 h21 h22 h23 h24 h25 (expressions.UpdateExpression r) o = h17
-of_expression plain f b h0 h1 h2 h3 h4 h5 h6 h7 h8 h9 h10 h11 h12 h13 h14 h15 h16 h17 h18 h19 h20 h21 h22 h23 h24 h25 (expressions.NewExpression r) o = h18
-of_expression plain f b h0 h1 h2 h3 h4 h5 h6 h7 h8 h9 h10 h11 h12 h13 h14 h15 h16 h17 h18 h19 h20 h21 h22 h23 h24 h25 (expressions.NewTarget r) o = h19
-of_expression plain f b h0 h1 h2 h3 h4 h5 h6 h7 h8 h9 h10 h11 h12 h13 h14 h15 h16 h17 h18 h19 h20 h21 h22 h23 h24 h25 (expressions.Super r) o = h20
-of_expression plain f b h0 h1 h2 h3 h4 h5 h6 h7 h8 h9 h10 h11 h12 h13 h14 h15 h16 h17 h18 h19 h20 h21 h22 h23 h24 h25 (expressions.ImportMeta r) o = h21
-of_expression plain f b h0 h1 h2 h3 h4 h5 h6 h7 h8 h9 h10 h11 h12 h13 h14 h15 h16 h17 h18 h19 h20 h21 h22 h23 h24 h25 (expressions.ConditionalExpression r) o = h22
-of_expression plain f b h0 h1 h2 h3 h4 h5 h6 h7 h8 h9 h10 h11 h12 h13 h14 h15 h16 h17 h18 h19 h20 h21 h22 h23 h24 h25 (expressions.SequenceExpression r) o = h23
-of_expression plain f b h0 h1 h2 h3 h4 h5 h6 h7 h8 h9 h10 h11 h12 h13 h14 h15 h16 h17 h18 h19 h20 h21 h22 h23 h24 h25 (expressions.AssignmentExpression r) o = h24
-of_expression plain f b h0 h1 h2 h3 h4 h5 h6 h7 h8 h9 h10 h11 h12 h13 h14 h15 h16 h17 h18 h19 h20 h21 h22 h23 h24 h25 (expressions.ArrowFunctionExpression r) o = h25
+of_expression : {N : Type 0} (plain : N → Tree) (f : NodeType → Bool) (b : Bool) → f types.IdentifierReference ≡ b → f types.ThisExpression ≡ b → f types.NullLiteral ≡ b → f types.BooleanLiteral ≡ b → f types.NumericLiteral ≡ b → f types.BigIntLiteral ≡ b → f types.StringLiteral ≡ b → f types.RegExpLiteral ≡ b → f types.BinaryExpression ≡ b → f types.LogicalExpression ≡ b → f types.ParenthesizedExpression ≡ b → f types.StaticMemberExpression ≡ b → f types.ComputedMemberExpression ≡ b → f types.CallExpression ≡ b → f types.ChainExpression ≡ b → f types.ArrayExpression ≡ b → f types.ObjectExpression ≡ b → f types.UnaryExpression ≡ b → f types.UpdateExpression ≡ b → f types.NewExpression ≡ b → f types.NewTarget ≡ b → f types.Super ≡ b → f types.ImportMeta ≡ b → f types.ConditionalExpression ≡ b → f types.SequenceExpression ≡ b → f types.AssignmentExpression ≡ b → f types.ArrowFunctionExpression ≡ b → (r : Expression N) → is_other_expression r ≡ true → f (type_of (expression_plain plain r)) ≡ b
+of_expression plain f b h0 h1 h2 h3 h4 h5 h6 h7 h8 h9 h10 h11 h12 h13 h14 h15 h16 h17 h18 h19 h20 h21 h22 h23 h24 h25 h26 (expressions.Function r) o = cc
+of_expression plain f b h0 h1 h2 h3 h4 h5 h6 h7 h8 h9 h10 h11 h12 h13 h14 h15 h16 h17 h18 h19 h20 h21 h22 h23 h24 h25 h26 (expressions.IdentifierReference r) o = h0
+of_expression plain f b h0 h1 h2 h3 h4 h5 h6 h7 h8 h9 h10 h11 h12 h13 h14 h15 h16 h17 h18 h19 h20 h21 h22 h23 h24 h25 h26 (expressions.ThisExpression r) o = h1
+of_expression plain f b h0 h1 h2 h3 h4 h5 h6 h7 h8 h9 h10 h11 h12 h13 h14 h15 h16 h17 h18 h19 h20 h21 h22 h23 h24 h25 h26 (expressions.NullLiteral r) o = h2
+of_expression plain f b h0 h1 h2 h3 h4 h5 h6 h7 h8 h9 h10 h11 h12 h13 h14 h15 h16 h17 h18 h19 h20 h21 h22 h23 h24 h25 h26 (expressions.BooleanLiteral r) o = h3
+of_expression plain f b h0 h1 h2 h3 h4 h5 h6 h7 h8 h9 h10 h11 h12 h13 h14 h15 h16 h17 h18 h19 h20 h21 h22 h23 h24 h25 h26 (expressions.NumericLiteral r) o = h4
+of_expression plain f b h0 h1 h2 h3 h4 h5 h6 h7 h8 h9 h10 h11 h12 h13 h14 h15 h16 h17 h18 h19 h20 h21 h22 h23 h24 h25 h26 (expressions.BigIntLiteral r) o = h5
+of_expression plain f b h0 h1 h2 h3 h4 h5 h6 h7 h8 h9 h10 h11 h12 h13 h14 h15 h16 h17 h18 h19 h20 h21 h22 h23 h24 h25 h26 (expressions.StringLiteral r) o = h6
+of_expression plain f b h0 h1 h2 h3 h4 h5 h6 h7 h8 h9 h10 h11 h12 h13 h14 h15 h16 h17 h18 h19 h20 h21 h22 h23 h24 h25 h26 (expressions.RegExpLiteral r) o = h7
+of_expression plain f b h0 h1 h2 h3 h4 h5 h6 h7 h8 h9 h10 h11 h12 h13 h14 h15 h16 h17 h18 h19 h20 h21 h22 h23 h24 h25 h26 (expressions.BinaryExpression r) o = h8
+of_expression plain f b h0 h1 h2 h3 h4 h5 h6 h7 h8 h9 h10 h11 h12 h13 h14 h15 h16 h17 h18 h19 h20 h21 h22 h23 h24 h25 h26 (expressions.LogicalExpression r) o = h9
+of_expression plain f b h0 h1 h2 h3 h4 h5 h6 h7 h8 h9 h10 h11 h12 h13 h14 h15 h16 h17 h18 h19 h20 h21 h22 h23 h24 h25 h26 (expressions.ParenthesizedExpression r) o = h10
+of_expression plain f b h0 h1 h2 h3 h4 h5 h6 h7 h8 h9 h10 h11 h12 h13 h14 h15 h16 h17 h18 h19 h20 h21 h22 h23 h24 h25 h26 (expressions.StaticMemberExpression r) o = h11
+of_expression plain f b h0 h1 h2 h3 h4 h5 h6 h7 h8 h9 h10 h11 h12 h13 h14 h15 h16 h17 h18 h19 h20 h21 h22 h23 h24 h25 h26 (expressions.ComputedMemberExpression r) o = h12
+of_expression plain f b h0 h1 h2 h3 h4 h5 h6 h7 h8 h9 h10 h11 h12 h13 h14 h15 h16 h17 h18 h19 h20 h21 h22 h23 h24 h25 h26 (expressions.CallExpression r) o = h13
+of_expression plain f b h0 h1 h2 h3 h4 h5 h6 h7 h8 h9 h10 h11 h12 h13 h14 h15 h16 h17 h18 h19 h20 h21 h22 h23 h24 h25 h26 (expressions.ChainExpression r) o = h14
+of_expression plain f b h0 h1 h2 h3 h4 h5 h6 h7 h8 h9 h10 h11 h12 h13 h14 h15 h16 h17 h18 h19 h20 h21 h22 h23 h24 h25 h26 (expressions.ArrayExpression r) o = h15
+of_expression plain f b h0 h1 h2 h3 h4 h5 h6 h7 h8 h9 h10 h11 h12 h13 h14 h15 h16 h17 h18 h19 h20 h21 h22 h23 h24 h25 h26 (expressions.ObjectExpression r) o = h16
+of_expression plain f b h0 h1 h2 h3 h4 h5 h6 h7 h8 h9 h10 h11 h12 h13 h14 h15 h16 h17 h18 h19 h20 h21 h22 h23 h24 h25 h26 (expressions.UnaryExpression r) o = h17
+of_expression plain f b h0 h1 h2 h3 h4 h5 h6 h7 h8 h9 h10 h11 h12 h13 h14 h15 h16 h17 h18 h19 h20 h21 h22 h23 h24 h25 h26 (expressions.UpdateExpression r) o = h18
+of_expression plain f b h0 h1 h2 h3 h4 h5 h6 h7 h8 h9 h10 h11 h12 h13 h14 h15 h16 h17 h18 h19 h20 h21 h22 h23 h24 h25 h26 (expressions.NewExpression r) o = h19
+of_expression plain f b h0 h1 h2 h3 h4 h5 h6 h7 h8 h9 h10 h11 h12 h13 h14 h15 h16 h17 h18 h19 h20 h21 h22 h23 h24 h25 h26 (expressions.NewTarget r) o = h20
+of_expression plain f b h0 h1 h2 h3 h4 h5 h6 h7 h8 h9 h10 h11 h12 h13 h14 h15 h16 h17 h18 h19 h20 h21 h22 h23 h24 h25 h26 (expressions.Super r) o = h21
+of_expression plain f b h0 h1 h2 h3 h4 h5 h6 h7 h8 h9 h10 h11 h12 h13 h14 h15 h16 h17 h18 h19 h20 h21 h22 h23 h24 h25 h26 (expressions.ImportMeta r) o = h22
+of_expression plain f b h0 h1 h2 h3 h4 h5 h6 h7 h8 h9 h10 h11 h12 h13 h14 h15 h16 h17 h18 h19 h20 h21 h22 h23 h24 h25 h26 (expressions.ConditionalExpression r) o = h23
+of_expression plain f b h0 h1 h2 h3 h4 h5 h6 h7 h8 h9 h10 h11 h12 h13 h14 h15 h16 h17 h18 h19 h20 h21 h22 h23 h24 h25 h26 (expressions.SequenceExpression r) o = h24
+of_expression plain f b h0 h1 h2 h3 h4 h5 h6 h7 h8 h9 h10 h11 h12 h13 h14 h15 h16 h17 h18 h19 h20 h21 h22 h23 h24 h25 h26 (expressions.AssignmentExpression r) o = h25
+of_expression plain f b h0 h1 h2 h3 h4 h5 h6 h7 h8 h9 h10 h11 h12 h13 h14 h15 h16 h17 h18 h19 h20 h21 h22 h23 h24 h25 h26 (expressions.ArrowFunctionExpression r) o = h26
 
 -- ---- set by set
 
@@ -90,7 +91,7 @@ pub no_statement_is_a_program : {N : Type 0} (plain : N → Tree) (r : OtherStat
 no_statement_is_a_program plain r = of_statement plain is_program false refl refl refl refl refl refl refl refl refl refl refl refl refl refl refl refl refl r.statement r.other
 
 pub no_expression_is_a_program : {N : Type 0} (plain : N → Tree) (r : OtherExpression N) → is_program (type_of (expression_plain plain r.expression)) ≡ false
-no_expression_is_a_program plain r = of_expression plain is_program false refl refl refl refl refl refl refl refl refl refl refl refl refl refl refl refl refl refl refl refl refl refl refl refl refl refl r.expression r.other
+no_expression_is_a_program plain r = of_expression plain is_program false refl refl refl refl refl refl refl refl refl refl refl refl refl refl refl refl refl refl refl refl refl refl refl refl refl refl refl r.expression r.other
 
 pub no_declaration_is_a_comment : {N : Type 0} (plain : N → Tree) (r : OtherDeclaration N) → is_comment (type_of (declaration_plain plain r.declaration)) ≡ false
 no_declaration_is_a_comment plain r = of_declaration plain is_comment false refl r.declaration r.other
@@ -102,7 +103,7 @@ pub no_statement_is_a_comment : {N : Type 0} (plain : N → Tree) (r : OtherStat
 no_statement_is_a_comment plain r = of_statement plain is_comment false refl refl refl refl refl refl refl refl refl refl refl refl refl refl refl refl refl r.statement r.other
 
 pub no_expression_is_a_comment : {N : Type 0} (plain : N → Tree) (r : OtherExpression N) → is_comment (type_of (expression_plain plain r.expression)) ≡ false
-no_expression_is_a_comment plain r = of_expression plain is_comment false refl refl refl refl refl refl refl refl refl refl refl refl refl refl refl refl refl refl refl refl refl refl refl refl refl refl r.expression r.other
+no_expression_is_a_comment plain r = of_expression plain is_comment false refl refl refl refl refl refl refl refl refl refl refl refl refl refl refl refl refl refl refl refl refl refl refl refl refl refl refl r.expression r.other
 
 pub no_declaration_is_a_directive : {N : Type 0} (plain : N → Tree) (r : OtherDeclaration N) → is_directive (type_of (declaration_plain plain r.declaration)) ≡ false
 no_declaration_is_a_directive plain r = of_declaration plain is_directive false refl r.declaration r.other
@@ -114,7 +115,7 @@ pub no_statement_is_a_directive : {N : Type 0} (plain : N → Tree) (r : OtherSt
 no_statement_is_a_directive plain r = of_statement plain is_directive false refl refl refl refl refl refl refl refl refl refl refl refl refl refl refl refl refl r.statement r.other
 
 pub no_expression_is_a_directive : {N : Type 0} (plain : N → Tree) (r : OtherExpression N) → is_directive (type_of (expression_plain plain r.expression)) ≡ false
-no_expression_is_a_directive plain r = of_expression plain is_directive false refl refl refl refl refl refl refl refl refl refl refl refl refl refl refl refl refl refl refl refl refl refl refl refl refl refl r.expression r.other
+no_expression_is_a_directive plain r = of_expression plain is_directive false refl refl refl refl refl refl refl refl refl refl refl refl refl refl refl refl refl refl refl refl refl refl refl refl refl refl refl r.expression r.other
 
 pub each_declaration_is_a_statement : {N : Type 0} (plain : N → Tree) (r : OtherDeclaration N) → is_statement (type_of (declaration_plain plain r.declaration)) ≡ true
 each_declaration_is_a_statement plain r = of_declaration plain is_statement true refl r.declaration r.other
@@ -126,7 +127,7 @@ pub each_statement_is_a_statement : {N : Type 0} (plain : N → Tree) (r : Other
 each_statement_is_a_statement plain r = of_statement plain is_statement true refl refl refl refl refl refl refl refl refl refl refl refl refl refl refl refl refl r.statement r.other
 
 pub no_expression_is_a_statement : {N : Type 0} (plain : N → Tree) (r : OtherExpression N) → is_statement (type_of (expression_plain plain r.expression)) ≡ false
-no_expression_is_a_statement plain r = of_expression plain is_statement false refl refl refl refl refl refl refl refl refl refl refl refl refl refl refl refl refl refl refl refl refl refl refl refl refl refl r.expression r.other
+no_expression_is_a_statement plain r = of_expression plain is_statement false refl refl refl refl refl refl refl refl refl refl refl refl refl refl refl refl refl refl refl refl refl refl refl refl refl refl refl r.expression r.other
 
 pub no_declaration_is_a_variable_declarator : {N : Type 0} (plain : N → Tree) (r : OtherDeclaration N) → is_variable_declarator (type_of (declaration_plain plain r.declaration)) ≡ false
 no_declaration_is_a_variable_declarator plain r = of_declaration plain is_variable_declarator false refl r.declaration r.other
@@ -138,7 +139,7 @@ pub no_statement_is_a_variable_declarator : {N : Type 0} (plain : N → Tree) (r
 no_statement_is_a_variable_declarator plain r = of_statement plain is_variable_declarator false refl refl refl refl refl refl refl refl refl refl refl refl refl refl refl refl refl r.statement r.other
 
 pub no_expression_is_a_variable_declarator : {N : Type 0} (plain : N → Tree) (r : OtherExpression N) → is_variable_declarator (type_of (expression_plain plain r.expression)) ≡ false
-no_expression_is_a_variable_declarator plain r = of_expression plain is_variable_declarator false refl refl refl refl refl refl refl refl refl refl refl refl refl refl refl refl refl refl refl refl refl refl refl refl refl refl r.expression r.other
+no_expression_is_a_variable_declarator plain r = of_expression plain is_variable_declarator false refl refl refl refl refl refl refl refl refl refl refl refl refl refl refl refl refl refl refl refl refl refl refl refl refl refl refl r.expression r.other
 
 pub no_declaration_is_a_binding_pattern : {N : Type 0} (plain : N → Tree) (r : OtherDeclaration N) → is_binding_pattern (type_of (declaration_plain plain r.declaration)) ≡ false
 no_declaration_is_a_binding_pattern plain r = of_declaration plain is_binding_pattern false refl r.declaration r.other
@@ -150,7 +151,7 @@ pub no_statement_is_a_binding_pattern : {N : Type 0} (plain : N → Tree) (r : O
 no_statement_is_a_binding_pattern plain r = of_statement plain is_binding_pattern false refl refl refl refl refl refl refl refl refl refl refl refl refl refl refl refl refl r.statement r.other
 
 pub no_expression_is_a_binding_pattern : {N : Type 0} (plain : N → Tree) (r : OtherExpression N) → is_binding_pattern (type_of (expression_plain plain r.expression)) ≡ false
-no_expression_is_a_binding_pattern plain r = of_expression plain is_binding_pattern false refl refl refl refl refl refl refl refl refl refl refl refl refl refl refl refl refl refl refl refl refl refl refl refl refl refl r.expression r.other
+no_expression_is_a_binding_pattern plain r = of_expression plain is_binding_pattern false refl refl refl refl refl refl refl refl refl refl refl refl refl refl refl refl refl refl refl refl refl refl refl refl refl refl refl r.expression r.other
 
 pub no_declaration_is_an_expression : {N : Type 0} (plain : N → Tree) (r : OtherDeclaration N) → is_expression (type_of (declaration_plain plain r.declaration)) ≡ false
 no_declaration_is_an_expression plain r = of_declaration plain is_expression false refl r.declaration r.other
@@ -162,7 +163,7 @@ pub no_statement_is_an_expression : {N : Type 0} (plain : N → Tree) (r : Other
 no_statement_is_an_expression plain r = of_statement plain is_expression false refl refl refl refl refl refl refl refl refl refl refl refl refl refl refl refl refl r.statement r.other
 
 pub each_expression_is_an_expression : {N : Type 0} (plain : N → Tree) (r : OtherExpression N) → is_expression (type_of (expression_plain plain r.expression)) ≡ true
-each_expression_is_an_expression plain r = of_expression plain is_expression true refl refl refl refl refl refl refl refl refl refl refl refl refl refl refl refl refl refl refl refl refl refl refl refl refl refl r.expression r.other
+each_expression_is_an_expression plain r = of_expression plain is_expression true refl refl refl refl refl refl refl refl refl refl refl refl refl refl refl refl refl refl refl refl refl refl refl refl refl refl refl r.expression r.other
 
 pub no_declaration_is_an_identifier_name : {N : Type 0} (plain : N → Tree) (r : OtherDeclaration N) → is_identifier_name (type_of (declaration_plain plain r.declaration)) ≡ false
 no_declaration_is_an_identifier_name plain r = of_declaration plain is_identifier_name false refl r.declaration r.other
@@ -174,7 +175,7 @@ pub no_statement_is_an_identifier_name : {N : Type 0} (plain : N → Tree) (r : 
 no_statement_is_an_identifier_name plain r = of_statement plain is_identifier_name false refl refl refl refl refl refl refl refl refl refl refl refl refl refl refl refl refl r.statement r.other
 
 pub no_expression_is_an_identifier_name : {N : Type 0} (plain : N → Tree) (r : OtherExpression N) → is_identifier_name (type_of (expression_plain plain r.expression)) ≡ false
-no_expression_is_an_identifier_name plain r = of_expression plain is_identifier_name false refl refl refl refl refl refl refl refl refl refl refl refl refl refl refl refl refl refl refl refl refl refl refl refl refl refl r.expression r.other
+no_expression_is_an_identifier_name plain r = of_expression plain is_identifier_name false refl refl refl refl refl refl refl refl refl refl refl refl refl refl refl refl refl refl refl refl refl refl refl refl refl refl refl r.expression r.other
 
 pub no_declaration_is_an_argument : {N : Type 0} (plain : N → Tree) (r : OtherDeclaration N) → is_argument (type_of (declaration_plain plain r.declaration)) ≡ false
 no_declaration_is_an_argument plain r = of_declaration plain is_argument false refl r.declaration r.other
@@ -186,7 +187,7 @@ pub no_statement_is_an_argument : {N : Type 0} (plain : N → Tree) (r : OtherSt
 no_statement_is_an_argument plain r = of_statement plain is_argument false refl refl refl refl refl refl refl refl refl refl refl refl refl refl refl refl refl r.statement r.other
 
 pub each_expression_is_an_argument : {N : Type 0} (plain : N → Tree) (r : OtherExpression N) → is_argument (type_of (expression_plain plain r.expression)) ≡ true
-each_expression_is_an_argument plain r = of_expression plain is_argument true refl refl refl refl refl refl refl refl refl refl refl refl refl refl refl refl refl refl refl refl refl refl refl refl refl refl r.expression r.other
+each_expression_is_an_argument plain r = of_expression plain is_argument true refl refl refl refl refl refl refl refl refl refl refl refl refl refl refl refl refl refl refl refl refl refl refl refl refl refl refl r.expression r.other
 
 pub no_declaration_is_a_chain_element : {N : Type 0} (plain : N → Tree) (r : OtherDeclaration N) → is_chain_element (type_of (declaration_plain plain r.declaration)) ≡ false
 no_declaration_is_a_chain_element plain r = of_declaration plain is_chain_element false refl r.declaration r.other
@@ -207,7 +208,7 @@ pub no_statement_is_an_array_expression_element : {N : Type 0} (plain : N → Tr
 no_statement_is_an_array_expression_element plain r = of_statement plain is_array_expression_element false refl refl refl refl refl refl refl refl refl refl refl refl refl refl refl refl refl r.statement r.other
 
 pub each_expression_is_an_array_expression_element : {N : Type 0} (plain : N → Tree) (r : OtherExpression N) → is_array_expression_element (type_of (expression_plain plain r.expression)) ≡ true
-each_expression_is_an_array_expression_element plain r = of_expression plain is_array_expression_element true refl refl refl refl refl refl refl refl refl refl refl refl refl refl refl refl refl refl refl refl refl refl refl refl refl refl r.expression r.other
+each_expression_is_an_array_expression_element plain r = of_expression plain is_array_expression_element true refl refl refl refl refl refl refl refl refl refl refl refl refl refl refl refl refl refl refl refl refl refl refl refl refl refl refl r.expression r.other
 
 pub no_declaration_is_a_property_key : {N : Type 0} (plain : N → Tree) (r : OtherDeclaration N) → is_property_key (type_of (declaration_plain plain r.declaration)) ≡ false
 no_declaration_is_a_property_key plain r = of_declaration plain is_property_key false refl r.declaration r.other
@@ -219,7 +220,7 @@ pub no_statement_is_a_property_key : {N : Type 0} (plain : N → Tree) (r : Othe
 no_statement_is_a_property_key plain r = of_statement plain is_property_key false refl refl refl refl refl refl refl refl refl refl refl refl refl refl refl refl refl r.statement r.other
 
 pub each_expression_is_a_property_key : {N : Type 0} (plain : N → Tree) (r : OtherExpression N) → is_property_key (type_of (expression_plain plain r.expression)) ≡ true
-each_expression_is_a_property_key plain r = of_expression plain is_property_key true refl refl refl refl refl refl refl refl refl refl refl refl refl refl refl refl refl refl refl refl refl refl refl refl refl refl r.expression r.other
+each_expression_is_a_property_key plain r = of_expression plain is_property_key true refl refl refl refl refl refl refl refl refl refl refl refl refl refl refl refl refl refl refl refl refl refl refl refl refl refl refl r.expression r.other
 
 pub no_declaration_is_an_object_property_kind : {N : Type 0} (plain : N → Tree) (r : OtherDeclaration N) → is_object_property_kind (type_of (declaration_plain plain r.declaration)) ≡ false
 no_declaration_is_an_object_property_kind plain r = of_declaration plain is_object_property_kind false refl r.declaration r.other
@@ -231,7 +232,7 @@ pub no_statement_is_an_object_property_kind : {N : Type 0} (plain : N → Tree) 
 no_statement_is_an_object_property_kind plain r = of_statement plain is_object_property_kind false refl refl refl refl refl refl refl refl refl refl refl refl refl refl refl refl refl r.statement r.other
 
 pub no_expression_is_an_object_property_kind : {N : Type 0} (plain : N → Tree) (r : OtherExpression N) → is_object_property_kind (type_of (expression_plain plain r.expression)) ≡ false
-no_expression_is_an_object_property_kind plain r = of_expression plain is_object_property_kind false refl refl refl refl refl refl refl refl refl refl refl refl refl refl refl refl refl refl refl refl refl refl refl refl refl refl r.expression r.other
+no_expression_is_an_object_property_kind plain r = of_expression plain is_object_property_kind false refl refl refl refl refl refl refl refl refl refl refl refl refl refl refl refl refl refl refl refl refl refl refl refl refl refl refl r.expression r.other
 
 pub no_declaration_is_a_simple_assignment_target : {N : Type 0} (plain : N → Tree) (r : OtherDeclaration N) → is_simple_assignment_target (type_of (declaration_plain plain r.declaration)) ≡ false
 no_declaration_is_a_simple_assignment_target plain r = of_declaration plain is_simple_assignment_target false refl r.declaration r.other
@@ -261,7 +262,7 @@ pub no_statement_is_a_formal_parameter : {N : Type 0} (plain : N → Tree) (r : 
 no_statement_is_a_formal_parameter plain r = of_statement plain is_formal_parameter false refl refl refl refl refl refl refl refl refl refl refl refl refl refl refl refl refl r.statement r.other
 
 pub no_expression_is_a_formal_parameter : {N : Type 0} (plain : N → Tree) (r : OtherExpression N) → is_formal_parameter (type_of (expression_plain plain r.expression)) ≡ false
-no_expression_is_a_formal_parameter plain r = of_expression plain is_formal_parameter false refl refl refl refl refl refl refl refl refl refl refl refl refl refl refl refl refl refl refl refl refl refl refl refl refl refl r.expression r.other
+no_expression_is_a_formal_parameter plain r = of_expression plain is_formal_parameter false refl refl refl refl refl refl refl refl refl refl refl refl refl refl refl refl refl refl refl refl refl refl refl refl refl refl refl r.expression r.other
 
 pub no_declaration_is_a_formal_parameter_rest : {N : Type 0} (plain : N → Tree) (r : OtherDeclaration N) → is_formal_parameter_rest (type_of (declaration_plain plain r.declaration)) ≡ false
 no_declaration_is_a_formal_parameter_rest plain r = of_declaration plain is_formal_parameter_rest false refl r.declaration r.other
@@ -273,7 +274,7 @@ pub no_statement_is_a_formal_parameter_rest : {N : Type 0} (plain : N → Tree) 
 no_statement_is_a_formal_parameter_rest plain r = of_statement plain is_formal_parameter_rest false refl refl refl refl refl refl refl refl refl refl refl refl refl refl refl refl refl r.statement r.other
 
 pub no_expression_is_a_formal_parameter_rest : {N : Type 0} (plain : N → Tree) (r : OtherExpression N) → is_formal_parameter_rest (type_of (expression_plain plain r.expression)) ≡ false
-no_expression_is_a_formal_parameter_rest plain r = of_expression plain is_formal_parameter_rest false refl refl refl refl refl refl refl refl refl refl refl refl refl refl refl refl refl refl refl refl refl refl refl refl refl refl r.expression r.other
+no_expression_is_a_formal_parameter_rest plain r = of_expression plain is_formal_parameter_rest false refl refl refl refl refl refl refl refl refl refl refl refl refl refl refl refl refl refl refl refl refl refl refl refl refl refl refl r.expression r.other
 
 pub no_declaration_is_a_binding_identifier : {N : Type 0} (plain : N → Tree) (r : OtherDeclaration N) → is_binding_identifier (type_of (declaration_plain plain r.declaration)) ≡ false
 no_declaration_is_a_binding_identifier plain r = of_declaration plain is_binding_identifier false refl r.declaration r.other
@@ -285,7 +286,7 @@ pub no_statement_is_a_binding_identifier : {N : Type 0} (plain : N → Tree) (r 
 no_statement_is_a_binding_identifier plain r = of_statement plain is_binding_identifier false refl refl refl refl refl refl refl refl refl refl refl refl refl refl refl refl refl r.statement r.other
 
 pub no_expression_is_a_binding_identifier : {N : Type 0} (plain : N → Tree) (r : OtherExpression N) → is_binding_identifier (type_of (expression_plain plain r.expression)) ≡ false
-no_expression_is_a_binding_identifier plain r = of_expression plain is_binding_identifier false refl refl refl refl refl refl refl refl refl refl refl refl refl refl refl refl refl refl refl refl refl refl refl refl refl refl r.expression r.other
+no_expression_is_a_binding_identifier plain r = of_expression plain is_binding_identifier false refl refl refl refl refl refl refl refl refl refl refl refl refl refl refl refl refl refl refl refl refl refl refl refl refl refl refl r.expression r.other
 
 pub no_declaration_is_a_formal_parameters : {N : Type 0} (plain : N → Tree) (r : OtherDeclaration N) → is_formal_parameters (type_of (declaration_plain plain r.declaration)) ≡ false
 no_declaration_is_a_formal_parameters plain r = of_declaration plain is_formal_parameters false refl r.declaration r.other
@@ -297,7 +298,7 @@ pub no_statement_is_a_formal_parameters : {N : Type 0} (plain : N → Tree) (r :
 no_statement_is_a_formal_parameters plain r = of_statement plain is_formal_parameters false refl refl refl refl refl refl refl refl refl refl refl refl refl refl refl refl refl r.statement r.other
 
 pub no_expression_is_a_formal_parameters : {N : Type 0} (plain : N → Tree) (r : OtherExpression N) → is_formal_parameters (type_of (expression_plain plain r.expression)) ≡ false
-no_expression_is_a_formal_parameters plain r = of_expression plain is_formal_parameters false refl refl refl refl refl refl refl refl refl refl refl refl refl refl refl refl refl refl refl refl refl refl refl refl refl refl r.expression r.other
+no_expression_is_a_formal_parameters plain r = of_expression plain is_formal_parameters false refl refl refl refl refl refl refl refl refl refl refl refl refl refl refl refl refl refl refl refl refl refl refl refl refl refl refl r.expression r.other
 
 pub no_declaration_is_a_function_body : {N : Type 0} (plain : N → Tree) (r : OtherDeclaration N) → is_function_body (type_of (declaration_plain plain r.declaration)) ≡ false
 no_declaration_is_a_function_body plain r = of_declaration plain is_function_body false refl r.declaration r.other
@@ -309,7 +310,7 @@ pub no_statement_is_a_function_body : {N : Type 0} (plain : N → Tree) (r : Oth
 no_statement_is_a_function_body plain r = of_statement plain is_function_body false refl refl refl refl refl refl refl refl refl refl refl refl refl refl refl refl refl r.statement r.other
 
 pub no_expression_is_a_function_body : {N : Type 0} (plain : N → Tree) (r : OtherExpression N) → is_function_body (type_of (expression_plain plain r.expression)) ≡ false
-no_expression_is_a_function_body plain r = of_expression plain is_function_body false refl refl refl refl refl refl refl refl refl refl refl refl refl refl refl refl refl refl refl refl refl refl refl refl refl refl r.expression r.other
+no_expression_is_a_function_body plain r = of_expression plain is_function_body false refl refl refl refl refl refl refl refl refl refl refl refl refl refl refl refl refl refl refl refl refl refl refl refl refl refl refl r.expression r.other
 
 pub no_declaration_is_an_arrow_function_body : {N : Type 0} (plain : N → Tree) (r : OtherDeclaration N) → is_arrow_function_body (type_of (declaration_plain plain r.declaration)) ≡ false
 no_declaration_is_an_arrow_function_body plain r = of_declaration plain is_arrow_function_body false refl r.declaration r.other
@@ -321,7 +322,7 @@ pub no_statement_is_an_arrow_function_body : {N : Type 0} (plain : N → Tree) (
 no_statement_is_an_arrow_function_body plain r = of_statement plain is_arrow_function_body false refl refl refl refl refl refl refl refl refl refl refl refl refl refl refl refl refl r.statement r.other
 
 pub each_expression_is_an_arrow_function_body : {N : Type 0} (plain : N → Tree) (r : OtherExpression N) → is_arrow_function_body (type_of (expression_plain plain r.expression)) ≡ true
-each_expression_is_an_arrow_function_body plain r = of_expression plain is_arrow_function_body true refl refl refl refl refl refl refl refl refl refl refl refl refl refl refl refl refl refl refl refl refl refl refl refl refl refl r.expression r.other
+each_expression_is_an_arrow_function_body plain r = of_expression plain is_arrow_function_body true refl refl refl refl refl refl refl refl refl refl refl refl refl refl refl refl refl refl refl refl refl refl refl refl refl refl refl r.expression r.other
 
 pub each_declaration_is_a_for_statement_init : {N : Type 0} (plain : N → Tree) (r : OtherDeclaration N) → is_for_statement_init (type_of (declaration_plain plain r.declaration)) ≡ true
 each_declaration_is_a_for_statement_init plain r = of_declaration plain is_for_statement_init true refl r.declaration r.other
@@ -333,7 +334,7 @@ pub no_statement_is_a_for_statement_init : {N : Type 0} (plain : N → Tree) (r 
 no_statement_is_a_for_statement_init plain r = of_statement plain is_for_statement_init false refl refl refl refl refl refl refl refl refl refl refl refl refl refl refl refl refl r.statement r.other
 
 pub each_expression_is_a_for_statement_init : {N : Type 0} (plain : N → Tree) (r : OtherExpression N) → is_for_statement_init (type_of (expression_plain plain r.expression)) ≡ true
-each_expression_is_a_for_statement_init plain r = of_expression plain is_for_statement_init true refl refl refl refl refl refl refl refl refl refl refl refl refl refl refl refl refl refl refl refl refl refl refl refl refl refl r.expression r.other
+each_expression_is_a_for_statement_init plain r = of_expression plain is_for_statement_init true refl refl refl refl refl refl refl refl refl refl refl refl refl refl refl refl refl refl refl refl refl refl refl refl refl refl refl r.expression r.other
 
 pub each_declaration_is_a_for_statement_left : {N : Type 0} (plain : N → Tree) (r : OtherDeclaration N) → is_for_statement_left (type_of (declaration_plain plain r.declaration)) ≡ true
 each_declaration_is_a_for_statement_left plain r = of_declaration plain is_for_statement_left true refl r.declaration r.other
@@ -354,7 +355,7 @@ pub no_statement_is_a_label_identifier : {N : Type 0} (plain : N → Tree) (r : 
 no_statement_is_a_label_identifier plain r = of_statement plain is_label_identifier false refl refl refl refl refl refl refl refl refl refl refl refl refl refl refl refl refl r.statement r.other
 
 pub no_expression_is_a_label_identifier : {N : Type 0} (plain : N → Tree) (r : OtherExpression N) → is_label_identifier (type_of (expression_plain plain r.expression)) ≡ false
-no_expression_is_a_label_identifier plain r = of_expression plain is_label_identifier false refl refl refl refl refl refl refl refl refl refl refl refl refl refl refl refl refl refl refl refl refl refl refl refl refl refl r.expression r.other
+no_expression_is_a_label_identifier plain r = of_expression plain is_label_identifier false refl refl refl refl refl refl refl refl refl refl refl refl refl refl refl refl refl refl refl refl refl refl refl refl refl refl refl r.expression r.other
 
 pub no_declaration_is_a_switch_case : {N : Type 0} (plain : N → Tree) (r : OtherDeclaration N) → is_switch_case (type_of (declaration_plain plain r.declaration)) ≡ false
 no_declaration_is_a_switch_case plain r = of_declaration plain is_switch_case false refl r.declaration r.other
@@ -366,7 +367,7 @@ pub no_statement_is_a_switch_case : {N : Type 0} (plain : N → Tree) (r : Other
 no_statement_is_a_switch_case plain r = of_statement plain is_switch_case false refl refl refl refl refl refl refl refl refl refl refl refl refl refl refl refl refl r.statement r.other
 
 pub no_expression_is_a_switch_case : {N : Type 0} (plain : N → Tree) (r : OtherExpression N) → is_switch_case (type_of (expression_plain plain r.expression)) ≡ false
-no_expression_is_a_switch_case plain r = of_expression plain is_switch_case false refl refl refl refl refl refl refl refl refl refl refl refl refl refl refl refl refl refl refl refl refl refl refl refl refl refl r.expression r.other
+no_expression_is_a_switch_case plain r = of_expression plain is_switch_case false refl refl refl refl refl refl refl refl refl refl refl refl refl refl refl refl refl refl refl refl refl refl refl refl refl refl refl r.expression r.other
 
 pub no_declaration_is_a_block_statement : {N : Type 0} (plain : N → Tree) (r : OtherDeclaration N) → is_block_statement (type_of (declaration_plain plain r.declaration)) ≡ false
 no_declaration_is_a_block_statement plain r = of_declaration plain is_block_statement false refl r.declaration r.other
@@ -375,7 +376,7 @@ pub no_binding_pattern_is_a_block_statement : (r : BindingPattern) → is_block_
 no_binding_pattern_is_a_block_statement r = of_binding_pattern is_block_statement false refl r
 
 pub no_expression_is_a_block_statement : {N : Type 0} (plain : N → Tree) (r : OtherExpression N) → is_block_statement (type_of (expression_plain plain r.expression)) ≡ false
-no_expression_is_a_block_statement plain r = of_expression plain is_block_statement false refl refl refl refl refl refl refl refl refl refl refl refl refl refl refl refl refl refl refl refl refl refl refl refl refl refl r.expression r.other
+no_expression_is_a_block_statement plain r = of_expression plain is_block_statement false refl refl refl refl refl refl refl refl refl refl refl refl refl refl refl refl refl refl refl refl refl refl refl refl refl refl refl r.expression r.other
 
 pub no_declaration_is_a_catch_clause : {N : Type 0} (plain : N → Tree) (r : OtherDeclaration N) → is_catch_clause (type_of (declaration_plain plain r.declaration)) ≡ false
 no_declaration_is_a_catch_clause plain r = of_declaration plain is_catch_clause false refl r.declaration r.other
@@ -387,7 +388,7 @@ pub no_statement_is_a_catch_clause : {N : Type 0} (plain : N → Tree) (r : Othe
 no_statement_is_a_catch_clause plain r = of_statement plain is_catch_clause false refl refl refl refl refl refl refl refl refl refl refl refl refl refl refl refl refl r.statement r.other
 
 pub no_expression_is_a_catch_clause : {N : Type 0} (plain : N → Tree) (r : OtherExpression N) → is_catch_clause (type_of (expression_plain plain r.expression)) ≡ false
-no_expression_is_a_catch_clause plain r = of_expression plain is_catch_clause false refl refl refl refl refl refl refl refl refl refl refl refl refl refl refl refl refl refl refl refl refl refl refl refl refl refl r.expression r.other
+no_expression_is_a_catch_clause plain r = of_expression plain is_catch_clause false refl refl refl refl refl refl refl refl refl refl refl refl refl refl refl refl refl refl refl refl refl refl refl refl refl refl refl r.expression r.other
 
 pub program_type : (t : NodeType) → is_program t ≡ true → t ≡ types.Program
 program_type types.Program h = refl
@@ -407,6 +408,7 @@ program_type types.BooleanLiteral h = cc
 program_type types.NumericLiteral h = cc
 program_type types.BigIntLiteral h = cc
 program_type types.StringLiteral h = cc
+program_type types.RegExpLiteral h = cc
 program_type types.ParenthesizedExpression h = cc
 program_type types.BinaryExpression h = cc
 program_type types.LogicalExpression h = cc

@@ -25,6 +25,7 @@ is_in_expressions types.BooleanLiteral = true
 is_in_expressions types.NumericLiteral = true
 is_in_expressions types.BigIntLiteral = true
 is_in_expressions types.StringLiteral = true
+is_in_expressions types.RegExpLiteral = true
 is_in_expressions types.ParenthesizedExpression = true
 is_in_expressions types.BinaryExpression = true
 is_in_expressions types.LogicalExpression = true

@@ -23,6 +23,7 @@ const TYPE_NAMES: [(&str, NodeType); 50] = [
     ("NumericLiteral", NodeType::NumericLiteral),
     ("BigIntLiteral", NodeType::BigIntLiteral),
     ("StringLiteral", NodeType::StringLiteral),
+    ("RegExpLiteral", NodeType::RegExpLiteral),
     ("ParenthesizedExpression", NodeType::ParenthesizedExpression),
     ("BinaryExpression", NodeType::BinaryExpression),
     ("LogicalExpression", NodeType::LogicalExpression),
@@ -58,10 +59,10 @@ const TYPE_NAMES: [(&str, NodeType); 50] = [
     ("ForOfStatement", NodeType::ForOfStatement),
     ("WhileStatement", NodeType::WhileStatement),
     ("DoWhileStatement", NodeType::DoWhileStatement),
-    ("LabelIdentifier", NodeType::LabelIdentifier),
 ];
 
-const TYPE_NAMES_2: [(&str, NodeType); 10] = [
+const TYPE_NAMES_2: [(&str, NodeType); 11] = [
+    ("LabelIdentifier", NodeType::LabelIdentifier),
     ("LabeledStatement", NodeType::LabeledStatement),
     ("ContinueStatement", NodeType::ContinueStatement),
     ("BreakStatement", NodeType::BreakStatement),

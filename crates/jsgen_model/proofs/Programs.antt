@@ -27,6 +27,7 @@ module _ {A : Type 0} (f : A → Node) (h : (a : A) → IsFormed (node_plain (f 
   expression_is_formed (expressions.NumericLiteral b) = (number_is_formed b.value.span b.value.value b.value.fits, tt)
   expression_is_formed (expressions.BigIntLiteral b) = (refl, tt)
   expression_is_formed (expressions.StringLiteral b) = (string_is_formed b.value.value, tt)
+  expression_is_formed (expressions.RegExpLiteral b) = (refl, tt)
   expression_is_formed (expressions.BinaryExpression b) = (refl, (h b.value.left.node, (h b.value.right.node, tt)))
   expression_is_formed (expressions.LogicalExpression b) = (refl, (h b.value.left.node, (h b.value.right.node, tt)))
   expression_is_formed (expressions.ParenthesizedExpression b) = (refl, (h b.value.expression.node, tt))

@@ -28,8 +28,10 @@ pub data Items : Type 0 where
   private_name : Span → List ℕ → Items
   -- a number, apart from a word before it; the test holds where a dot behind it would be its own
   number : Bool → List ℕ → Items
-  -- a literal that begins and ends with a mark of its own, as a regular expression
+  -- a text that needs no space before it
   literal : List ℕ → Items
+  -- a regular expression by its pattern and its flags, apart from what it would make a comment or the end of a script with
+  regular_expression : List ℕ → List ℕ → Items
   -- a string by its units, in backticks only where the test holds
   string : Bool → List ℕ → Items
   -- a string that is a whole first statement, and mustn't be read as a directive

@@ -5,8 +5,8 @@ use Rattle.std.specs.Option.{option_map_or}
 use Rattle.jsgen_syntax.specs.Buffer.{indent_code}
 use Rattle.jsgen_syntax.specs.Name.{goes_in_word}
 use Rattle.jsgen_syntax.specs.Escapes.{name_text, has_escapes}
-use Rattle.jsgen_syntax.specs.Strings.{quote_char, quoted, cheapest}
-use Rattle.jsgen_syntax.specs.Raw.{directive_text, directive_quote}
+use Rattle.jsgen_syntax.specs.Strings.{quote_char, quoted, cheapest, begins_script}
+use Rattle.jsgen_syntax.specs.Raw.{directive_text, directive_quote, pattern_text}
 use Rattle.jsgen_syntax.specs.declared.quote.Quote.{Quote}
 use Rattle.jsgen_syntax.specs.declared.quote.Quote.TheVariants.{Single, Double, Backtick}
 use Rattle.std.specs.Str.{bytes_eq}
@@ -14,7 +14,7 @@ use Rattle.jsgen_tree.specs.Options.{Options}
 use Rattle.jsgen_tree.specs.Job.{Tables}
 use Rattle.jsgen_tree.specs.Named.{Named, printed_name}
 use Rattle.jsgen_model.specs.Punctuator.{Punctuator, plus, plus_plus, minus, minus_minus, bang, equal_equal, equal_equal_equal, punctuator_text, Round, opening, closing}
-use Rattle.jsgen_model.specs.Items.{Items, nothing, ◌⊕◌, word, name, private_name, number, literal, string, first_string, directive, punctuator, operator, member_dot, soft_space, soft_line, hard_space, indentation, body_space, deeper, in_class, brackets, wrapped, wrapped_at_start, Opener, a_brace, a_declaration, parentheses_unless_minified, where_same, statement_end, due_semicolon, drop_semicolon, statement_begins, arrow_body_begins, default_export_begins, mark, end_mark, link_mark, marked_word, comments, orphans, annotation}
+use Rattle.jsgen_model.specs.Items.{Items, nothing, ◌⊕◌, word, name, private_name, number, literal, regular_expression, string, first_string, directive, punctuator, operator, member_dot, soft_space, soft_line, hard_space, indentation, body_space, deeper, in_class, brackets, wrapped, wrapped_at_start, Opener, a_brace, a_declaration, parentheses_unless_minified, where_same, statement_end, due_semicolon, drop_semicolon, statement_begins, arrow_body_begins, default_export_begins, mark, end_mark, link_mark, marked_word, comments, orphans, annotation}
 use Rattle.jsgen_model.specs.Private.{classes_within, printed_private}
 
 -- what never changes: whether the text is minified and whether it is ASCII, the quote of pretty text and of directives, what a level of indentation is made of, and the tables by which names are printed
@@ -32,6 +32,7 @@ pub data Ending : Type 0 where
   operator_end : Punctuator → Ending
   number_end : Ending
   escaped_name_end : Ending
+  regular_expression_end : Ending
 
 -- what begins at the end of the code so far
 pub data Start : Type 0 where
@@ -99,9 +100,11 @@ number_ending false = other_end
 
 abbrev pub ends_in_escapes : Ending → Bool
 ends_in_escapes escaped_name_end = true
+ends_in_escapes regular_expression_end = true
 ends_in_escapes ending = false
 
--- a word would go on with what the code ends in: its last character goes in a word, or it ends in a name with escapes, maybe in `}`
+-- a word would go on with what the code ends in: its last character goes in a word, or it ends in a name with escapes, maybe in
+-- `}`, or in a regular expression, whose flags the word would be
 abbrev pub is_apart : Ending → List ℕ → Bool
 is_apart ending code = ends_in_escapes ending || ends_in_word code
 
@@ -188,6 +191,19 @@ entered pen = record pen { classes = classes_within pen.style.tables pen.next_cl
 abbrev pub are_same : Tables → Named → Named → Bool
 are_same tables m n = bytes_eq (printed_name tables m) (printed_name tables n)
 
+-- ---- regular expressions
+
+-- behind `/` a pattern would begin a comment, and behind `<` one that begins with `script` the end of a page's script
+abbrev pub is_barred_before : List ℕ → ℕ → Bool
+is_barred_before pattern c = (c == 47) || ((c == 60) && begins_script pattern)
+
+abbrev pub joins_pattern : List ℕ → List ℕ → Bool
+joins_pattern code pattern = option_map_or (is_barred_before pattern) (last_or None code) false
+
+-- the pattern between its slashes, and the flags
+abbrev pub regular_expression_text : Bool → List ℕ → List ℕ → List ℕ
+regular_expression_text ascii pattern flags = 47 ∷ (pattern_text ascii pattern ++ 47 ∷ flags)
+
 -- ---- strings
 
 -- where no backticks may stand, double quotes stand in their place
@@ -218,6 +234,7 @@ layout (name span n) pen = with_name (printed_name pen.style.tables n) pen
 layout (private_name span w) pen = with_private_name (printed_private pen.style.tables pen.classes w) pen
 layout (number dot_is_its_own w) pen = written (space_if (is_apart pen.ending pen.code) ++ w) (number_ending dot_is_its_own) pen
 layout (literal w) pen = written w other_end pen
+layout (regular_expression pattern flags) pen = written (space_if (joins_pattern pen.code pattern) ++ regular_expression_text pen.style.ascii pattern flags) regular_expression_end pen
 layout (string backticks units) pen = written (quoted (chosen_quote pen.style backticks units) pen.style.ascii units) other_end pen
 layout (first_string units) pen = written (first_text pen.style units) other_end pen
 layout (directive raw) pen = written (directive_quoted pen.style raw) other_end pen

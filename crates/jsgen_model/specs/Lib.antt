@@ -7,6 +7,7 @@ pub mod Quotes
 pub mod Spell
 pub mod Valid
 pub mod Numbers
+pub mod RegularExpressions
 pub mod Operators
 pub mod Tokens
 pub mod Normal

@@ -21,6 +21,7 @@ use Rattle.jsgen_tree.specs.Job.{JobData}
 -- Each type of which no reading is promised is left out here by its name.
 abbrev pub is_plain_type : NodeType → Bool
 -- generated from tools/nodes/table.txt: types
+is_plain_type types.RegExpLiteral = false
 is_plain_type types.ImportMeta = false
 -- end of what is generated: types
 is_plain_type type = true
@@ -81,6 +82,7 @@ is_formed (tree.this_expression a) = true
 is_formed (tree.null_literal a) = true
 is_formed (tree.boolean_literal a) = true
 is_formed (tree.big_int_literal a) = true
+is_formed (tree.reg_exp_literal a) = true
 is_formed (tree.parenthesized a expression) = true
 is_formed (tree.binary a left right) = true
 is_formed (tree.logical a left right) = true

@@ -33,7 +33,8 @@ use Rattle.jsgen_model.specs.Items.{Items, nothing, ◌⊕◌, word, name, numbe
 use Rattle.jsgen_model.specs.Layout.{layout, empty_pen, style_of}
 use Rattle.jsgen_model.specs.Operators.{operator_item, logical_item, unary_sign, behind_unary, update_item, assignment_item}
 -- generated from tools/nodes/table.txt: names
-use Rattle.jsgen_model.specs.Items.{marked_word, comments, all_of_them, mark}
+use Rattle.jsgen_tree.specs.Values.{reg_exp_literal_pattern, reg_exp_literal_flags}
+use Rattle.jsgen_model.specs.Items.{marked_word, comments, all_of_them, mark, regular_expression}
 
 -- end of what is generated: names
 
@@ -442,6 +443,7 @@ abbrev mutual
   spell (tree.empty_statement a) place = comments all_of_them a.span.start ⊕ (indentation ⊕ (mark a.span ⊕ (punctuator semicolon ⊕ soft_line)))
   spell (tree.this_expression a) place = marked_word a.span (codes "this")
   spell (tree.null_literal a) place = marked_word a.span (codes "null")
+  spell (tree.reg_exp_literal a) place = mark a.span ⊕ regular_expression (reg_exp_literal_pattern a) (reg_exp_literal_flags a)
   spell (tree.parenthesized a expression) place = spell expression place
   spell (tree.identifier_name a) place = name a.span (as_written (identifier_name_name a))
   spell (tree.spread a argument) place = mark a.span ⊕ (punctuator ellipsis ⊕ spell argument (in_brackets Comma))

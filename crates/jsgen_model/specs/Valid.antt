@@ -27,8 +27,9 @@ use Rattle.jsgen_tree.specs.Number.{NumericKind, Whole, Raw}
 use Rattle.jsgen_tree.specs.Inside.{without_parentheses, looked_up_in, reference_named, binding_named, declared_kind, function_in, written_name_in, is_proto, is_method, is_negative_number, is_negative_big_integer, has_optional_link}
 use Rattle.jsgen_tree.specs.Tree.{Tree, node, Slots, no_slots, one, maybe, many, maybe_many, Maybe, absent, given, Trees, no_trees, more, hole, MaybeTrees, no_list, listed, type_of, span_of}
 use Rattle.jsgen_tree.specs.Nodes as tree
-use Rattle.jsgen_tree.specs.Values.{as_text, program_source, comment_kind, directive_directive, identifier_name_name, label_identifier_name, numeric_literal_kind, numeric_literal_text, big_int_literal_value, object_property_kind, object_property_method, object_property_shorthand, object_property_computed, function_kind, static_member_expression_optional, computed_member_expression_optional, call_expression_optional}
+use Rattle.jsgen_tree.specs.Values.{as_text, program_source, comment_kind, directive_directive, identifier_name_name, label_identifier_name, numeric_literal_kind, numeric_literal_text, big_int_literal_value, reg_exp_literal_pattern, reg_exp_literal_flags, object_property_kind, object_property_method, object_property_shorthand, object_property_computed, function_kind, static_member_expression_optional, computed_member_expression_optional, call_expression_optional}
 use Rattle.jsgen_model.specs.Numbers.{is_raw_number, is_big_integer}
+use Rattle.jsgen_model.specs.RegularExpressions.{is_body, are_flags}
 use Rattle.jsgen_model.specs.Tokens.{has_line_end}
 use Rattle.jsgen_model.specs.declared.fault.TreeFault.{TreeFault}
 use Rattle.jsgen_model.specs.declared.fault.TreeFault.TheVariants as faults
@@ -124,6 +125,10 @@ number_faults s Raw text = raw_number_faults s text
 -- a big integer is an integer, in decimal digits (ECMA-262, 12.9.3)
 abbrev pub big_integer_faults : Span → List ℕ → List TreeFault
 big_integer_faults s value = fault_if (not (is_big_integer value)) (faults.Literal s.start)
+
+-- a regular expression has a body and flags (ECMA-262, 12.9.5)
+abbrev pub regular_expression_faults : Span → List ℕ → List ℕ → List TreeFault
+regular_expression_faults s pattern flags = fault_if (not (is_body pattern && are_flags flags)) (faults.Literal s.start)
 
 -- a member's name is a name, be it reserved or not
 abbrev pub written_name_faults : Span → List ℕ → List TreeFault
@@ -333,6 +338,7 @@ own_faults around (tree.binding_identifier a) = name_faults around.tables a.span
 own_faults around (tree.identifier_reference a) = name_faults around.tables a.span (reference_named a)
 own_faults around (tree.numeric_literal a) = number_faults a.span (numeric_literal_kind a) (numeric_literal_text a)
 own_faults around (tree.big_int_literal a) = big_integer_faults a.span (big_int_literal_value a)
+own_faults around (tree.reg_exp_literal a) = regular_expression_faults a.span (reg_exp_literal_pattern a) (reg_exp_literal_flags a)
 own_faults around (tree.if_statement a test consequent alternate) = body_faults consequent ++ alternate_faults alternate
 own_faults around (tree.for_statement a init test update body) = body_faults body
 own_faults around (tree.for_in_statement a left right body) = left_faults left ++ body_faults body

@@ -10,22 +10,23 @@ use Rattle.jsgen_tree.specs.declared.sets.Expression.TheVariants as expressions
 use Rattle.jsgen_tree.specs.declared.sets.Declaration.TheVariants as declarations
 use Rattle.jsgen_tree.specs.declared.sets.Statement.TheVariants as statements
 
-pub expression_past_0 : {N : Type 0} (n : Expression N) → IsNot n expressions.IdentifierReference → IsNot n expressions.ThisExpression → IsNot n expressions.NullLiteral → IsNot n expressions.BooleanLiteral → IsNot n expressions.NumericLiteral → IsNot n expressions.BigIntLiteral → IsNot n expressions.StringLiteral → IsNot n expressions.ParenthesizedExpression → IsNot n expressions.BinaryExpression → IsNot n expressions.LogicalExpression → IsNot n expressions.StaticMemberExpression → IsNot n expressions.ComputedMemberExpression → IsNot n expressions.CallExpression → IsNot n expressions.ChainExpression → nat_le 1 (expression_part n) ≡ true
-expression_past_0 (expressions.IdentifierReference b) no_0 no_1 no_2 no_3 no_4 no_5 no_6 no_7 no_8 no_9 no_10 no_11 no_12 no_13 = absurd (no_0 b refl)
-expression_past_0 (expressions.ThisExpression b) no_0 no_1 no_2 no_3 no_4 no_5 no_6 no_7 no_8 no_9 no_10 no_11 no_12 no_13 = absurd (no_1 b refl)
-expression_past_0 (expressions.NullLiteral b) no_0 no_1 no_2 no_3 no_4 no_5 no_6 no_7 no_8 no_9 no_10 no_11 no_12 no_13 = absurd (no_2 b refl)
-expression_past_0 (expressions.BooleanLiteral b) no_0 no_1 no_2 no_3 no_4 no_5 no_6 no_7 no_8 no_9 no_10 no_11 no_12 no_13 = absurd (no_3 b refl)
-expression_past_0 (expressions.NumericLiteral b) no_0 no_1 no_2 no_3 no_4 no_5 no_6 no_7 no_8 no_9 no_10 no_11 no_12 no_13 = absurd (no_4 b refl)
-expression_past_0 (expressions.BigIntLiteral b) no_0 no_1 no_2 no_3 no_4 no_5 no_6 no_7 no_8 no_9 no_10 no_11 no_12 no_13 = absurd (no_5 b refl)
-expression_past_0 (expressions.StringLiteral b) no_0 no_1 no_2 no_3 no_4 no_5 no_6 no_7 no_8 no_9 no_10 no_11 no_12 no_13 = absurd (no_6 b refl)
-expression_past_0 (expressions.ParenthesizedExpression b) no_0 no_1 no_2 no_3 no_4 no_5 no_6 no_7 no_8 no_9 no_10 no_11 no_12 no_13 = absurd (no_7 b refl)
-expression_past_0 (expressions.BinaryExpression b) no_0 no_1 no_2 no_3 no_4 no_5 no_6 no_7 no_8 no_9 no_10 no_11 no_12 no_13 = absurd (no_8 b refl)
-expression_past_0 (expressions.LogicalExpression b) no_0 no_1 no_2 no_3 no_4 no_5 no_6 no_7 no_8 no_9 no_10 no_11 no_12 no_13 = absurd (no_9 b refl)
-expression_past_0 (expressions.StaticMemberExpression b) no_0 no_1 no_2 no_3 no_4 no_5 no_6 no_7 no_8 no_9 no_10 no_11 no_12 no_13 = absurd (no_10 b refl)
-expression_past_0 (expressions.ComputedMemberExpression b) no_0 no_1 no_2 no_3 no_4 no_5 no_6 no_7 no_8 no_9 no_10 no_11 no_12 no_13 = absurd (no_11 b refl)
-expression_past_0 (expressions.CallExpression b) no_0 no_1 no_2 no_3 no_4 no_5 no_6 no_7 no_8 no_9 no_10 no_11 no_12 no_13 = absurd (no_12 b refl)
-expression_past_0 (expressions.ChainExpression b) no_0 no_1 no_2 no_3 no_4 no_5 no_6 no_7 no_8 no_9 no_10 no_11 no_12 no_13 = absurd (no_13 b refl)
-expression_past_0 n no_0 no_1 no_2 no_3 no_4 no_5 no_6 no_7 no_8 no_9 no_10 no_11 no_12 no_13 = refl
+pub expression_past_0 : {N : Type 0} (n : Expression N) → IsNot n expressions.IdentifierReference → IsNot n expressions.ThisExpression → IsNot n expressions.NullLiteral → IsNot n expressions.BooleanLiteral → IsNot n expressions.NumericLiteral → IsNot n expressions.BigIntLiteral → IsNot n expressions.StringLiteral → IsNot n expressions.RegExpLiteral → IsNot n expressions.ParenthesizedExpression → IsNot n expressions.BinaryExpression → IsNot n expressions.LogicalExpression → IsNot n expressions.StaticMemberExpression → IsNot n expressions.ComputedMemberExpression → IsNot n expressions.CallExpression → IsNot n expressions.ChainExpression → nat_le 1 (expression_part n) ≡ true
+expression_past_0 (expressions.IdentifierReference b) no_0 no_1 no_2 no_3 no_4 no_5 no_6 no_7 no_8 no_9 no_10 no_11 no_12 no_13 no_14 = absurd (no_0 b refl)
+expression_past_0 (expressions.ThisExpression b) no_0 no_1 no_2 no_3 no_4 no_5 no_6 no_7 no_8 no_9 no_10 no_11 no_12 no_13 no_14 = absurd (no_1 b refl)
+expression_past_0 (expressions.NullLiteral b) no_0 no_1 no_2 no_3 no_4 no_5 no_6 no_7 no_8 no_9 no_10 no_11 no_12 no_13 no_14 = absurd (no_2 b refl)
+expression_past_0 (expressions.BooleanLiteral b) no_0 no_1 no_2 no_3 no_4 no_5 no_6 no_7 no_8 no_9 no_10 no_11 no_12 no_13 no_14 = absurd (no_3 b refl)
+expression_past_0 (expressions.NumericLiteral b) no_0 no_1 no_2 no_3 no_4 no_5 no_6 no_7 no_8 no_9 no_10 no_11 no_12 no_13 no_14 = absurd (no_4 b refl)
+expression_past_0 (expressions.BigIntLiteral b) no_0 no_1 no_2 no_3 no_4 no_5 no_6 no_7 no_8 no_9 no_10 no_11 no_12 no_13 no_14 = absurd (no_5 b refl)
+expression_past_0 (expressions.StringLiteral b) no_0 no_1 no_2 no_3 no_4 no_5 no_6 no_7 no_8 no_9 no_10 no_11 no_12 no_13 no_14 = absurd (no_6 b refl)
+expression_past_0 (expressions.RegExpLiteral b) no_0 no_1 no_2 no_3 no_4 no_5 no_6 no_7 no_8 no_9 no_10 no_11 no_12 no_13 no_14 = absurd (no_7 b refl)
+expression_past_0 (expressions.ParenthesizedExpression b) no_0 no_1 no_2 no_3 no_4 no_5 no_6 no_7 no_8 no_9 no_10 no_11 no_12 no_13 no_14 = absurd (no_8 b refl)
+expression_past_0 (expressions.BinaryExpression b) no_0 no_1 no_2 no_3 no_4 no_5 no_6 no_7 no_8 no_9 no_10 no_11 no_12 no_13 no_14 = absurd (no_9 b refl)
+expression_past_0 (expressions.LogicalExpression b) no_0 no_1 no_2 no_3 no_4 no_5 no_6 no_7 no_8 no_9 no_10 no_11 no_12 no_13 no_14 = absurd (no_10 b refl)
+expression_past_0 (expressions.StaticMemberExpression b) no_0 no_1 no_2 no_3 no_4 no_5 no_6 no_7 no_8 no_9 no_10 no_11 no_12 no_13 no_14 = absurd (no_11 b refl)
+expression_past_0 (expressions.ComputedMemberExpression b) no_0 no_1 no_2 no_3 no_4 no_5 no_6 no_7 no_8 no_9 no_10 no_11 no_12 no_13 no_14 = absurd (no_12 b refl)
+expression_past_0 (expressions.CallExpression b) no_0 no_1 no_2 no_3 no_4 no_5 no_6 no_7 no_8 no_9 no_10 no_11 no_12 no_13 no_14 = absurd (no_13 b refl)
+expression_past_0 (expressions.ChainExpression b) no_0 no_1 no_2 no_3 no_4 no_5 no_6 no_7 no_8 no_9 no_10 no_11 no_12 no_13 no_14 = absurd (no_14 b refl)
+expression_past_0 n no_0 no_1 no_2 no_3 no_4 no_5 no_6 no_7 no_8 no_9 no_10 no_11 no_12 no_13 no_14 = refl
 
 pub expression_past_1 : {N : Type 0} (n : Expression N) → nat_le 1 (expression_part n) ≡ true → IsNot n expressions.ArrayExpression → IsNot n expressions.ObjectExpression → nat_le 2 (expression_part n) ≡ true
 expression_past_1 (expressions.IdentifierReference b) later no_0 no_1 = let no : false ≡ true = later in cc
@@ -35,6 +36,7 @@ expression_past_1 (expressions.BooleanLiteral b) later no_0 no_1 = let no : fals
 expression_past_1 (expressions.NumericLiteral b) later no_0 no_1 = let no : false ≡ true = later in cc
 expression_past_1 (expressions.BigIntLiteral b) later no_0 no_1 = let no : false ≡ true = later in cc
 expression_past_1 (expressions.StringLiteral b) later no_0 no_1 = let no : false ≡ true = later in cc
+expression_past_1 (expressions.RegExpLiteral b) later no_0 no_1 = let no : false ≡ true = later in cc
 expression_past_1 (expressions.ParenthesizedExpression b) later no_0 no_1 = let no : false ≡ true = later in cc
 expression_past_1 (expressions.BinaryExpression b) later no_0 no_1 = let no : false ≡ true = later in cc
 expression_past_1 (expressions.LogicalExpression b) later no_0 no_1 = let no : false ≡ true = later in cc
@@ -54,6 +56,7 @@ expression_past_2 (expressions.BooleanLiteral b) later no_0 no_1 no_2 no_3 no_4 
 expression_past_2 (expressions.NumericLiteral b) later no_0 no_1 no_2 no_3 no_4 no_5 = let no : false ≡ true = later in cc
 expression_past_2 (expressions.BigIntLiteral b) later no_0 no_1 no_2 no_3 no_4 no_5 = let no : false ≡ true = later in cc
 expression_past_2 (expressions.StringLiteral b) later no_0 no_1 no_2 no_3 no_4 no_5 = let no : false ≡ true = later in cc
+expression_past_2 (expressions.RegExpLiteral b) later no_0 no_1 no_2 no_3 no_4 no_5 = let no : false ≡ true = later in cc
 expression_past_2 (expressions.ParenthesizedExpression b) later no_0 no_1 no_2 no_3 no_4 no_5 = let no : false ≡ true = later in cc
 expression_past_2 (expressions.BinaryExpression b) later no_0 no_1 no_2 no_3 no_4 no_5 = let no : false ≡ true = later in cc
 expression_past_2 (expressions.LogicalExpression b) later no_0 no_1 no_2 no_3 no_4 no_5 = let no : false ≡ true = later in cc
@@ -79,6 +82,7 @@ expression_past_3 (expressions.BooleanLiteral b) later no_0 no_1 no_2 = let no :
 expression_past_3 (expressions.NumericLiteral b) later no_0 no_1 no_2 = let no : false ≡ true = later in cc
 expression_past_3 (expressions.BigIntLiteral b) later no_0 no_1 no_2 = let no : false ≡ true = later in cc
 expression_past_3 (expressions.StringLiteral b) later no_0 no_1 no_2 = let no : false ≡ true = later in cc
+expression_past_3 (expressions.RegExpLiteral b) later no_0 no_1 no_2 = let no : false ≡ true = later in cc
 expression_past_3 (expressions.ParenthesizedExpression b) later no_0 no_1 no_2 = let no : false ≡ true = later in cc
 expression_past_3 (expressions.BinaryExpression b) later no_0 no_1 no_2 = let no : false ≡ true = later in cc
 expression_past_3 (expressions.LogicalExpression b) later no_0 no_1 no_2 = let no : false ≡ true = later in cc
@@ -107,6 +111,7 @@ expression_past_4 (expressions.BooleanLiteral b) later no_0 no_1 = let no : fals
 expression_past_4 (expressions.NumericLiteral b) later no_0 no_1 = let no : false ≡ true = later in cc
 expression_past_4 (expressions.BigIntLiteral b) later no_0 no_1 = let no : false ≡ true = later in cc
 expression_past_4 (expressions.StringLiteral b) later no_0 no_1 = let no : false ≡ true = later in cc
+expression_past_4 (expressions.RegExpLiteral b) later no_0 no_1 = let no : false ≡ true = later in cc
 expression_past_4 (expressions.ParenthesizedExpression b) later no_0 no_1 = let no : false ≡ true = later in cc
 expression_past_4 (expressions.BinaryExpression b) later no_0 no_1 = let no : false ≡ true = later in cc
 expression_past_4 (expressions.LogicalExpression b) later no_0 no_1 = let no : false ≡ true = later in cc

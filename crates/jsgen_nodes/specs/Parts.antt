@@ -16,6 +16,7 @@ expression_part (expression.BooleanLiteral b) = 0
 expression_part (expression.NumericLiteral b) = 0
 expression_part (expression.BigIntLiteral b) = 0
 expression_part (expression.StringLiteral b) = 0
+expression_part (expression.RegExpLiteral b) = 0
 expression_part (expression.ParenthesizedExpression b) = 0
 expression_part (expression.BinaryExpression b) = 0
 expression_part (expression.LogicalExpression b) = 0

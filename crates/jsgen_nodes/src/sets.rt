@@ -28,9 +28,9 @@ use jsgen_spelled::{
     print_break_statement, print_conditional_expression, print_continue_statement,
     print_debugger_statement, print_empty_statement, print_expression_statement, print_import_meta,
     print_labeled_statement, print_new_target, print_null_literal, print_parenthesized_expression,
-    print_return_statement, print_sequence_expression, print_super, print_this_expression,
-    print_throw_statement, print_unary_expression, print_variable_declaration,
-    print_while_statement,
+    print_reg_exp_literal, print_return_statement, print_sequence_expression, print_super,
+    print_this_expression, print_throw_statement, print_unary_expression,
+    print_variable_declaration, print_while_statement,
 };
 use jsgen_tree::{
     AssignmentTarget, BindingPattern, Declaration, Expression, SimpleAssignmentTarget, Statement,
@@ -47,6 +47,7 @@ pub fn print_expression<N: PrintNode>(node: &Expression<N>, p: &mut Printer<'_>,
         Expression::NumericLiteral(node) => print_numeric_literal(node, p, place),
         Expression::BigIntLiteral(node) => print_big_int_literal(node, p, place),
         Expression::StringLiteral(node) => print_string_literal(node, p, place),
+        Expression::RegExpLiteral(node) => print_reg_exp_literal(node, p, place),
         Expression::ParenthesizedExpression(node) => print_parenthesized_expression::<_, Inside>(
             node, p, place,
         ),

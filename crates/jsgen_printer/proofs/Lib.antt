@@ -6,6 +6,7 @@ pub mod Classes
 pub mod Handed
 pub mod Numbers
 pub mod Operators
+mod Patterns
 pub mod Prefixes
 pub mod Sequence
 pub mod Texts

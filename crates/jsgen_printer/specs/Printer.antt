@@ -48,6 +48,7 @@ ending_of endings.Other = layouts.other_end
 ending_of (endings.Operator o) = end_of (sign_of o)
 ending_of endings.Number = layouts.number_end
 ending_of endings.EscapedName = layouts.escaped_name_end
+ending_of endings.RegularExpression = layouts.regular_expression_end
 
 abbrev pub start_of : Start → layouts.Start
 start_of starts.Nowhere = layouts.nowhere

@@ -13,6 +13,7 @@ mod handed;
 mod marks;
 mod names;
 mod numbers;
+mod patterns;
 
 use jsgen_syntax::{
     AssignmentOperator, BinaryOperator, CodeBuffer, JsStr, LogicalOperator, Quote, UnaryOperator,
@@ -34,6 +35,8 @@ pub enum Ending {
     Number,
     /// A name with escapes, maybe in `}`, which a letter behind it would go on with all the same.
     EscapedName,
+    /// A regular expression, whose flags a letter behind it would be.
+    RegularExpression,
 }
 
 /// What begins at the end of the code so far.
@@ -199,7 +202,10 @@ impl<'a> Printer<'a> {
     fn ends_in_escapes(&self) -> bool
         ensures { result ≡ ends_in_escapes (pen_of self.now).ending }
     {
-        matches!(&self.ending, Ending::EscapedName)
+        matches!(
+            &self.ending,
+            Ending::EscapedName | Ending::RegularExpression
+        )
     }
 
     // Whether the operator stands apart from what the code ends in: a word from a word, a sign from one that it would join.

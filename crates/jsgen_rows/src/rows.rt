@@ -52,6 +52,7 @@ fn is_in_expressions(node_type: NodeType) -> bool
             | NodeType::NumericLiteral
             | NodeType::BigIntLiteral
             | NodeType::StringLiteral
+            | NodeType::RegExpLiteral
             | NodeType::ParenthesizedExpression
             | NodeType::BinaryExpression
             | NodeType::LogicalExpression

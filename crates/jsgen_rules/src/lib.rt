@@ -10,6 +10,7 @@ ghost use Rattle.jsgen_rules.specs.Verdict.{verdict};
 mod comments;
 mod functions;
 mod names;
+mod regular_expressions;
 mod spans;
 mod statements;
 
@@ -21,6 +22,7 @@ use jsgen_syntax::{Quote, Span};
 use jsgen_text::spells_string;
 use jsgen_tree::{NodeSet, NodeType};
 pub use names::{check_binding, check_label, check_reference, check_written_name};
+pub use regular_expressions::check_regular_expression;
 pub use spans::{check_source, check_span};
 pub use statements::{check_body, check_defaults, check_ends, check_one_name, is_declaration};
 

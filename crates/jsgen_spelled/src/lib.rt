@@ -15,7 +15,7 @@ pub use assignments::{print_conditional_expression, print_sequence_expression};
 pub use collections::print_spread_element;
 pub use expressions::{
     print_identifier_name, print_null_literal, print_parenthesized_expression,
-    print_this_expression,
+    print_reg_exp_literal, print_this_expression,
 };
 pub use functions::{print_formal_parameter, print_formal_parameter_rest};
 pub use loops::{

@@ -1,4 +1,4 @@
--- The last byte and the last character of a text agree on whether they go in a word.
+-- The last byte and the last character of a text agree on what answers one way for all but ASCII, such as whether they go in a word.
 use Rattle.std.proofs.Common.{◌≡◌, ℕ, ◌-◌, ◌≤◌, ◌<◌, Bool, true, false, cond, nat_lt, nat_le, ◌||◌, ◌==◌, ◌+◌, ◌/◌, ◌%◌, ◌⊎◌, inl, inr, Option, Some, None, List, [], ◌∷◌, ◌++◌, length, refl, sym, ap, ◌∙◌, arith}
 use Rattle.std.specs.Char.{is_ascii_alphanumeric}
 use Rattle.std.specs.List.{last_or, slice_get}
@@ -34,19 +34,19 @@ last_byte o c = by (nat_lt c 128) (nat_lt c 2048) (nat_lt c 65536)
     by false false true = refl
     by false false false = refl
 
--- a character goes in a word just where its last byte does
-last_byte_goes : (o : Option ℕ) (c : ℕ) → option_map goes_in_word (last_or o (encode c)) ≡ Some (goes_in_word c)
-last_byte_goes o c = ap (option_map goes_in_word) (last_byte o c) ∙ by (cases_lt c 128)
+-- a test that answers one way for all but ASCII holds of a character just where it holds of its last byte
+last_byte_passes : (f : ℕ → Bool) (past : Bool) → ((c : ℕ) → 128 ≤ c → f c ≡ past) → (o : Option ℕ) (c : ℕ) → option_map f (last_or o (encode c)) ≡ Some (f c)
+last_byte_passes f past same o c = ap (option_map f) (last_byte o c) ∙ by (cases_lt c 128)
   where
-    by : (c < 128) ⊎ (128 ≤ c) → option_map goes_in_word (Some (cond (nat_lt c 128) c (128 + c % 64))) ≡ Some (goes_in_word c)
+    by : (c < 128) ⊎ (128 ≤ c) → option_map f (Some (cond (nat_lt c 128) c (128 + c % 64))) ≡ Some (f c)
     by (inl h) = rw (lt-ltb c 128 h) refl
-    by (inr h) = rw (le-ltb c 128 h, goes_past_ascii c h, goes_past_ascii (128 + c % 64) (omega arith)) refl
+    by (inr h) = rw (le-ltb c 128 h, same c h, same (128 + c % 64) (omega arith)) refl
 
 -- the same of a whole text, and of what stood before it where the text is empty
-last_goes_from : (o p : Option ℕ) (cs : List ℕ) → option_map goes_in_word o ≡ option_map goes_in_word p → option_map goes_in_word (last_or o (encodes cs)) ≡ option_map goes_in_word (last_or p cs)
-last_goes_from o p [] h = h
-last_goes_from o p (c ∷ cs) h =
-    ap (option_map goes_in_word) (last_of_append o (encode c) (encodes cs)) ∙ last_goes_from (last_or o (encode c)) (Some c) cs (last_byte_goes o c)
+last_passes_from : (f : ℕ → Bool) (past : Bool) → ((c : ℕ) → 128 ≤ c → f c ≡ past) → (o p : Option ℕ) (cs : List ℕ) → option_map f o ≡ option_map f p → option_map f (last_or o (encodes cs)) ≡ option_map f (last_or p cs)
+last_passes_from f past same o p [] h = h
+last_passes_from f past same o p (c ∷ cs) h =
+    ap (option_map f) (last_of_append o (encode c) (encodes cs)) ∙ last_passes_from f past same (last_or o (encode c)) (Some c) cs (last_byte_passes f past same o c)
 
 -- the item at the last place
 slice_get_end : (bs : List ℕ) → slice_get bs (length bs - 1) ≡ last_or None bs
@@ -55,7 +55,11 @@ slice_get_end (b ∷ bs) =
     let e : length (b ∷ bs) - 1 ≡ length bs = omega arith in
     rw e (slice_get_last b bs)
 
+-- such a test holds of the last byte of a text just where it holds of its last character
+pub last_passes : (f : ℕ → Bool) (past : Bool) → ((c : ℕ) → 128 ≤ c → f c ≡ past) → (bs : List ℕ) → IsUtf8 bs → option_map f (slice_get bs (length bs - 1)) ≡ option_map f (last_or None (chars bs))
+last_passes f past same bs u =
+    ap (option_map f) (slice_get_end bs ∙ ap (last_or None) (sym (encodes-chars bs u))) ∙ last_passes_from f past same None None (chars bs) refl
+
 -- the last byte of a text goes in a word just where its last character does
 pub last_goes_in_word : (bs : List ℕ) → IsUtf8 bs → option_map goes_in_word (slice_get bs (length bs - 1)) ≡ option_map goes_in_word (last_or None (chars bs))
-last_goes_in_word bs u =
-    ap (option_map goes_in_word) (slice_get_end bs ∙ ap (last_or None) (sym (encodes-chars bs u))) ∙ last_goes_from None None (chars bs) refl
+last_goes_in_word bs u = last_passes goes_in_word true goes_past_ascii bs u

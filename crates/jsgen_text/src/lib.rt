@@ -19,4 +19,4 @@ pub use raw::{
     print_directive_raw, print_non_ascii_escaped, print_regex_pattern,
     print_str_escaping_script_close_tag, print_template_quasi_raw,
 };
-pub use spelling::spells_string;
+pub use spelling::{begins_script, spells_string};

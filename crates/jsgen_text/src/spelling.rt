@@ -1,8 +1,8 @@
-// Whether a text spells a string.
+// Whether a text spells a string, and whether it begins with `script`.
 ghost use Rattle.std.specs.Prelude.{◌≡◌, is_some, if◌then◌else◌, Some, None};
 ghost use Rattle.std.specs.Char.{is_ascii_hexdigit, digit_value};
 ghost use Rattle.std.specs.Str.{chars};
-ghost use Rattle.jsgen_syntax.specs.Strings.{string_value};
+ghost use Rattle.jsgen_syntax.specs.Strings.{string_value, begins_script};
 ghost use Rattle.jsgen_text.specs.Machine.{text_step, escape_step, hex_step, digits_step, step, may_end};
 
 use jsgen_syntax::{Quote, is_line_terminator};
@@ -144,4 +144,11 @@ fn may_end(state: State) -> bool
         state,
         State::Text | State::Dollar | State::Return | State::Nought
     )
+}
+
+/// Whether a text begins with `script`, in any letter case.
+pub fn begins_script(text: &str) -> bool
+    ensures { result ≡ begins_script (chars text.now) }
+{
+    jsgen_strings::begins_script(text.as_bytes())
 }

@@ -54,6 +54,9 @@ big_int_literal a = node types.BigIntLiteral a no_slots
 pattern abbrev pub string_literal : Atoms → Tree
 string_literal a = node types.StringLiteral a no_slots
 
+pattern abbrev pub reg_exp_literal : Atoms → Tree
+reg_exp_literal a = node types.RegExpLiteral a no_slots
+
 pattern abbrev pub parenthesized : Atoms → Tree → Tree
 parenthesized a expression = node types.ParenthesizedExpression a (one expression no_slots)
 

@@ -56,6 +56,9 @@ big_int_literal_fields = fields types.BigIntLiteral
 abbrev pub string_literal_fields : List Field
 string_literal_fields = fields types.StringLiteral
 
+abbrev pub reg_exp_literal_fields : List Field
+reg_exp_literal_fields = fields types.RegExpLiteral
+
 abbrev pub parenthesized_expression_fields : List Field
 parenthesized_expression_fields = fields types.ParenthesizedExpression
 

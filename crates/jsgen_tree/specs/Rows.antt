@@ -5,7 +5,7 @@ use Rattle.jsgen_syntax.specs.Units.{js_units}
 use Rattle.jsgen_tree.specs.Characters.{characters, number_if_given, numeric_values}
 use Rattle.jsgen_tree.specs.Tree.{Tree, optional, trees, holed}
 use Rattle.jsgen_tree.specs.Atom.{no_value, text, units, number, flag, kind_of_comment, content_of_comment, source_kind, declaration_kind, binary_operator, logical_operator, property_kind, unary_operator, update_operator, assignment_operator, kind_of_function}
-use Rattle.jsgen_tree.specs.Nodes.{program, comment, directive, variable_declaration, variable_declarator, binding_identifier, expression_statement, block, if_statement, empty_statement, identifier_reference, this_expression, null_literal, boolean_literal, numeric_literal, big_int_literal, string_literal, parenthesized, binary, logical, identifier_name, static_member, computed_member, call, chain, spread, array, object_property, object_expression, unary, new_target, update, new_expression, super, import_meta, conditional, sequence, assignment, formal_parameter, formal_parameter_rest, formal_parameters, function, function_body, arrow_function, for_statement, for_in_statement, for_of_statement, while_statement, do_while_statement, label_identifier, labeled_statement, continue_statement, break_statement, return_statement, throw_statement, debugger_statement, switch_statement, switch_case, try_statement, catch_clause}
+use Rattle.jsgen_tree.specs.Nodes.{program, comment, directive, variable_declaration, variable_declarator, binding_identifier, expression_statement, block, if_statement, empty_statement, identifier_reference, this_expression, null_literal, boolean_literal, numeric_literal, big_int_literal, string_literal, reg_exp_literal, parenthesized, binary, logical, identifier_name, static_member, computed_member, call, chain, spread, array, object_property, object_expression, unary, new_target, update, new_expression, super, import_meta, conditional, sequence, assignment, formal_parameter, formal_parameter_rest, formal_parameters, function, function_body, arrow_function, for_statement, for_in_statement, for_of_statement, while_statement, do_while_statement, label_identifier, labeled_statement, continue_statement, break_statement, return_statement, throw_statement, debugger_statement, switch_statement, switch_case, try_statement, catch_clause}
 use Rattle.jsgen_tree.specs.declared.nodes.ExpressionNode.{ExpressionNode}
 use Rattle.jsgen_tree.specs.declared.nodes.DeclarationNode.{DeclarationNode}
 use Rattle.jsgen_tree.specs.declared.nodes.StatementNode.{StatementNode}
@@ -27,6 +27,7 @@ use Rattle.jsgen_tree.specs.declared.expressions.BooleanLiteral.{BooleanLiteral}
 use Rattle.jsgen_tree.specs.declared.expressions.NumericLiteral.{NumericLiteral}
 use Rattle.jsgen_tree.specs.declared.expressions.BigIntLiteral.{BigIntLiteral}
 use Rattle.jsgen_tree.specs.declared.expressions.StringLiteral.{StringLiteral}
+use Rattle.jsgen_tree.specs.declared.expressions.RegExpLiteral.{RegExpLiteral}
 use Rattle.jsgen_tree.specs.declared.expressions.ParenthesizedExpression.{ParenthesizedExpression}
 use Rattle.jsgen_tree.specs.declared.expressions.BinaryExpression.{BinaryExpression}
 use Rattle.jsgen_tree.specs.declared.expressions.LogicalExpression.{LogicalExpression}
@@ -165,6 +166,9 @@ big_int_literal_row n = big_int_literal (record { span = n.span; values = text (
 
 abbrev pub string_literal_row : StringLiteral → Tree
 string_literal_row n = string_literal (record { span = n.span; values = units (js_units n.value) ∷ [] })
+
+abbrev pub reg_exp_literal_row : RegExpLiteral → Tree
+reg_exp_literal_row n = reg_exp_literal (record { span = n.span; values = text (characters n.pattern) ∷ text (characters n.flags) ∷ [] })
 
 abbrev pub parenthesized_expression_row : {N : Type 0} → (N → Tree) → ParenthesizedExpression N → Tree
 parenthesized_expression_row plain n = parenthesized (record { span = n.span; values = [] }) (in_expression plain n.expression)
@@ -350,6 +354,7 @@ expression_plain plain (expression.BooleanLiteral b) = boolean_literal_row b.val
 expression_plain plain (expression.NumericLiteral b) = numeric_literal_row b.value
 expression_plain plain (expression.BigIntLiteral b) = big_int_literal_row b.value
 expression_plain plain (expression.StringLiteral b) = string_literal_row b.value
+expression_plain plain (expression.RegExpLiteral b) = reg_exp_literal_row b.value
 expression_plain plain (expression.BinaryExpression b) = binary_expression_row plain b.value
 expression_plain plain (expression.LogicalExpression b) = logical_expression_row plain b.value
 expression_plain plain (expression.ParenthesizedExpression b) = parenthesized_expression_row plain b.value

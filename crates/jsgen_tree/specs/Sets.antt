@@ -14,6 +14,7 @@ is_expression types.BooleanLiteral = true
 is_expression types.NumericLiteral = true
 is_expression types.BigIntLiteral = true
 is_expression types.StringLiteral = true
+is_expression types.RegExpLiteral = true
 is_expression types.BinaryExpression = true
 is_expression types.LogicalExpression = true
 is_expression types.ParenthesizedExpression = true

@@ -38,6 +38,7 @@ expression_span (expression.BooleanLiteral b) = b.value.span
 expression_span (expression.NumericLiteral b) = b.value.span
 expression_span (expression.BigIntLiteral b) = b.value.span
 expression_span (expression.StringLiteral b) = b.value.span
+expression_span (expression.RegExpLiteral b) = b.value.span
 expression_span (expression.BinaryExpression b) = b.value.span
 expression_span (expression.LogicalExpression b) = b.value.span
 expression_span (expression.ParenthesizedExpression b) = b.value.span

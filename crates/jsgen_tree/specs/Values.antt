@@ -185,6 +185,12 @@ big_int_literal_value a = as_text (value_at 0 a.values)
 abbrev pub string_literal_value : Atoms → List ℕ
 string_literal_value a = as_units (value_at 0 a.values)
 
+abbrev pub reg_exp_literal_pattern : Atoms → List ℕ
+reg_exp_literal_pattern a = as_text (value_at 0 a.values)
+
+abbrev pub reg_exp_literal_flags : Atoms → List ℕ
+reg_exp_literal_flags a = as_text (value_at 1 a.values)
+
 abbrev pub binary_expression_operator : Atoms → BinaryOperator
 binary_expression_operator a = as_binary_operator (value_at 0 a.values)
 

@@ -58,6 +58,14 @@ pub struct StringLiteral {
     pub value: JsStr,
 }
 
+/// A regular expression by its pattern, without the slashes, and its flags (ECMA-262, 12.9.5).
+#[derive(Drop)]
+pub struct RegExpLiteral {
+    pub span: Span,
+    pub pattern: String,
+    pub flags: String,
+}
+
 /// An expression in parentheses. They aren't kept: the printer sets its own (ECMA-262, 13.2.9).
 #[derive(Drop)]
 pub struct ParenthesizedExpression<N = Node> {

@@ -35,7 +35,8 @@ pub use collections::{
 pub use expressions::{
     BigIntLiteral, BinaryExpression, BooleanLiteral, CallExpression, ChainExpression,
     ComputedMemberExpression, IdentifierName, IdentifierReference, LogicalExpression, NullLiteral,
-    NumericLiteral, ParenthesizedExpression, StaticMemberExpression, StringLiteral, ThisExpression,
+    NumericLiteral, ParenthesizedExpression, RegExpLiteral, StaticMemberExpression, StringLiteral,
+    ThisExpression,
 };
 pub use functions::{
     ArrowFunctionExpression, FormalParameter, FormalParameterRest, FormalParameters, Function,

@@ -26,6 +26,7 @@ impl Expression {
             Expression::NumericLiteral(_) => NodeType::NumericLiteral,
             Expression::BigIntLiteral(_) => NodeType::BigIntLiteral,
             Expression::StringLiteral(_) => NodeType::StringLiteral,
+            Expression::RegExpLiteral(_) => NodeType::RegExpLiteral,
             Expression::BinaryExpression(_) => NodeType::BinaryExpression,
             Expression::LogicalExpression(_) => NodeType::LogicalExpression,
             Expression::ParenthesizedExpression(_) => NodeType::ParenthesizedExpression,

@@ -7,7 +7,8 @@ use crate::collections::{ArrayExpression, ObjectExpression, ObjectProperty, Spre
 use crate::expressions::{
     BigIntLiteral, BinaryExpression, BooleanLiteral, CallExpression, ChainExpression,
     ComputedMemberExpression, IdentifierName, IdentifierReference, LogicalExpression, NullLiteral,
-    NumericLiteral, ParenthesizedExpression, StaticMemberExpression, StringLiteral, ThisExpression,
+    NumericLiteral, ParenthesizedExpression, RegExpLiteral, StaticMemberExpression, StringLiteral,
+    ThisExpression,
 };
 use crate::functions::{ArrowFunctionExpression, Function, FunctionBody};
 use crate::loops::{
@@ -33,6 +34,7 @@ pub enum Expression<N = Node> {
     NumericLiteral(Box<NumericLiteral>),
     BigIntLiteral(Box<BigIntLiteral>),
     StringLiteral(Box<StringLiteral>),
+    RegExpLiteral(Box<RegExpLiteral>),
     BinaryExpression(Box<BinaryExpression<N>>),
     LogicalExpression(Box<LogicalExpression<N>>),
     ParenthesizedExpression(Box<ParenthesizedExpression<N>>),

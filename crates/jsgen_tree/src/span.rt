@@ -11,7 +11,8 @@ use crate::collections::{ArrayExpression, ObjectExpression, ObjectProperty, Spre
 use crate::expressions::{
     BigIntLiteral, BinaryExpression, BooleanLiteral, CallExpression, ChainExpression,
     ComputedMemberExpression, IdentifierName, IdentifierReference, LogicalExpression, NullLiteral,
-    NumericLiteral, ParenthesizedExpression, StaticMemberExpression, StringLiteral, ThisExpression,
+    NumericLiteral, ParenthesizedExpression, RegExpLiteral, StaticMemberExpression, StringLiteral,
+    ThisExpression,
 };
 use crate::functions::{
     ArrowFunctionExpression, FormalParameter, FormalParameterRest, FormalParameters, Function,
@@ -176,6 +177,14 @@ impl GetSpan for BigIntLiteral {
 }
 
 impl GetSpan for StringLiteral {
+    ghost own_span = { λ n. n.span };
+
+    fn span(&self) -> Span {
+        self.span
+    }
+}
+
+impl GetSpan for RegExpLiteral {
     ghost own_span = { λ n. n.span };
 
     fn span(&self) -> Span {
@@ -539,6 +548,7 @@ impl<N> GetSpan for Expression<N> {
             Expression::NumericLiteral(node) => node.span,
             Expression::BigIntLiteral(node) => node.span,
             Expression::StringLiteral(node) => node.span,
+            Expression::RegExpLiteral(node) => node.span,
             Expression::BinaryExpression(node) => node.span,
             Expression::LogicalExpression(node) => node.span,
             Expression::ParenthesizedExpression(node) => node.span,

@@ -23,6 +23,7 @@ pub enum NodeType {
     NumericLiteral,
     BigIntLiteral,
     StringLiteral,
+    RegExpLiteral,
     ParenthesizedExpression,
     BinaryExpression,
     LogicalExpression,
@@ -149,6 +150,7 @@ impl NodeType {
                 | NodeType::NumericLiteral
                 | NodeType::BigIntLiteral
                 | NodeType::StringLiteral
+                | NodeType::RegExpLiteral
                 | NodeType::BinaryExpression
                 | NodeType::LogicalExpression
                 | NodeType::ParenthesizedExpression
@@ -186,6 +188,7 @@ impl NodeType {
                 | NodeType::NumericLiteral
                 | NodeType::BigIntLiteral
                 | NodeType::StringLiteral
+                | NodeType::RegExpLiteral
                 | NodeType::BinaryExpression
                 | NodeType::LogicalExpression
                 | NodeType::ParenthesizedExpression
@@ -223,6 +226,7 @@ impl NodeType {
                 | NodeType::NumericLiteral
                 | NodeType::BigIntLiteral
                 | NodeType::StringLiteral
+                | NodeType::RegExpLiteral
                 | NodeType::BinaryExpression
                 | NodeType::LogicalExpression
                 | NodeType::ParenthesizedExpression
@@ -296,6 +300,7 @@ impl NodeType {
                 | NodeType::NumericLiteral
                 | NodeType::BigIntLiteral
                 | NodeType::StringLiteral
+                | NodeType::RegExpLiteral
                 | NodeType::BinaryExpression
                 | NodeType::LogicalExpression
                 | NodeType::ParenthesizedExpression
@@ -333,6 +338,7 @@ impl NodeType {
                 | NodeType::NumericLiteral
                 | NodeType::BigIntLiteral
                 | NodeType::StringLiteral
+                | NodeType::RegExpLiteral
                 | NodeType::BinaryExpression
                 | NodeType::LogicalExpression
                 | NodeType::ParenthesizedExpression
@@ -390,6 +396,7 @@ impl NodeType {
                 | NodeType::NumericLiteral
                 | NodeType::BigIntLiteral
                 | NodeType::StringLiteral
+                | NodeType::RegExpLiteral
                 | NodeType::BinaryExpression
                 | NodeType::LogicalExpression
                 | NodeType::ParenthesizedExpression

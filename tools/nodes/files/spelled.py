@@ -130,6 +130,9 @@ class Clause:
     def item_name(self, f):
         return f"name a.span (as_written {self.value(f)})"
 
+    def item_pattern(self, pattern, flags):
+        return f"regular_expression {self.value(pattern)} {self.value(flags)}"
+
     def item_unary_sign(self, f):
         return f"unary_sign {self.value(f)}"
 
@@ -188,7 +191,7 @@ def spell_file(table):
     outside = layout.by_hand(text)
     already = set(re.findall(r"[\w◌⊕]+", "\n".join(line for line in outside.splitlines() if line.startswith("use "))))
     values = [f"{snake(n.name)}_{f.name}" for n in spelled(table) for f in table.values(n)]
-    items = ["marked_word", "comments", "all_of_them", "with_key_annotation", "mark", "end_mark", "hard_space", "soft_line"]
+    items = ["marked_word", "comments", "all_of_them", "with_key_annotation", "mark", "end_mark", "regular_expression", "hard_space", "soft_line"]
     homes = [(f"{SPECS}.Values", [v for v in values if v not in already]), (f"{MODEL}.Items", [v for v in items if v not in already])]
     imports = "\n".join(f"use {module}.{{{', '.join(names)}}}" for module, names in layout.used(clauses, homes))
     return layout.region(layout.region(text, "names", imports + "\n"), "clauses", clauses)    # the empty line is how `rt fmt` lays it out
@@ -278,6 +281,11 @@ class Body:
 
     def step_name(self, f):
         return self.step("print_name", "node.span", f"node.{f.rust}.as_str()")
+
+    def step_pattern(self, pattern, flags):
+        said = [self.call("as_str"), self.call("as_str")]
+        printed = self.step("print_regular_expression", f"node.{pattern.rust}.as_str()", f"node.{flags.rust}.as_str()")
+        return f"(rw ({said[0]}.ensures.value, {said[1]}.ensures.value) at {printed})"
 
     def step_unary_sign(self, f):
         return self.step("print_unary_operator", f"node.{f.rust}")

@@ -24,6 +24,9 @@ returns-in-BigIntLiteral g c = rw c.in-BigIntLiteral.is (rw c.deref-in-BigIntLit
 pub returns-in-StringLiteral : goal.returns-in-StringLiteral
 returns-in-StringLiteral g c = rw c.in-StringLiteral.is (rw c.deref-in-StringLiteral.ensures at c.print_string_literal.ensures)
 
+pub returns-in-RegExpLiteral : goal.returns-in-RegExpLiteral
+returns-in-RegExpLiteral g c = rw c.in-RegExpLiteral.is (rw c.deref-in-RegExpLiteral.ensures at c.print_reg_exp_literal.ensures)
+
 pub returns-in-ParenthesizedExpression : goal.returns-in-ParenthesizedExpression
 returns-in-ParenthesizedExpression g c = rw c.in-ParenthesizedExpression.is (rw c.deref-in-ParenthesizedExpression.ensures at c.print_parenthesized_expression.ensures)
 
@@ -49,4 +52,4 @@ pub returns-in_default : goal.returns-in_default
 returns-in_default g c = c.print_expression_in_collections.ensures
 
 pub print_expression_in_collections-requires : goal.print_expression_in_collections-requires
-print_expression_in_collections-requires g c = expression_past_0 c.args.node.now c.in_default.not-IdentifierReference c.in_default.not-ThisExpression c.in_default.not-NullLiteral c.in_default.not-BooleanLiteral c.in_default.not-NumericLiteral c.in_default.not-BigIntLiteral c.in_default.not-StringLiteral c.in_default.not-ParenthesizedExpression c.in_default.not-BinaryExpression c.in_default.not-LogicalExpression c.in_default.not-StaticMemberExpression c.in_default.not-ComputedMemberExpression c.in_default.not-CallExpression c.in_default.not-ChainExpression
+print_expression_in_collections-requires g c = expression_past_0 c.args.node.now c.in_default.not-IdentifierReference c.in_default.not-ThisExpression c.in_default.not-NullLiteral c.in_default.not-BooleanLiteral c.in_default.not-NumericLiteral c.in_default.not-BigIntLiteral c.in_default.not-StringLiteral c.in_default.not-RegExpLiteral c.in_default.not-ParenthesizedExpression c.in_default.not-BinaryExpression c.in_default.not-LogicalExpression c.in_default.not-StaticMemberExpression c.in_default.not-ComputedMemberExpression c.in_default.not-CallExpression c.in_default.not-ChainExpression

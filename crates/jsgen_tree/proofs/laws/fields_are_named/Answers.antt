@@ -16,6 +16,7 @@ returns c = record {
   numeric_literal = λ a. (refl, refl, refl, refl);
   big_int_literal = λ a. refl;
   string_literal = λ a. refl;
+  reg_exp_literal = λ a. (refl, refl);
   binary_expression = λ a. refl;
   logical_expression = λ a. refl;
   identifier_name = λ a. refl;
