@@ -61,7 +61,7 @@ const TYPE_NAMES: [(&str, NodeType); 50] = [
     ("LabelIdentifier", NodeType::LabelIdentifier),
 ];
 
-const TYPE_NAMES_2: [(&str, NodeType); 10] = [
+const TYPE_NAMES_2: [(&str, NodeType); 15] = [
     ("LabeledStatement", NodeType::LabeledStatement),
     ("ContinueStatement", NodeType::ContinueStatement),
     ("BreakStatement", NodeType::BreakStatement),
@@ -72,6 +72,11 @@ const TYPE_NAMES_2: [(&str, NodeType); 10] = [
     ("SwitchCase", NodeType::SwitchCase),
     ("TryStatement", NodeType::TryStatement),
     ("CatchClause", NodeType::CatchClause),
+    ("ObjectPattern", NodeType::ObjectPattern),
+    ("BindingProperty", NodeType::BindingProperty),
+    ("BindingRestElement", NodeType::BindingRestElement),
+    ("ArrayPattern", NodeType::ArrayPattern),
+    ("AssignmentPattern", NodeType::AssignmentPattern),
 ];
 
 fn first_named(names: &[(&str, NodeType)], name: &str) -> Option<NodeType>
