@@ -6,6 +6,7 @@ ghost use Rattle.jsgen_place.specs.Place.{at_level};
 ghost use Rattle.jsgen_model.specs.Spell.{spell};
 
 use crate::PrintAlone;
+use jsgen_nodes::patterns::{print_array_pattern, print_binding_property, print_object_pattern};
 use jsgen_nodes::{Inside, PrintNode};
 use jsgen_patterns::{print_assignment_pattern, print_binding_rest_element};
 use jsgen_place::{Context, Place};

@@ -404,8 +404,12 @@ abbrev pub takes_default : NodeSet → Bool
 takes_default sets.BindingElement = true
 takes_default set = false
 
+-- of these two a node is neither, or the place takes it
+abbrev pub has_place : NodeSet → NodeType → Bool
+has_place set type = (takes_super set || not (is_super type)) && (takes_default set || not (is_default type))
+
 abbrev pub may_stand : NodeSet → NodeType → Bool
-may_stand set type = in_set set type && ((takes_super set || not (is_super type)) && (takes_default set || not (is_default type)))
+may_stand set type = in_set set type && has_place set type
 
 -- Links of which one is optional stand in a chain: as its expression, or before a further link. Of what is changed, its operation has the rule.
 abbrev pub takes_optional_link : NodeSet → Bool

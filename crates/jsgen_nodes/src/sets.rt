@@ -19,6 +19,7 @@ use crate::loops::{
     print_do_while_statement, print_for_in_statement, print_for_of_statement, print_for_statement,
 };
 use crate::operations::{print_new_expression, print_update_expression};
+use crate::patterns::{print_array_pattern, print_object_pattern};
 use crate::statements::{print_block_statement, print_if_statement};
 use crate::{Inside, PrintNode};
 use jsgen_inside::{print_binding_identifier, print_identifier_reference};
