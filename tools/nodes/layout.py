@@ -18,6 +18,17 @@ def used(body, homes):
             yield module, names
 
 
+MOST_GROUPED = 100  # where a file uses more names, `rt fmt` gives each a line of its own
+
+
+def use_lines(homes, word="use"):
+    """The lines that bring these names of each module into a file of Rattle."""
+    if sum(len(names) for _, names in homes) > MOST_GROUPED:
+        return [f"{word} {module}::{name};" for module, names in homes for name in sorted(names)]
+    lines = [f"{word} {module}::{{{', '.join(sorted(names))}}};" for module, names in homes]
+    return [re.sub(r"\{(\w+)\}", r"\1", line) for line in lines]
+
+
 def antt(about, homes, aliases, body):
     lines = [ANTT + f"-- {about}"]
     lines += [f"use {m}.{{{', '.join(ns)}}}" for m, ns in used(body, homes)]
@@ -29,8 +40,7 @@ def rust(about, ghosts, aliases, homes, body):
     lines = [RUST + f"// {about}"]
     lines += [f"ghost use {m}.{{{', '.join(ns)}}};" for m, ns in used(body, ghosts)]
     lines += [f"ghost use {m} as {a};" for m, a in aliases if re.search(rf"(?<![\w.]){a}\.", body)]
-    uses = [f"use {m}::{{{', '.join(sorted(ns))}}};" for m, ns in used(body, homes)]
-    uses = sorted(re.sub(r"\{(\w+)\}", r"\1", u) for u in uses)
+    uses = sorted(use_lines(list(used(body, homes))))
     return "\n".join(lines + [""] + uses) + "\n\n" + body.strip() + "\n"
 
 

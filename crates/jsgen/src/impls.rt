@@ -3,16 +3,17 @@
 
 use crate::gens::{Gen, GenExpr};
 use jsgen_tree::{
-    Argument, ArrayExpression, ArrayExpressionElement, ArrowFunctionExpression,
-    AssignmentExpression, AssignmentTarget, BigIntLiteral, BinaryExpression, BindingIdentifier,
-    BindingPattern, BlockStatement, BooleanLiteral, BreakStatement, CallExpression, CatchClause,
-    ChainExpression, ComputedMemberExpression, ConditionalExpression, ContinueStatement,
-    DebuggerStatement, Directive, DoWhileStatement, EmptyStatement, Expression,
-    ExpressionStatement, ForInStatement, ForOfStatement, ForStatement, ForStatementInit,
-    ForStatementLeft, FormalParameter, FormalParameterRest, FormalParameters, Function,
-    FunctionBody, IdentifierName, IdentifierReference, IfStatement, ImportMeta, LabelIdentifier,
-    LabeledStatement, LogicalExpression, NewExpression, NewTarget, NullLiteral, NumericLiteral,
-    ObjectExpression, ObjectProperty, ObjectPropertyKind, ParenthesizedExpression, Program,
+    Argument, ArrayExpression, ArrayExpressionElement, ArrayPattern, ArrowFunctionExpression,
+    AssignmentExpression, AssignmentPattern, AssignmentTarget, BigIntLiteral, BinaryExpression,
+    BindingIdentifier, BindingPattern, BindingProperty, BindingRestElement, BlockStatement,
+    BooleanLiteral, BreakStatement, CallExpression, CatchClause, ChainExpression,
+    ComputedMemberExpression, ConditionalExpression, ContinueStatement, DebuggerStatement,
+    Directive, DoWhileStatement, EmptyStatement, Expression, ExpressionStatement, ForInStatement,
+    ForOfStatement, ForStatement, ForStatementInit, ForStatementLeft, FormalParameter,
+    FormalParameterRest, FormalParameters, Function, FunctionBody, IdentifierName,
+    IdentifierReference, IfStatement, ImportMeta, LabelIdentifier, LabeledStatement,
+    LogicalExpression, NewExpression, NewTarget, NullLiteral, NumericLiteral, ObjectExpression,
+    ObjectPattern, ObjectProperty, ObjectPropertyKind, ParenthesizedExpression, Program,
     PropertyKey, RegExpLiteral, ReturnStatement, SequenceExpression, SimpleAssignmentTarget,
     SpreadElement, Statement, StaticMemberExpression, StringLiteral, Super, SwitchCase,
     SwitchStatement, ThisExpression, ThrowStatement, TryStatement, UnaryExpression,
@@ -138,6 +139,16 @@ impl Gen for SwitchCase {}
 impl Gen for TryStatement {}
 
 impl Gen for CatchClause {}
+
+impl Gen for ObjectPattern {}
+
+impl Gen for BindingProperty {}
+
+impl Gen for BindingRestElement {}
+
+impl Gen for ArrayPattern {}
+
+impl Gen for AssignmentPattern {}
 
 impl GenExpr for Expression {}
 

@@ -134,8 +134,8 @@ impl<N: PrintNode> PrintAlone for Statement<N> {
     }
 }
 
-impl PrintAlone for BindingPattern {
-    ghost alone = { λ n context. spell (binding_pattern_plain n) (at_level Lowest context) };
+impl<N: PrintNode> PrintAlone for BindingPattern<N> {
+    ghost alone = { λ n context. spell (binding_pattern_plain N.plain n) (at_level Lowest context) };
 
     fn print_alone(&self, p: &mut Printer<'_>, context: Context) {
         print_binding_pattern(self, p, Place::at_level(Precedence::Lowest, context));

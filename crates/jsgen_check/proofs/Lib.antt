@@ -5,3 +5,4 @@ pub mod Numbers
 pub mod Programs
 pub mod Steps
 pub mod Verdicts
+pub mod Bare

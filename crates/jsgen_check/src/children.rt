@@ -2,7 +2,7 @@
 // Lists, children that may be absent, and sets that don't nest.
 ghost use Rattle.std.specs.Prelude.{◌≡◌, map, option_map};
 ghost use Rattle.jsgen_tree.specs.Tree.{optional, trees, holed};
-ghost use Rattle.jsgen_tree.specs.Rows.{in_expression, in_argument, in_array_expression_element, in_chain_element, in_simple_assignment_target, in_assignment_target, in_arrow_function_body, in_for_statement_init, in_for_statement_left, in_object_property_kind, in_property_key, in_statement, in_binding_pattern, comment_row, directive_row, variable_declarator_row, binding_identifier_row, block_statement_row, formal_parameter_row, formal_parameter_rest_row, function_body_row, label_identifier_row, switch_case_row, catch_clause_row};
+ghost use Rattle.jsgen_tree.specs.Rows.{in_expression, in_argument, in_array_expression_element, in_chain_element, in_simple_assignment_target, in_assignment_target, in_arrow_function_body, in_for_statement_init, in_for_statement_left, in_object_property_kind, in_property_key, in_statement, in_binding_pattern, comment_row, directive_row, variable_declarator_row, binding_identifier_row, block_statement_row, formal_parameter_row, formal_parameter_rest_row, function_body_row, label_identifier_row, switch_case_row, catch_clause_row, binding_property_row, binding_rest_element_row};
 ghost use Rattle.jsgen_check.specs.Verdict.{child_verdict, maybe_verdict, children_verdict};
 ghost use Rattle.jsgen_tree.specs.declared.types.NodeSet.TheVariants as sets;
 
@@ -15,6 +15,7 @@ use crate::expressions::{
 use crate::functions::{check_formal_parameter, check_formal_parameter_rest, check_function_body};
 use crate::heights::higher;
 use crate::loops::check_label_identifier;
+use crate::patterns::{check_binding_property, check_binding_rest_element};
 use crate::statements::{
     check_binding_identifier, check_block_statement, check_comment, check_directive,
     check_variable_declaration, check_variable_declarator,
@@ -23,10 +24,11 @@ use crate::{CheckNode, Surroundings, check_child};
 use jsgen_model::TreeFault;
 use jsgen_tree::{
     Argument, ArrayExpressionElement, ArrowFunctionBody, AssignmentTarget, BindingIdentifier,
-    BindingPatternNode, BlockStatement, CatchClause, ChainElement, Comment, Directive,
-    ExpressionNode, ForStatementInit, ForStatementLeft, FormalParameter, FormalParameterRest,
-    FunctionBody, LabelIdentifier, NodeSet, ObjectPropertyKind, PropertyKey,
-    SimpleAssignmentTarget, StatementNode, SwitchCase, VariableDeclarator,
+    BindingPatternNode, BindingProperty, BindingRestElement, BlockStatement, CatchClause,
+    ChainElement, Comment, Directive, ExpressionNode, ForStatementInit, ForStatementLeft,
+    FormalParameter, FormalParameterRest, FunctionBody, LabelIdentifier, NodeSet,
+    ObjectPropertyKind, PropertyKey, SimpleAssignmentTarget, StatementNode, SwitchCase,
+    VariableDeclarator,
 };
 
 pub fn check_comments(nodes: &[Comment], around: &Surroundings<'_>) -> Result<u64, TreeFault>
@@ -149,6 +151,20 @@ pub fn check_switch_cases<N: CheckNode>(
     below
 }
 
+pub fn check_binding_properties<N: CheckNode>(
+    nodes: &[BindingProperty<N>],
+    around: &Surroundings<'_>,
+) -> Result<u64, TreeFault>
+    ensures { result ≡ children_verdict around.now sets.BindingProperty (trees (map (binding_property_row N.plain) nodes.now)) }
+{
+    let mut below = Ok(0);
+    for node in nodes {
+        let found = check_binding_property(node, around);
+        below = higher(below, found);
+    }
+    below
+}
+
 pub fn check_array_expression_elements_or_holes<N: CheckNode>(
     nodes: &[Option<ArrayExpressionElement<N>>],
     around: &Surroundings<'_>,
@@ -158,6 +174,20 @@ pub fn check_array_expression_elements_or_holes<N: CheckNode>(
     let mut below = Ok(0);
     for node in nodes {
         let found = check_optional_array_expression_element(node, around);
+        below = higher(below, found);
+    }
+    below
+}
+
+pub fn check_binding_elements_or_holes<N: CheckNode>(
+    nodes: &[Option<BindingPatternNode<N>>],
+    around: &Surroundings<'_>,
+) -> Result<u64, TreeFault>
+    ensures { result ≡ children_verdict around.now sets.BindingElement (holed (map (option_map (in_binding_pattern N.plain)) nodes.now)) }
+{
+    let mut below = Ok(0);
+    for node in nodes {
+        let found = check_optional_binding_element(node, around);
         below = higher(below, found);
     }
     below
@@ -283,6 +313,18 @@ pub fn check_optional_binding_pattern<N: CheckNode>(
     }
 }
 
+pub fn check_optional_binding_rest_element<N: CheckNode>(
+    node: &Option<Box<BindingRestElement<N>>>,
+    around: &Surroundings<'_>,
+) -> Result<u64, TreeFault>
+    ensures { result ≡ maybe_verdict around.now sets.BindingRestElement (optional (option_map (λ b. binding_rest_element_row N.plain b.value) node.now)) }
+{
+    match node {
+        Some(node) => check_binding_rest_element(node, around),
+        None => Ok(0),
+    }
+}
+
 pub fn check_optional_array_expression_element<N: CheckNode>(
     node: &Option<ArrayExpressionElement<N>>,
     around: &Surroundings<'_>,
@@ -291,6 +333,18 @@ pub fn check_optional_array_expression_element<N: CheckNode>(
 {
     match node {
         Some(node) => check_array_expression_element(node, around),
+        None => Ok(0),
+    }
+}
+
+pub fn check_optional_binding_element<N: CheckNode>(
+    node: &Option<BindingPatternNode<N>>,
+    around: &Surroundings<'_>,
+) -> Result<u64, TreeFault>
+    ensures { result ≡ maybe_verdict around.now sets.BindingElement (optional (option_map (in_binding_pattern N.plain) node.now)) }
+{
+    match node {
+        Some(node) => check_child(node.get(), NodeSet::BindingElement, around),
         None => Ok(0),
     }
 }

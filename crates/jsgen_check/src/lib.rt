@@ -2,13 +2,13 @@
 //! memory.
 #![tactic(auto)]
 
-ghost use Rattle.std.specs.Prelude.{◌≡◌};
+ghost use Rattle.std.specs.Prelude.{◌≡◌, not, ◌&&◌};
 ghost use Rattle.jsgen_tree.specs.Tree.{Tree, type_of, span_of};
 ghost use Rattle.jsgen_tree.specs.Plain.{node_plain, program_plain};
 ghost use Rattle.jsgen_tree.specs.Options.{options_plain};
 ghost use Rattle.jsgen_tree.specs.Rows.{expression_plain};
 ghost use Rattle.jsgen_tree.specs.declared.types.NodeSet.TheVariants as sets;
-ghost use Rattle.jsgen_model.specs.Valid.{job_breaches, expression_breaches, set_faults, link_faults, Judges};
+ghost use Rattle.jsgen_model.specs.Valid.{job_breaches, expression_breaches, set_faults, link_faults, is_among_statements, binds_nothing, Judges};
 ghost use Rattle.jsgen_rules.specs.Verdict.{verdict};
 ghost use Rattle.jsgen_check.specs.Verdict.{tables_of, tree_verdict, child_verdict, told};
 
@@ -23,6 +23,7 @@ mod kinds;
 mod links;
 mod loops;
 mod operations;
+mod patterns;
 mod program;
 mod rules;
 mod sets;
@@ -33,13 +34,15 @@ use crate::heights::check_top;
 use crate::kinds::{expression_fits_kind, method_fits};
 use crate::links::{expression_has_optional_link, has_optional_link};
 use crate::program::check_program_row;
+use crate::rules::binds_nothing;
 use crate::sets::{
     check_binding_pattern_set, check_declaration_set, check_expression_set, check_statement_set,
 };
 pub use crate::surroundings::Surroundings;
 use jsgen_model::TreeFault;
 use jsgen_rules::{
-    check_no_optional_link, check_set, function_fits, is_declaration, takes_optional_link,
+    check_no_optional_link, check_set, function_fits, is_among_statements, is_declaration,
+    takes_optional_link,
 };
 use jsgen_tree::{
     CodegenOptions, Expression, GetSpan, IdentifierReference, Node, NodeSet, NodeType,
@@ -66,7 +69,7 @@ pub trait CheckNode {
     fn is_declaration(&self) -> bool
         ensures { result ≡ is_declaration (plain self.now) };
 
-    /// Whether it may stand at a place that asks for this set, as far as it is a function.
+    /// Whether it may stand at a place that asks for this set, as far as it is a function or a declaration.
     fn fits_kind(&self, set: NodeSet) -> bool
         ensures { result ≡ fits_kind set (plain self.now) };
 
@@ -181,6 +184,17 @@ fn check_place<N: CheckNode>(child: &N, set: NodeSet) -> Result<(), TreeFault>
     check_links(child, set)
 }
 
+// A declaration among statements gives each pattern a value.
+fn is_bound(node: &Node, set: NodeSet) -> bool
+    ensures { result ≡ not (is_among_statements set && binds_nothing (node_plain node.now)) }
+{
+    if is_among_statements(set) {
+        !binds_nothing(node)
+    } else {
+        true
+    }
+}
+
 // The links are looked at where they end, so each once.
 fn check_links<N: CheckNode>(child: &N, set: NodeSet) -> Result<(), TreeFault>
     ensures { result ≡ verdict (link_faults set (N.plain child.now)) }
@@ -210,7 +224,7 @@ impl CheckNode for Node {
     fn fits_kind(&self, set: NodeSet) -> bool {
         match self.as_function() {
             Some(function) => function_fits(function.kind, set),
-            None => true,
+            None => is_bound(self, set),
         }
     }
 

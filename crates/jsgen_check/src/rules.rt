@@ -11,6 +11,7 @@ ghost use Rattle.jsgen_check.specs.Verdict.{surroundings_plain};
 mod functions;
 mod keys;
 mod links;
+mod patterns;
 mod statements;
 
 use crate::{CheckNode, Surroundings};
@@ -31,6 +32,9 @@ pub use links::{
     check_assignment_expression_rules, check_call_expression_rules, check_chain_expression_rules,
     check_computed_member_expression_rules, check_static_member_expression_rules,
     check_update_expression_rules,
+};
+pub use patterns::{
+    binds_nothing, check_binding_property_rules, check_object_pattern_rules, declaration_binds_nothing,
 };
 pub use statements::{
     check_do_while_statement_rules, check_for_in_statement_rules, check_for_of_statement_rules,

@@ -26,6 +26,7 @@ use crate::operations::{
     check_import_meta, check_new_expression, check_new_target, check_super, check_unary_expression,
     check_update_expression,
 };
+use crate::patterns::{check_array_pattern, check_assignment_pattern, check_object_pattern};
 use crate::statements::{
     check_binding_identifier, check_block_statement, check_empty_statement,
     check_expression_statement, check_if_statement, check_variable_declaration,
@@ -118,13 +119,16 @@ pub fn check_statement_set<N: CheckNode>(
 }
 
 #[inline(never)]
-pub fn check_binding_pattern_set(
-    node: &BindingPattern,
+pub fn check_binding_pattern_set<N: CheckNode>(
+    node: &BindingPattern<N>,
     around: &Surroundings<'_>,
 ) -> Result<u64, TreeFault>
-    ensures { result ≡ tree_verdict around.now (binding_pattern_plain node.now) }
+    ensures { result ≡ tree_verdict around.now (binding_pattern_plain N.plain node.now) }
 {
     match node {
         BindingPattern::BindingIdentifier(node) => check_binding_identifier(node, around),
+        BindingPattern::ObjectPattern(node) => check_object_pattern(node, around),
+        BindingPattern::ArrayPattern(node) => check_array_pattern(node, around),
+        BindingPattern::AssignmentPattern(node) => check_assignment_pattern(node, around),
     }
 }

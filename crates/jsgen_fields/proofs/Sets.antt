@@ -3,7 +3,7 @@
 use Rattle.std.proofs.Common.{◌≡◌, Bool, true, false, refl}
 use Rattle.jsgen_tree.specs.Tree.{Tree, type_of}
 use Rattle.jsgen_tree.specs.declared.types.NodeType.{NodeType}
-use Rattle.jsgen_tree.specs.Sets.{is_comment, is_directive, is_statement, is_variable_declarator, is_binding_pattern, is_expression, is_identifier_name, is_argument, is_chain_element, is_array_expression_element, is_property_key, is_object_property_kind, is_simple_assignment_target, is_assignment_target, is_formal_parameter, is_formal_parameter_rest, is_binding_identifier, is_formal_parameters, is_function_body, is_arrow_function_body, is_for_statement_init, is_for_statement_left, is_label_identifier, is_switch_case, is_block_statement, is_catch_clause}
+use Rattle.jsgen_tree.specs.Sets.{is_comment, is_directive, is_statement, is_variable_declarator, is_binding_pattern, is_expression, is_identifier_name, is_argument, is_chain_element, is_array_expression_element, is_property_key, is_object_property_kind, is_simple_assignment_target, is_assignment_target, is_formal_parameter, is_formal_parameter_rest, is_binding_identifier, is_formal_parameters, is_function_body, is_arrow_function_body, is_for_statement_init, is_for_statement_left, is_label_identifier, is_switch_case, is_block_statement, is_catch_clause, is_binding_property, is_binding_rest_element}
 use Rattle.jsgen_tree.specs.Rows.{expression_plain, declaration_plain, statement_plain, binding_pattern_plain}
 use Rattle.jsgen_fields.specs.Meaning.{is_program}
 use Rattle.jsgen_tree.specs.declared.sets.Expression.{Expression}
@@ -26,8 +26,11 @@ of_declaration : {N : Type 0} (plain : N → Tree) (f : NodeType → Bool) (b : 
 of_declaration plain f b h0 (declarations.Function r) o = cc
 of_declaration plain f b h0 (declarations.VariableDeclaration r) o = h0
 
-of_binding_pattern : (f : NodeType → Bool) (b : Bool) → f types.BindingIdentifier ≡ b → (r : BindingPattern) → f (type_of (binding_pattern_plain r)) ≡ b
-of_binding_pattern f b h0 (binding_patterns.BindingIdentifier r) = h0
+of_binding_pattern : {N : Type 0} (plain : N → Tree) (f : NodeType → Bool) (b : Bool) → f types.BindingIdentifier ≡ b → f types.ObjectPattern ≡ b → f types.ArrayPattern ≡ b → f types.AssignmentPattern ≡ b → (r : BindingPattern N) → f (type_of (binding_pattern_plain plain r)) ≡ b
+of_binding_pattern plain f b h0 h1 h2 h3 (binding_patterns.BindingIdentifier r) = h0
+of_binding_pattern plain f b h0 h1 h2 h3 (binding_patterns.ObjectPattern r) = h1
+of_binding_pattern plain f b h0 h1 h2 h3 (binding_patterns.ArrayPattern r) = h2
+of_binding_pattern plain f b h0 h1 h2 h3 (binding_patterns.AssignmentPattern r) = h3
 
 of_statement : {N : Type 0} (plain : N → Tree) (f : NodeType → Bool) (b : Bool) → f types.ExpressionStatement ≡ b → f types.BlockStatement ≡ b → f types.IfStatement ≡ b → f types.EmptyStatement ≡ b → f types.ForStatement ≡ b → f types.ForInStatement ≡ b → f types.ForOfStatement ≡ b → f types.WhileStatement ≡ b → f types.DoWhileStatement ≡ b → f types.LabeledStatement ≡ b → f types.ContinueStatement ≡ b → f types.BreakStatement ≡ b → f types.ReturnStatement ≡ b → f types.ThrowStatement ≡ b → f types.DebuggerStatement ≡ b → f types.SwitchStatement ≡ b → f types.TryStatement ≡ b → (r : Statement N) → is_other_statement r ≡ true → f (type_of (statement_plain plain r)) ≡ b
 of_statement plain f b h0 h1 h2 h3 h4 h5 h6 h7 h8 h9 h10 h11 h12 h13 h14 h15 h16 (statements.Declaration r) o = cc
@@ -84,8 +87,8 @@ of_expression plain f b h0 h1 h2 h3 h4 h5 h6 h7 h8 h9 h10 h11 h12 h13 h14 h15 h1
 pub no_declaration_is_a_program : {N : Type 0} (plain : N → Tree) (r : OtherDeclaration N) → is_program (type_of (declaration_plain plain r.declaration)) ≡ false
 no_declaration_is_a_program plain r = of_declaration plain is_program false refl r.declaration r.other
 
-pub no_binding_pattern_is_a_program : (r : BindingPattern) → is_program (type_of (binding_pattern_plain r)) ≡ false
-no_binding_pattern_is_a_program r = of_binding_pattern is_program false refl r
+pub no_binding_pattern_is_a_program : {N : Type 0} (plain : N → Tree) (r : BindingPattern N) → is_program (type_of (binding_pattern_plain plain r)) ≡ false
+no_binding_pattern_is_a_program plain r = of_binding_pattern plain is_program false refl refl refl refl r
 
 pub no_statement_is_a_program : {N : Type 0} (plain : N → Tree) (r : OtherStatement N) → is_program (type_of (statement_plain plain r.statement)) ≡ false
 no_statement_is_a_program plain r = of_statement plain is_program false refl refl refl refl refl refl refl refl refl refl refl refl refl refl refl refl refl r.statement r.other
@@ -96,8 +99,8 @@ no_expression_is_a_program plain r = of_expression plain is_program false refl r
 pub no_declaration_is_a_comment : {N : Type 0} (plain : N → Tree) (r : OtherDeclaration N) → is_comment (type_of (declaration_plain plain r.declaration)) ≡ false
 no_declaration_is_a_comment plain r = of_declaration plain is_comment false refl r.declaration r.other
 
-pub no_binding_pattern_is_a_comment : (r : BindingPattern) → is_comment (type_of (binding_pattern_plain r)) ≡ false
-no_binding_pattern_is_a_comment r = of_binding_pattern is_comment false refl r
+pub no_binding_pattern_is_a_comment : {N : Type 0} (plain : N → Tree) (r : BindingPattern N) → is_comment (type_of (binding_pattern_plain plain r)) ≡ false
+no_binding_pattern_is_a_comment plain r = of_binding_pattern plain is_comment false refl refl refl refl r
 
 pub no_statement_is_a_comment : {N : Type 0} (plain : N → Tree) (r : OtherStatement N) → is_comment (type_of (statement_plain plain r.statement)) ≡ false
 no_statement_is_a_comment plain r = of_statement plain is_comment false refl refl refl refl refl refl refl refl refl refl refl refl refl refl refl refl refl r.statement r.other
@@ -108,8 +111,8 @@ no_expression_is_a_comment plain r = of_expression plain is_comment false refl r
 pub no_declaration_is_a_directive : {N : Type 0} (plain : N → Tree) (r : OtherDeclaration N) → is_directive (type_of (declaration_plain plain r.declaration)) ≡ false
 no_declaration_is_a_directive plain r = of_declaration plain is_directive false refl r.declaration r.other
 
-pub no_binding_pattern_is_a_directive : (r : BindingPattern) → is_directive (type_of (binding_pattern_plain r)) ≡ false
-no_binding_pattern_is_a_directive r = of_binding_pattern is_directive false refl r
+pub no_binding_pattern_is_a_directive : {N : Type 0} (plain : N → Tree) (r : BindingPattern N) → is_directive (type_of (binding_pattern_plain plain r)) ≡ false
+no_binding_pattern_is_a_directive plain r = of_binding_pattern plain is_directive false refl refl refl refl r
 
 pub no_statement_is_a_directive : {N : Type 0} (plain : N → Tree) (r : OtherStatement N) → is_directive (type_of (statement_plain plain r.statement)) ≡ false
 no_statement_is_a_directive plain r = of_statement plain is_directive false refl refl refl refl refl refl refl refl refl refl refl refl refl refl refl refl refl r.statement r.other
@@ -120,8 +123,8 @@ no_expression_is_a_directive plain r = of_expression plain is_directive false re
 pub each_declaration_is_a_statement : {N : Type 0} (plain : N → Tree) (r : OtherDeclaration N) → is_statement (type_of (declaration_plain plain r.declaration)) ≡ true
 each_declaration_is_a_statement plain r = of_declaration plain is_statement true refl r.declaration r.other
 
-pub no_binding_pattern_is_a_statement : (r : BindingPattern) → is_statement (type_of (binding_pattern_plain r)) ≡ false
-no_binding_pattern_is_a_statement r = of_binding_pattern is_statement false refl r
+pub no_binding_pattern_is_a_statement : {N : Type 0} (plain : N → Tree) (r : BindingPattern N) → is_statement (type_of (binding_pattern_plain plain r)) ≡ false
+no_binding_pattern_is_a_statement plain r = of_binding_pattern plain is_statement false refl refl refl refl r
 
 pub each_statement_is_a_statement : {N : Type 0} (plain : N → Tree) (r : OtherStatement N) → is_statement (type_of (statement_plain plain r.statement)) ≡ true
 each_statement_is_a_statement plain r = of_statement plain is_statement true refl refl refl refl refl refl refl refl refl refl refl refl refl refl refl refl refl r.statement r.other
@@ -132,8 +135,8 @@ no_expression_is_a_statement plain r = of_expression plain is_statement false re
 pub no_declaration_is_a_variable_declarator : {N : Type 0} (plain : N → Tree) (r : OtherDeclaration N) → is_variable_declarator (type_of (declaration_plain plain r.declaration)) ≡ false
 no_declaration_is_a_variable_declarator plain r = of_declaration plain is_variable_declarator false refl r.declaration r.other
 
-pub no_binding_pattern_is_a_variable_declarator : (r : BindingPattern) → is_variable_declarator (type_of (binding_pattern_plain r)) ≡ false
-no_binding_pattern_is_a_variable_declarator r = of_binding_pattern is_variable_declarator false refl r
+pub no_binding_pattern_is_a_variable_declarator : {N : Type 0} (plain : N → Tree) (r : BindingPattern N) → is_variable_declarator (type_of (binding_pattern_plain plain r)) ≡ false
+no_binding_pattern_is_a_variable_declarator plain r = of_binding_pattern plain is_variable_declarator false refl refl refl refl r
 
 pub no_statement_is_a_variable_declarator : {N : Type 0} (plain : N → Tree) (r : OtherStatement N) → is_variable_declarator (type_of (statement_plain plain r.statement)) ≡ false
 no_statement_is_a_variable_declarator plain r = of_statement plain is_variable_declarator false refl refl refl refl refl refl refl refl refl refl refl refl refl refl refl refl refl r.statement r.other
@@ -144,8 +147,8 @@ no_expression_is_a_variable_declarator plain r = of_expression plain is_variable
 pub no_declaration_is_a_binding_pattern : {N : Type 0} (plain : N → Tree) (r : OtherDeclaration N) → is_binding_pattern (type_of (declaration_plain plain r.declaration)) ≡ false
 no_declaration_is_a_binding_pattern plain r = of_declaration plain is_binding_pattern false refl r.declaration r.other
 
-pub each_binding_pattern_is_a_binding_pattern : (r : BindingPattern) → is_binding_pattern (type_of (binding_pattern_plain r)) ≡ true
-each_binding_pattern_is_a_binding_pattern r = of_binding_pattern is_binding_pattern true refl r
+pub each_binding_pattern_is_a_binding_pattern : {N : Type 0} (plain : N → Tree) (r : BindingPattern N) → is_binding_pattern (type_of (binding_pattern_plain plain r)) ≡ true
+each_binding_pattern_is_a_binding_pattern plain r = of_binding_pattern plain is_binding_pattern true refl refl refl refl r
 
 pub no_statement_is_a_binding_pattern : {N : Type 0} (plain : N → Tree) (r : OtherStatement N) → is_binding_pattern (type_of (statement_plain plain r.statement)) ≡ false
 no_statement_is_a_binding_pattern plain r = of_statement plain is_binding_pattern false refl refl refl refl refl refl refl refl refl refl refl refl refl refl refl refl refl r.statement r.other
@@ -156,8 +159,8 @@ no_expression_is_a_binding_pattern plain r = of_expression plain is_binding_patt
 pub no_declaration_is_an_expression : {N : Type 0} (plain : N → Tree) (r : OtherDeclaration N) → is_expression (type_of (declaration_plain plain r.declaration)) ≡ false
 no_declaration_is_an_expression plain r = of_declaration plain is_expression false refl r.declaration r.other
 
-pub no_binding_pattern_is_an_expression : (r : BindingPattern) → is_expression (type_of (binding_pattern_plain r)) ≡ false
-no_binding_pattern_is_an_expression r = of_binding_pattern is_expression false refl r
+pub no_binding_pattern_is_an_expression : {N : Type 0} (plain : N → Tree) (r : BindingPattern N) → is_expression (type_of (binding_pattern_plain plain r)) ≡ false
+no_binding_pattern_is_an_expression plain r = of_binding_pattern plain is_expression false refl refl refl refl r
 
 pub no_statement_is_an_expression : {N : Type 0} (plain : N → Tree) (r : OtherStatement N) → is_expression (type_of (statement_plain plain r.statement)) ≡ false
 no_statement_is_an_expression plain r = of_statement plain is_expression false refl refl refl refl refl refl refl refl refl refl refl refl refl refl refl refl refl r.statement r.other
@@ -168,8 +171,8 @@ each_expression_is_an_expression plain r = of_expression plain is_expression tru
 pub no_declaration_is_an_identifier_name : {N : Type 0} (plain : N → Tree) (r : OtherDeclaration N) → is_identifier_name (type_of (declaration_plain plain r.declaration)) ≡ false
 no_declaration_is_an_identifier_name plain r = of_declaration plain is_identifier_name false refl r.declaration r.other
 
-pub no_binding_pattern_is_an_identifier_name : (r : BindingPattern) → is_identifier_name (type_of (binding_pattern_plain r)) ≡ false
-no_binding_pattern_is_an_identifier_name r = of_binding_pattern is_identifier_name false refl r
+pub no_binding_pattern_is_an_identifier_name : {N : Type 0} (plain : N → Tree) (r : BindingPattern N) → is_identifier_name (type_of (binding_pattern_plain plain r)) ≡ false
+no_binding_pattern_is_an_identifier_name plain r = of_binding_pattern plain is_identifier_name false refl refl refl refl r
 
 pub no_statement_is_an_identifier_name : {N : Type 0} (plain : N → Tree) (r : OtherStatement N) → is_identifier_name (type_of (statement_plain plain r.statement)) ≡ false
 no_statement_is_an_identifier_name plain r = of_statement plain is_identifier_name false refl refl refl refl refl refl refl refl refl refl refl refl refl refl refl refl refl r.statement r.other
@@ -180,8 +183,8 @@ no_expression_is_an_identifier_name plain r = of_expression plain is_identifier_
 pub no_declaration_is_an_argument : {N : Type 0} (plain : N → Tree) (r : OtherDeclaration N) → is_argument (type_of (declaration_plain plain r.declaration)) ≡ false
 no_declaration_is_an_argument plain r = of_declaration plain is_argument false refl r.declaration r.other
 
-pub no_binding_pattern_is_an_argument : (r : BindingPattern) → is_argument (type_of (binding_pattern_plain r)) ≡ false
-no_binding_pattern_is_an_argument r = of_binding_pattern is_argument false refl r
+pub no_binding_pattern_is_an_argument : {N : Type 0} (plain : N → Tree) (r : BindingPattern N) → is_argument (type_of (binding_pattern_plain plain r)) ≡ false
+no_binding_pattern_is_an_argument plain r = of_binding_pattern plain is_argument false refl refl refl refl r
 
 pub no_statement_is_an_argument : {N : Type 0} (plain : N → Tree) (r : OtherStatement N) → is_argument (type_of (statement_plain plain r.statement)) ≡ false
 no_statement_is_an_argument plain r = of_statement plain is_argument false refl refl refl refl refl refl refl refl refl refl refl refl refl refl refl refl refl r.statement r.other
@@ -192,8 +195,8 @@ each_expression_is_an_argument plain r = of_expression plain is_argument true re
 pub no_declaration_is_a_chain_element : {N : Type 0} (plain : N → Tree) (r : OtherDeclaration N) → is_chain_element (type_of (declaration_plain plain r.declaration)) ≡ false
 no_declaration_is_a_chain_element plain r = of_declaration plain is_chain_element false refl r.declaration r.other
 
-pub no_binding_pattern_is_a_chain_element : (r : BindingPattern) → is_chain_element (type_of (binding_pattern_plain r)) ≡ false
-no_binding_pattern_is_a_chain_element r = of_binding_pattern is_chain_element false refl r
+pub no_binding_pattern_is_a_chain_element : {N : Type 0} (plain : N → Tree) (r : BindingPattern N) → is_chain_element (type_of (binding_pattern_plain plain r)) ≡ false
+no_binding_pattern_is_a_chain_element plain r = of_binding_pattern plain is_chain_element false refl refl refl refl r
 
 pub no_statement_is_a_chain_element : {N : Type 0} (plain : N → Tree) (r : OtherStatement N) → is_chain_element (type_of (statement_plain plain r.statement)) ≡ false
 no_statement_is_a_chain_element plain r = of_statement plain is_chain_element false refl refl refl refl refl refl refl refl refl refl refl refl refl refl refl refl refl r.statement r.other
@@ -201,8 +204,8 @@ no_statement_is_a_chain_element plain r = of_statement plain is_chain_element fa
 pub no_declaration_is_an_array_expression_element : {N : Type 0} (plain : N → Tree) (r : OtherDeclaration N) → is_array_expression_element (type_of (declaration_plain plain r.declaration)) ≡ false
 no_declaration_is_an_array_expression_element plain r = of_declaration plain is_array_expression_element false refl r.declaration r.other
 
-pub no_binding_pattern_is_an_array_expression_element : (r : BindingPattern) → is_array_expression_element (type_of (binding_pattern_plain r)) ≡ false
-no_binding_pattern_is_an_array_expression_element r = of_binding_pattern is_array_expression_element false refl r
+pub no_binding_pattern_is_an_array_expression_element : {N : Type 0} (plain : N → Tree) (r : BindingPattern N) → is_array_expression_element (type_of (binding_pattern_plain plain r)) ≡ false
+no_binding_pattern_is_an_array_expression_element plain r = of_binding_pattern plain is_array_expression_element false refl refl refl refl r
 
 pub no_statement_is_an_array_expression_element : {N : Type 0} (plain : N → Tree) (r : OtherStatement N) → is_array_expression_element (type_of (statement_plain plain r.statement)) ≡ false
 no_statement_is_an_array_expression_element plain r = of_statement plain is_array_expression_element false refl refl refl refl refl refl refl refl refl refl refl refl refl refl refl refl refl r.statement r.other
@@ -213,8 +216,8 @@ each_expression_is_an_array_expression_element plain r = of_expression plain is_
 pub no_declaration_is_a_property_key : {N : Type 0} (plain : N → Tree) (r : OtherDeclaration N) → is_property_key (type_of (declaration_plain plain r.declaration)) ≡ false
 no_declaration_is_a_property_key plain r = of_declaration plain is_property_key false refl r.declaration r.other
 
-pub no_binding_pattern_is_a_property_key : (r : BindingPattern) → is_property_key (type_of (binding_pattern_plain r)) ≡ false
-no_binding_pattern_is_a_property_key r = of_binding_pattern is_property_key false refl r
+pub no_binding_pattern_is_a_property_key : {N : Type 0} (plain : N → Tree) (r : BindingPattern N) → is_property_key (type_of (binding_pattern_plain plain r)) ≡ false
+no_binding_pattern_is_a_property_key plain r = of_binding_pattern plain is_property_key false refl refl refl refl r
 
 pub no_statement_is_a_property_key : {N : Type 0} (plain : N → Tree) (r : OtherStatement N) → is_property_key (type_of (statement_plain plain r.statement)) ≡ false
 no_statement_is_a_property_key plain r = of_statement plain is_property_key false refl refl refl refl refl refl refl refl refl refl refl refl refl refl refl refl refl r.statement r.other
@@ -225,8 +228,8 @@ each_expression_is_a_property_key plain r = of_expression plain is_property_key 
 pub no_declaration_is_an_object_property_kind : {N : Type 0} (plain : N → Tree) (r : OtherDeclaration N) → is_object_property_kind (type_of (declaration_plain plain r.declaration)) ≡ false
 no_declaration_is_an_object_property_kind plain r = of_declaration plain is_object_property_kind false refl r.declaration r.other
 
-pub no_binding_pattern_is_an_object_property_kind : (r : BindingPattern) → is_object_property_kind (type_of (binding_pattern_plain r)) ≡ false
-no_binding_pattern_is_an_object_property_kind r = of_binding_pattern is_object_property_kind false refl r
+pub no_binding_pattern_is_an_object_property_kind : {N : Type 0} (plain : N → Tree) (r : BindingPattern N) → is_object_property_kind (type_of (binding_pattern_plain plain r)) ≡ false
+no_binding_pattern_is_an_object_property_kind plain r = of_binding_pattern plain is_object_property_kind false refl refl refl refl r
 
 pub no_statement_is_an_object_property_kind : {N : Type 0} (plain : N → Tree) (r : OtherStatement N) → is_object_property_kind (type_of (statement_plain plain r.statement)) ≡ false
 no_statement_is_an_object_property_kind plain r = of_statement plain is_object_property_kind false refl refl refl refl refl refl refl refl refl refl refl refl refl refl refl refl refl r.statement r.other
@@ -237,8 +240,8 @@ no_expression_is_an_object_property_kind plain r = of_expression plain is_object
 pub no_declaration_is_a_simple_assignment_target : {N : Type 0} (plain : N → Tree) (r : OtherDeclaration N) → is_simple_assignment_target (type_of (declaration_plain plain r.declaration)) ≡ false
 no_declaration_is_a_simple_assignment_target plain r = of_declaration plain is_simple_assignment_target false refl r.declaration r.other
 
-pub no_binding_pattern_is_a_simple_assignment_target : (r : BindingPattern) → is_simple_assignment_target (type_of (binding_pattern_plain r)) ≡ false
-no_binding_pattern_is_a_simple_assignment_target r = of_binding_pattern is_simple_assignment_target false refl r
+pub no_binding_pattern_is_a_simple_assignment_target : {N : Type 0} (plain : N → Tree) (r : BindingPattern N) → is_simple_assignment_target (type_of (binding_pattern_plain plain r)) ≡ false
+no_binding_pattern_is_a_simple_assignment_target plain r = of_binding_pattern plain is_simple_assignment_target false refl refl refl refl r
 
 pub no_statement_is_a_simple_assignment_target : {N : Type 0} (plain : N → Tree) (r : OtherStatement N) → is_simple_assignment_target (type_of (statement_plain plain r.statement)) ≡ false
 no_statement_is_a_simple_assignment_target plain r = of_statement plain is_simple_assignment_target false refl refl refl refl refl refl refl refl refl refl refl refl refl refl refl refl refl r.statement r.other
@@ -246,8 +249,8 @@ no_statement_is_a_simple_assignment_target plain r = of_statement plain is_simpl
 pub no_declaration_is_an_assignment_target : {N : Type 0} (plain : N → Tree) (r : OtherDeclaration N) → is_assignment_target (type_of (declaration_plain plain r.declaration)) ≡ false
 no_declaration_is_an_assignment_target plain r = of_declaration plain is_assignment_target false refl r.declaration r.other
 
-pub no_binding_pattern_is_an_assignment_target : (r : BindingPattern) → is_assignment_target (type_of (binding_pattern_plain r)) ≡ false
-no_binding_pattern_is_an_assignment_target r = of_binding_pattern is_assignment_target false refl r
+pub no_binding_pattern_is_an_assignment_target : {N : Type 0} (plain : N → Tree) (r : BindingPattern N) → is_assignment_target (type_of (binding_pattern_plain plain r)) ≡ false
+no_binding_pattern_is_an_assignment_target plain r = of_binding_pattern plain is_assignment_target false refl refl refl refl r
 
 pub no_statement_is_an_assignment_target : {N : Type 0} (plain : N → Tree) (r : OtherStatement N) → is_assignment_target (type_of (statement_plain plain r.statement)) ≡ false
 no_statement_is_an_assignment_target plain r = of_statement plain is_assignment_target false refl refl refl refl refl refl refl refl refl refl refl refl refl refl refl refl refl r.statement r.other
@@ -255,8 +258,8 @@ no_statement_is_an_assignment_target plain r = of_statement plain is_assignment_
 pub no_declaration_is_a_formal_parameter : {N : Type 0} (plain : N → Tree) (r : OtherDeclaration N) → is_formal_parameter (type_of (declaration_plain plain r.declaration)) ≡ false
 no_declaration_is_a_formal_parameter plain r = of_declaration plain is_formal_parameter false refl r.declaration r.other
 
-pub no_binding_pattern_is_a_formal_parameter : (r : BindingPattern) → is_formal_parameter (type_of (binding_pattern_plain r)) ≡ false
-no_binding_pattern_is_a_formal_parameter r = of_binding_pattern is_formal_parameter false refl r
+pub no_binding_pattern_is_a_formal_parameter : {N : Type 0} (plain : N → Tree) (r : BindingPattern N) → is_formal_parameter (type_of (binding_pattern_plain plain r)) ≡ false
+no_binding_pattern_is_a_formal_parameter plain r = of_binding_pattern plain is_formal_parameter false refl refl refl refl r
 
 pub no_statement_is_a_formal_parameter : {N : Type 0} (plain : N → Tree) (r : OtherStatement N) → is_formal_parameter (type_of (statement_plain plain r.statement)) ≡ false
 no_statement_is_a_formal_parameter plain r = of_statement plain is_formal_parameter false refl refl refl refl refl refl refl refl refl refl refl refl refl refl refl refl refl r.statement r.other
@@ -267,8 +270,8 @@ no_expression_is_a_formal_parameter plain r = of_expression plain is_formal_para
 pub no_declaration_is_a_formal_parameter_rest : {N : Type 0} (plain : N → Tree) (r : OtherDeclaration N) → is_formal_parameter_rest (type_of (declaration_plain plain r.declaration)) ≡ false
 no_declaration_is_a_formal_parameter_rest plain r = of_declaration plain is_formal_parameter_rest false refl r.declaration r.other
 
-pub no_binding_pattern_is_a_formal_parameter_rest : (r : BindingPattern) → is_formal_parameter_rest (type_of (binding_pattern_plain r)) ≡ false
-no_binding_pattern_is_a_formal_parameter_rest r = of_binding_pattern is_formal_parameter_rest false refl r
+pub no_binding_pattern_is_a_formal_parameter_rest : {N : Type 0} (plain : N → Tree) (r : BindingPattern N) → is_formal_parameter_rest (type_of (binding_pattern_plain plain r)) ≡ false
+no_binding_pattern_is_a_formal_parameter_rest plain r = of_binding_pattern plain is_formal_parameter_rest false refl refl refl refl r
 
 pub no_statement_is_a_formal_parameter_rest : {N : Type 0} (plain : N → Tree) (r : OtherStatement N) → is_formal_parameter_rest (type_of (statement_plain plain r.statement)) ≡ false
 no_statement_is_a_formal_parameter_rest plain r = of_statement plain is_formal_parameter_rest false refl refl refl refl refl refl refl refl refl refl refl refl refl refl refl refl refl r.statement r.other
@@ -279,9 +282,6 @@ no_expression_is_a_formal_parameter_rest plain r = of_expression plain is_formal
 pub no_declaration_is_a_binding_identifier : {N : Type 0} (plain : N → Tree) (r : OtherDeclaration N) → is_binding_identifier (type_of (declaration_plain plain r.declaration)) ≡ false
 no_declaration_is_a_binding_identifier plain r = of_declaration plain is_binding_identifier false refl r.declaration r.other
 
-pub each_binding_pattern_is_a_binding_identifier : (r : BindingPattern) → is_binding_identifier (type_of (binding_pattern_plain r)) ≡ true
-each_binding_pattern_is_a_binding_identifier r = of_binding_pattern is_binding_identifier true refl r
-
 pub no_statement_is_a_binding_identifier : {N : Type 0} (plain : N → Tree) (r : OtherStatement N) → is_binding_identifier (type_of (statement_plain plain r.statement)) ≡ false
 no_statement_is_a_binding_identifier plain r = of_statement plain is_binding_identifier false refl refl refl refl refl refl refl refl refl refl refl refl refl refl refl refl refl r.statement r.other
 
@@ -291,8 +291,8 @@ no_expression_is_a_binding_identifier plain r = of_expression plain is_binding_i
 pub no_declaration_is_a_formal_parameters : {N : Type 0} (plain : N → Tree) (r : OtherDeclaration N) → is_formal_parameters (type_of (declaration_plain plain r.declaration)) ≡ false
 no_declaration_is_a_formal_parameters plain r = of_declaration plain is_formal_parameters false refl r.declaration r.other
 
-pub no_binding_pattern_is_a_formal_parameters : (r : BindingPattern) → is_formal_parameters (type_of (binding_pattern_plain r)) ≡ false
-no_binding_pattern_is_a_formal_parameters r = of_binding_pattern is_formal_parameters false refl r
+pub no_binding_pattern_is_a_formal_parameters : {N : Type 0} (plain : N → Tree) (r : BindingPattern N) → is_formal_parameters (type_of (binding_pattern_plain plain r)) ≡ false
+no_binding_pattern_is_a_formal_parameters plain r = of_binding_pattern plain is_formal_parameters false refl refl refl refl r
 
 pub no_statement_is_a_formal_parameters : {N : Type 0} (plain : N → Tree) (r : OtherStatement N) → is_formal_parameters (type_of (statement_plain plain r.statement)) ≡ false
 no_statement_is_a_formal_parameters plain r = of_statement plain is_formal_parameters false refl refl refl refl refl refl refl refl refl refl refl refl refl refl refl refl refl r.statement r.other
@@ -303,8 +303,8 @@ no_expression_is_a_formal_parameters plain r = of_expression plain is_formal_par
 pub no_declaration_is_a_function_body : {N : Type 0} (plain : N → Tree) (r : OtherDeclaration N) → is_function_body (type_of (declaration_plain plain r.declaration)) ≡ false
 no_declaration_is_a_function_body plain r = of_declaration plain is_function_body false refl r.declaration r.other
 
-pub no_binding_pattern_is_a_function_body : (r : BindingPattern) → is_function_body (type_of (binding_pattern_plain r)) ≡ false
-no_binding_pattern_is_a_function_body r = of_binding_pattern is_function_body false refl r
+pub no_binding_pattern_is_a_function_body : {N : Type 0} (plain : N → Tree) (r : BindingPattern N) → is_function_body (type_of (binding_pattern_plain plain r)) ≡ false
+no_binding_pattern_is_a_function_body plain r = of_binding_pattern plain is_function_body false refl refl refl refl r
 
 pub no_statement_is_a_function_body : {N : Type 0} (plain : N → Tree) (r : OtherStatement N) → is_function_body (type_of (statement_plain plain r.statement)) ≡ false
 no_statement_is_a_function_body plain r = of_statement plain is_function_body false refl refl refl refl refl refl refl refl refl refl refl refl refl refl refl refl refl r.statement r.other
@@ -315,8 +315,8 @@ no_expression_is_a_function_body plain r = of_expression plain is_function_body 
 pub no_declaration_is_an_arrow_function_body : {N : Type 0} (plain : N → Tree) (r : OtherDeclaration N) → is_arrow_function_body (type_of (declaration_plain plain r.declaration)) ≡ false
 no_declaration_is_an_arrow_function_body plain r = of_declaration plain is_arrow_function_body false refl r.declaration r.other
 
-pub no_binding_pattern_is_an_arrow_function_body : (r : BindingPattern) → is_arrow_function_body (type_of (binding_pattern_plain r)) ≡ false
-no_binding_pattern_is_an_arrow_function_body r = of_binding_pattern is_arrow_function_body false refl r
+pub no_binding_pattern_is_an_arrow_function_body : {N : Type 0} (plain : N → Tree) (r : BindingPattern N) → is_arrow_function_body (type_of (binding_pattern_plain plain r)) ≡ false
+no_binding_pattern_is_an_arrow_function_body plain r = of_binding_pattern plain is_arrow_function_body false refl refl refl refl r
 
 pub no_statement_is_an_arrow_function_body : {N : Type 0} (plain : N → Tree) (r : OtherStatement N) → is_arrow_function_body (type_of (statement_plain plain r.statement)) ≡ false
 no_statement_is_an_arrow_function_body plain r = of_statement plain is_arrow_function_body false refl refl refl refl refl refl refl refl refl refl refl refl refl refl refl refl refl r.statement r.other
@@ -327,8 +327,8 @@ each_expression_is_an_arrow_function_body plain r = of_expression plain is_arrow
 pub each_declaration_is_a_for_statement_init : {N : Type 0} (plain : N → Tree) (r : OtherDeclaration N) → is_for_statement_init (type_of (declaration_plain plain r.declaration)) ≡ true
 each_declaration_is_a_for_statement_init plain r = of_declaration plain is_for_statement_init true refl r.declaration r.other
 
-pub no_binding_pattern_is_a_for_statement_init : (r : BindingPattern) → is_for_statement_init (type_of (binding_pattern_plain r)) ≡ false
-no_binding_pattern_is_a_for_statement_init r = of_binding_pattern is_for_statement_init false refl r
+pub no_binding_pattern_is_a_for_statement_init : {N : Type 0} (plain : N → Tree) (r : BindingPattern N) → is_for_statement_init (type_of (binding_pattern_plain plain r)) ≡ false
+no_binding_pattern_is_a_for_statement_init plain r = of_binding_pattern plain is_for_statement_init false refl refl refl refl r
 
 pub no_statement_is_a_for_statement_init : {N : Type 0} (plain : N → Tree) (r : OtherStatement N) → is_for_statement_init (type_of (statement_plain plain r.statement)) ≡ false
 no_statement_is_a_for_statement_init plain r = of_statement plain is_for_statement_init false refl refl refl refl refl refl refl refl refl refl refl refl refl refl refl refl refl r.statement r.other
@@ -339,8 +339,8 @@ each_expression_is_a_for_statement_init plain r = of_expression plain is_for_sta
 pub each_declaration_is_a_for_statement_left : {N : Type 0} (plain : N → Tree) (r : OtherDeclaration N) → is_for_statement_left (type_of (declaration_plain plain r.declaration)) ≡ true
 each_declaration_is_a_for_statement_left plain r = of_declaration plain is_for_statement_left true refl r.declaration r.other
 
-pub no_binding_pattern_is_a_for_statement_left : (r : BindingPattern) → is_for_statement_left (type_of (binding_pattern_plain r)) ≡ false
-no_binding_pattern_is_a_for_statement_left r = of_binding_pattern is_for_statement_left false refl r
+pub no_binding_pattern_is_a_for_statement_left : {N : Type 0} (plain : N → Tree) (r : BindingPattern N) → is_for_statement_left (type_of (binding_pattern_plain plain r)) ≡ false
+no_binding_pattern_is_a_for_statement_left plain r = of_binding_pattern plain is_for_statement_left false refl refl refl refl r
 
 pub no_statement_is_a_for_statement_left : {N : Type 0} (plain : N → Tree) (r : OtherStatement N) → is_for_statement_left (type_of (statement_plain plain r.statement)) ≡ false
 no_statement_is_a_for_statement_left plain r = of_statement plain is_for_statement_left false refl refl refl refl refl refl refl refl refl refl refl refl refl refl refl refl refl r.statement r.other
@@ -348,8 +348,8 @@ no_statement_is_a_for_statement_left plain r = of_statement plain is_for_stateme
 pub no_declaration_is_a_label_identifier : {N : Type 0} (plain : N → Tree) (r : OtherDeclaration N) → is_label_identifier (type_of (declaration_plain plain r.declaration)) ≡ false
 no_declaration_is_a_label_identifier plain r = of_declaration plain is_label_identifier false refl r.declaration r.other
 
-pub no_binding_pattern_is_a_label_identifier : (r : BindingPattern) → is_label_identifier (type_of (binding_pattern_plain r)) ≡ false
-no_binding_pattern_is_a_label_identifier r = of_binding_pattern is_label_identifier false refl r
+pub no_binding_pattern_is_a_label_identifier : {N : Type 0} (plain : N → Tree) (r : BindingPattern N) → is_label_identifier (type_of (binding_pattern_plain plain r)) ≡ false
+no_binding_pattern_is_a_label_identifier plain r = of_binding_pattern plain is_label_identifier false refl refl refl refl r
 
 pub no_statement_is_a_label_identifier : {N : Type 0} (plain : N → Tree) (r : OtherStatement N) → is_label_identifier (type_of (statement_plain plain r.statement)) ≡ false
 no_statement_is_a_label_identifier plain r = of_statement plain is_label_identifier false refl refl refl refl refl refl refl refl refl refl refl refl refl refl refl refl refl r.statement r.other
@@ -360,8 +360,8 @@ no_expression_is_a_label_identifier plain r = of_expression plain is_label_ident
 pub no_declaration_is_a_switch_case : {N : Type 0} (plain : N → Tree) (r : OtherDeclaration N) → is_switch_case (type_of (declaration_plain plain r.declaration)) ≡ false
 no_declaration_is_a_switch_case plain r = of_declaration plain is_switch_case false refl r.declaration r.other
 
-pub no_binding_pattern_is_a_switch_case : (r : BindingPattern) → is_switch_case (type_of (binding_pattern_plain r)) ≡ false
-no_binding_pattern_is_a_switch_case r = of_binding_pattern is_switch_case false refl r
+pub no_binding_pattern_is_a_switch_case : {N : Type 0} (plain : N → Tree) (r : BindingPattern N) → is_switch_case (type_of (binding_pattern_plain plain r)) ≡ false
+no_binding_pattern_is_a_switch_case plain r = of_binding_pattern plain is_switch_case false refl refl refl refl r
 
 pub no_statement_is_a_switch_case : {N : Type 0} (plain : N → Tree) (r : OtherStatement N) → is_switch_case (type_of (statement_plain plain r.statement)) ≡ false
 no_statement_is_a_switch_case plain r = of_statement plain is_switch_case false refl refl refl refl refl refl refl refl refl refl refl refl refl refl refl refl refl r.statement r.other
@@ -372,8 +372,8 @@ no_expression_is_a_switch_case plain r = of_expression plain is_switch_case fals
 pub no_declaration_is_a_block_statement : {N : Type 0} (plain : N → Tree) (r : OtherDeclaration N) → is_block_statement (type_of (declaration_plain plain r.declaration)) ≡ false
 no_declaration_is_a_block_statement plain r = of_declaration plain is_block_statement false refl r.declaration r.other
 
-pub no_binding_pattern_is_a_block_statement : (r : BindingPattern) → is_block_statement (type_of (binding_pattern_plain r)) ≡ false
-no_binding_pattern_is_a_block_statement r = of_binding_pattern is_block_statement false refl r
+pub no_binding_pattern_is_a_block_statement : {N : Type 0} (plain : N → Tree) (r : BindingPattern N) → is_block_statement (type_of (binding_pattern_plain plain r)) ≡ false
+no_binding_pattern_is_a_block_statement plain r = of_binding_pattern plain is_block_statement false refl refl refl refl r
 
 pub no_expression_is_a_block_statement : {N : Type 0} (plain : N → Tree) (r : OtherExpression N) → is_block_statement (type_of (expression_plain plain r.expression)) ≡ false
 no_expression_is_a_block_statement plain r = of_expression plain is_block_statement false refl refl refl refl refl refl refl refl refl refl refl refl refl refl refl refl refl refl refl refl refl refl refl refl refl refl refl r.expression r.other
@@ -381,14 +381,38 @@ no_expression_is_a_block_statement plain r = of_expression plain is_block_statem
 pub no_declaration_is_a_catch_clause : {N : Type 0} (plain : N → Tree) (r : OtherDeclaration N) → is_catch_clause (type_of (declaration_plain plain r.declaration)) ≡ false
 no_declaration_is_a_catch_clause plain r = of_declaration plain is_catch_clause false refl r.declaration r.other
 
-pub no_binding_pattern_is_a_catch_clause : (r : BindingPattern) → is_catch_clause (type_of (binding_pattern_plain r)) ≡ false
-no_binding_pattern_is_a_catch_clause r = of_binding_pattern is_catch_clause false refl r
+pub no_binding_pattern_is_a_catch_clause : {N : Type 0} (plain : N → Tree) (r : BindingPattern N) → is_catch_clause (type_of (binding_pattern_plain plain r)) ≡ false
+no_binding_pattern_is_a_catch_clause plain r = of_binding_pattern plain is_catch_clause false refl refl refl refl r
 
 pub no_statement_is_a_catch_clause : {N : Type 0} (plain : N → Tree) (r : OtherStatement N) → is_catch_clause (type_of (statement_plain plain r.statement)) ≡ false
 no_statement_is_a_catch_clause plain r = of_statement plain is_catch_clause false refl refl refl refl refl refl refl refl refl refl refl refl refl refl refl refl refl r.statement r.other
 
 pub no_expression_is_a_catch_clause : {N : Type 0} (plain : N → Tree) (r : OtherExpression N) → is_catch_clause (type_of (expression_plain plain r.expression)) ≡ false
 no_expression_is_a_catch_clause plain r = of_expression plain is_catch_clause false refl refl refl refl refl refl refl refl refl refl refl refl refl refl refl refl refl refl refl refl refl refl refl refl refl refl refl r.expression r.other
+
+pub no_declaration_is_a_binding_property : {N : Type 0} (plain : N → Tree) (r : OtherDeclaration N) → is_binding_property (type_of (declaration_plain plain r.declaration)) ≡ false
+no_declaration_is_a_binding_property plain r = of_declaration plain is_binding_property false refl r.declaration r.other
+
+pub no_binding_pattern_is_a_binding_property : {N : Type 0} (plain : N → Tree) (r : BindingPattern N) → is_binding_property (type_of (binding_pattern_plain plain r)) ≡ false
+no_binding_pattern_is_a_binding_property plain r = of_binding_pattern plain is_binding_property false refl refl refl refl r
+
+pub no_statement_is_a_binding_property : {N : Type 0} (plain : N → Tree) (r : OtherStatement N) → is_binding_property (type_of (statement_plain plain r.statement)) ≡ false
+no_statement_is_a_binding_property plain r = of_statement plain is_binding_property false refl refl refl refl refl refl refl refl refl refl refl refl refl refl refl refl refl r.statement r.other
+
+pub no_expression_is_a_binding_property : {N : Type 0} (plain : N → Tree) (r : OtherExpression N) → is_binding_property (type_of (expression_plain plain r.expression)) ≡ false
+no_expression_is_a_binding_property plain r = of_expression plain is_binding_property false refl refl refl refl refl refl refl refl refl refl refl refl refl refl refl refl refl refl refl refl refl refl refl refl refl refl refl r.expression r.other
+
+pub no_declaration_is_a_binding_rest_element : {N : Type 0} (plain : N → Tree) (r : OtherDeclaration N) → is_binding_rest_element (type_of (declaration_plain plain r.declaration)) ≡ false
+no_declaration_is_a_binding_rest_element plain r = of_declaration plain is_binding_rest_element false refl r.declaration r.other
+
+pub no_binding_pattern_is_a_binding_rest_element : {N : Type 0} (plain : N → Tree) (r : BindingPattern N) → is_binding_rest_element (type_of (binding_pattern_plain plain r)) ≡ false
+no_binding_pattern_is_a_binding_rest_element plain r = of_binding_pattern plain is_binding_rest_element false refl refl refl refl r
+
+pub no_statement_is_a_binding_rest_element : {N : Type 0} (plain : N → Tree) (r : OtherStatement N) → is_binding_rest_element (type_of (statement_plain plain r.statement)) ≡ false
+no_statement_is_a_binding_rest_element plain r = of_statement plain is_binding_rest_element false refl refl refl refl refl refl refl refl refl refl refl refl refl refl refl refl refl r.statement r.other
+
+pub no_expression_is_a_binding_rest_element : {N : Type 0} (plain : N → Tree) (r : OtherExpression N) → is_binding_rest_element (type_of (expression_plain plain r.expression)) ≡ false
+no_expression_is_a_binding_rest_element plain r = of_expression plain is_binding_rest_element false refl refl refl refl refl refl refl refl refl refl refl refl refl refl refl refl refl refl refl refl refl refl refl refl refl refl refl r.expression r.other
 
 pub program_type : (t : NodeType) → is_program t ≡ true → t ≡ types.Program
 program_type types.Program h = refl
@@ -452,6 +476,11 @@ program_type types.SwitchStatement h = cc
 program_type types.SwitchCase h = cc
 program_type types.TryStatement h = cc
 program_type types.CatchClause h = cc
+program_type types.ObjectPattern h = cc
+program_type types.BindingProperty h = cc
+program_type types.BindingRestElement h = cc
+program_type types.ArrayPattern h = cc
+program_type types.AssignmentPattern h = cc
 
 -- ---- which rows a place takes
 
@@ -489,7 +518,7 @@ pub ruleset takes_formal_parameters = (no_declaration_is_a_formal_parameter, no_
 
 pub ruleset takes_formal_parameter_rests = (no_declaration_is_a_formal_parameter_rest, no_binding_pattern_is_a_formal_parameter_rest, no_statement_is_a_formal_parameter_rest, no_expression_is_a_formal_parameter_rest)
 
-pub ruleset takes_binding_identifiers = (no_declaration_is_a_binding_identifier, each_binding_pattern_is_a_binding_identifier, no_statement_is_a_binding_identifier, no_expression_is_a_binding_identifier)
+pub ruleset takes_binding_identifiers = (no_declaration_is_a_binding_identifier, no_statement_is_a_binding_identifier, no_expression_is_a_binding_identifier)
 
 pub ruleset takes_formal_parameterss = (no_declaration_is_a_formal_parameters, no_binding_pattern_is_a_formal_parameters, no_statement_is_a_formal_parameters, no_expression_is_a_formal_parameters)
 
@@ -508,3 +537,7 @@ pub ruleset takes_switch_cases = (no_declaration_is_a_switch_case, no_binding_pa
 pub ruleset takes_block_statements = (no_declaration_is_a_block_statement, no_binding_pattern_is_a_block_statement, no_expression_is_a_block_statement)
 
 pub ruleset takes_catch_clauses = (no_declaration_is_a_catch_clause, no_binding_pattern_is_a_catch_clause, no_statement_is_a_catch_clause, no_expression_is_a_catch_clause)
+
+pub ruleset takes_binding_propertys = (no_declaration_is_a_binding_property, no_binding_pattern_is_a_binding_property, no_statement_is_a_binding_property, no_expression_is_a_binding_property)
+
+pub ruleset takes_binding_rest_elements = (no_declaration_is_a_binding_rest_element, no_binding_pattern_is_a_binding_rest_element, no_statement_is_a_binding_rest_element, no_expression_is_a_binding_rest_element)

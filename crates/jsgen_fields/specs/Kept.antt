@@ -2,7 +2,7 @@
 -- The plain data of what the reader keeps.
 use Rattle.std.specs.Prelude.{List}
 use Rattle.jsgen_tree.specs.Tree.{Tree}
-use Rattle.jsgen_tree.specs.Rows.{program_row, comment_row, directive_row, variable_declarator_row, identifier_name_row, spread_element_row, object_property_row, formal_parameter_row, formal_parameter_rest_row, formal_parameters_row, function_row, function_body_row, label_identifier_row, switch_case_row, catch_clause_row, expression_plain, declaration_plain, statement_plain, binding_pattern_plain}
+use Rattle.jsgen_tree.specs.Rows.{program_row, comment_row, directive_row, variable_declarator_row, identifier_name_row, spread_element_row, object_property_row, formal_parameter_row, formal_parameter_rest_row, formal_parameters_row, function_row, function_body_row, label_identifier_row, switch_case_row, catch_clause_row, binding_property_row, binding_rest_element_row, expression_plain, declaration_plain, statement_plain, binding_pattern_plain}
 use Rattle.jsgen_pool.specs.Pool.{Entry}
 use Rattle.jsgen_pool.specs.declared.Kept.{Kept}
 use Rattle.jsgen_fields.specs.declared.kept.Row.{Row}
@@ -16,7 +16,7 @@ row_plain plain (rows.Comment b) = comment_row b.value
 row_plain plain (rows.Directive b) = directive_row b.value
 row_plain plain (rows.Declaration b) = declaration_plain plain b.value.declaration
 row_plain plain (rows.VariableDeclarator b) = variable_declarator_row plain b.value
-row_plain plain (rows.BindingPattern b) = binding_pattern_plain b.value
+row_plain plain (rows.BindingPattern b) = binding_pattern_plain plain b.value
 row_plain plain (rows.Statement b) = statement_plain plain b.value.statement
 row_plain plain (rows.Expression b) = expression_plain plain b.value.expression
 row_plain plain (rows.IdentifierName b) = identifier_name_row b.value
@@ -30,6 +30,8 @@ row_plain plain (rows.FunctionBody b) = function_body_row plain b.value
 row_plain plain (rows.LabelIdentifier b) = label_identifier_row b.value
 row_plain plain (rows.SwitchCase b) = switch_case_row plain b.value
 row_plain plain (rows.CatchClause b) = catch_clause_row plain b.value
+row_plain plain (rows.BindingProperty b) = binding_property_row plain b.value
+row_plain plain (rows.BindingRestElement b) = binding_rest_element_row plain b.value
 
 abbrev pub any_row_plain : {N : Type 0} → (N → Tree) → AnyRow N → Tree
 any_row_plain plain any = row_plain plain any.row

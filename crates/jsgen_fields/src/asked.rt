@@ -74,14 +74,14 @@ impl HoldsStatement for Node {
 
 /// A node that may be a binding pattern.
 pub trait HoldsBindingPattern: PlainNode {
-    fn binding_pattern_node(binding_pattern: BindingPattern) -> BindingPatternNode<Self>
-        ensures { in_binding_pattern Self.plain result ≡ binding_pattern_plain binding_pattern };
+    fn binding_pattern_node(binding_pattern: BindingPattern<Self>) -> BindingPatternNode<Self>
+        ensures { in_binding_pattern Self.plain result ≡ binding_pattern_plain Self.plain binding_pattern };
 }
 
 impl HoldsBindingPattern for Node {
     #[tactic(auto, using(jsgen_tree::proofs::Knot::plain_binding_pattern))]
     fn binding_pattern_node(binding_pattern: BindingPattern) -> BindingPatternNode
-        ensures { in_binding_pattern node_plain result ≡ binding_pattern_plain binding_pattern }
+        ensures { in_binding_pattern node_plain result ≡ binding_pattern_plain node_plain binding_pattern }
     {
         binding_pattern.into()
     }
@@ -97,6 +97,9 @@ pub trait ReadNode: HoldsExpression + HoldsDeclaration + HoldsStatement + HoldsB
 
     fn statement_type(statement: &Statement<Self>) -> NodeType
         ensures { result ≡ type_of (statement_plain Self.plain statement.now) };
+
+    fn binding_pattern_type(binding_pattern: &BindingPattern<Self>) -> NodeType
+        ensures { result ≡ type_of (binding_pattern_plain Self.plain binding_pattern.now) };
 }
 
 impl ReadNode for Node {
@@ -116,6 +119,12 @@ impl ReadNode for Node {
         ensures { result ≡ type_of (statement_plain node_plain statement.now) }
     {
         statement.node_type()
+    }
+
+    fn binding_pattern_type(binding_pattern: &BindingPattern) -> NodeType
+        ensures { result ≡ type_of (binding_pattern_plain node_plain binding_pattern.now) }
+    {
+        binding_pattern.node_type()
     }
 }
 

@@ -3,7 +3,7 @@
 ghost use Rattle.std.specs.Prelude.{◌≡◌, IfOk, Some, None, option_map, if◌then◌else◌};
 ghost use Rattle.jsgen_tree.specs.Tree.{type_of};
 ghost use Rattle.jsgen_tree.specs.Sets.{in_set};
-ghost use Rattle.jsgen_tree.specs.Rows.{in_expression, in_argument, in_array_expression_element, in_chain_element, in_simple_assignment_target, in_assignment_target, in_arrow_function_body, in_for_statement_init, in_for_statement_left, in_object_property_kind, in_property_key, in_statement, in_binding_pattern, comment_row, directive_row, variable_declarator_row, binding_identifier_row, block_statement_row, identifier_name_row, formal_parameter_row, formal_parameter_rest_row, formal_parameters_row, function_body_row, label_identifier_row, switch_case_row, catch_clause_row};
+ghost use Rattle.jsgen_tree.specs.Rows.{in_expression, in_argument, in_array_expression_element, in_chain_element, in_simple_assignment_target, in_assignment_target, in_arrow_function_body, in_for_statement_init, in_for_statement_left, in_object_property_kind, in_property_key, in_statement, in_binding_pattern, comment_row, directive_row, variable_declarator_row, binding_identifier_row, block_statement_row, identifier_name_row, formal_parameter_row, formal_parameter_rest_row, formal_parameters_row, function_body_row, label_identifier_row, switch_case_row, catch_clause_row, binding_property_row, binding_rest_element_row};
 ghost use Rattle.jsgen_fields.specs.Kept.{row_plain};
 ghost use Rattle.jsgen_tree.specs.declared.types.NodeSet.TheVariants as sets;
 
@@ -22,11 +22,11 @@ use crate::members::{
 };
 use jsgen_tree::{
     Argument, ArrayExpressionElement, ArrowFunctionBody, AssignmentTarget, BindingIdentifier,
-    BindingPatternNode, BlockStatement, CatchClause, ChainElement, Comment, Declaration, Directive,
-    Expression, ExpressionNode, ForStatementInit, ForStatementLeft, FormalParameter,
-    FormalParameterRest, FormalParameters, FunctionBody, IdentifierName, LabelIdentifier, NodeSet,
-    ObjectPropertyKind, PropertyKey, SimpleAssignmentTarget, StatementNode, SwitchCase,
-    VariableDeclarator,
+    BindingPatternNode, BindingProperty, BindingRestElement, BlockStatement, CatchClause,
+    ChainElement, Comment, Declaration, Directive, Expression, ExpressionNode, ForStatementInit,
+    ForStatementLeft, FormalParameter, FormalParameterRest, FormalParameters, FunctionBody,
+    IdentifierName, LabelIdentifier, NodeSet, ObjectPropertyKind, PropertyKey,
+    SimpleAssignmentTarget, StatementNode, SwitchCase, VariableDeclarator,
 };
 use std::alloc::{AllocError, Global};
 
@@ -724,6 +724,59 @@ impl<N: PlainNode + Drop> Child<N> for Box<CatchClause<N>> {
         let _ = alloc;
         match row {
             Row::CatchClause(row) => Ok(Some(row)),
+            rest => {
+                rest.let_go();
+                Ok(None)
+            }
+        }
+    }
+}
+
+impl<N: PlainNode + Drop> Child<N> for BindingProperty<N> {
+    ghost plain = { λ n. binding_property_row N.plain n };
+
+    ghost of_set = { sets.BindingProperty };
+
+    fn set() -> NodeSet {
+        NodeSet::BindingProperty
+    }
+
+    #[tactic(auto, using(crate::proofs::Sets::takes_binding_propertys))]
+    fn from_row(alloc: Global, row: Row<N>) -> Result<Option<BindingProperty<N>>, AllocError>
+        ensures { IfOk result (λ child. option_map (binding_property_row N.plain) child
+            ≡ (if in_set sets.BindingProperty (type_of (row_plain N.plain row)) then Some (row_plain N.plain row) else None)) }
+    {
+        let _ = alloc;
+        match row {
+            Row::BindingProperty(row) => Ok(Some(Box::into_inner(row))),
+            rest => {
+                rest.let_go();
+                Ok(None)
+            }
+        }
+    }
+}
+
+impl<N: PlainNode + Drop> Child<N> for Box<BindingRestElement<N>> {
+    ghost plain = { λ n. binding_rest_element_row N.plain n.value };
+
+    ghost of_set = { sets.BindingRestElement };
+
+    fn set() -> NodeSet {
+        NodeSet::BindingRestElement
+    }
+
+    #[tactic(auto, using(crate::proofs::Sets::takes_binding_rest_elements))]
+    fn from_row(
+        alloc: Global,
+        row: Row<N>,
+    ) -> Result<Option<Box<BindingRestElement<N>>>, AllocError>
+        ensures { IfOk result (λ child. option_map (λ b. binding_rest_element_row N.plain b.value) child
+            ≡ (if in_set sets.BindingRestElement (type_of (row_plain N.plain row)) then Some (row_plain N.plain row) else None)) }
+    {
+        let _ = alloc;
+        match row {
+            Row::BindingRestElement(row) => Ok(Some(row)),
             rest => {
                 rest.let_go();
                 Ok(None)

@@ -3,7 +3,7 @@
 ghost use Rattle.std.specs.Prelude.{◌≡◌, IfOk, Some, None, option_map, if◌then◌else◌, Ok};
 ghost use Rattle.jsgen_tree.specs.Tree.{type_of};
 ghost use Rattle.jsgen_tree.specs.Sets.{in_set};
-ghost use Rattle.jsgen_tree.specs.Rows.{program_row, comment_row, directive_row, variable_declarator_row, identifier_name_row, spread_element_row, object_property_row, formal_parameter_row, formal_parameter_rest_row, formal_parameters_row, function_row, function_body_row, label_identifier_row, switch_case_row, catch_clause_row, expression_plain, declaration_plain, statement_plain, binding_pattern_plain, expression_plain, declaration_plain, statement_plain, binding_pattern_plain, program_row};
+ghost use Rattle.jsgen_tree.specs.Rows.{program_row, comment_row, directive_row, variable_declarator_row, identifier_name_row, spread_element_row, object_property_row, formal_parameter_row, formal_parameter_rest_row, formal_parameters_row, function_row, function_body_row, label_identifier_row, switch_case_row, catch_clause_row, binding_property_row, binding_rest_element_row, expression_plain, declaration_plain, statement_plain, binding_pattern_plain, expression_plain, declaration_plain, statement_plain, binding_pattern_plain, program_row};
 ghost use Rattle.jsgen_fields.specs.Kept.{row_plain, any_row_plain};
 ghost use Rattle.jsgen_fields.specs.Values.{Same};
 ghost use Rattle.jsgen_fields.specs.Meaning.{is_program};
@@ -13,10 +13,10 @@ use crate::asked::{Child, PlainNode, ReadNode, RowOf};
 use crate::others::{OtherDeclaration, OtherExpression, OtherStatement};
 use jsgen_pool::Typed;
 use jsgen_tree::{
-    BindingPattern, CatchClause, Comment, Declaration, Directive, Expression, FormalParameter,
-    FormalParameterRest, FormalParameters, Function, FunctionBody, IdentifierName, LabelIdentifier,
-    Node, NodeType, ObjectProperty, Program, SpreadElement, Statement, SwitchCase,
-    VariableDeclarator,
+    BindingPattern, BindingProperty, BindingRestElement, CatchClause, Comment, Declaration,
+    Directive, Expression, FormalParameter, FormalParameterRest, FormalParameters, Function,
+    FunctionBody, IdentifierName, LabelIdentifier, Node, NodeType, ObjectProperty, Program,
+    SpreadElement, Statement, SwitchCase, VariableDeclarator,
 };
 use std::alloc::{AllocError, Global};
 
@@ -29,7 +29,7 @@ pub enum Row<N = Node> {
     Directive(Box<Directive>),
     Declaration(Box<OtherDeclaration<N>>),
     VariableDeclarator(Box<VariableDeclarator<N>>),
-    BindingPattern(Box<BindingPattern>),
+    BindingPattern(Box<BindingPattern<N>>),
     Statement(Box<OtherStatement<N>>),
     Expression(Box<OtherExpression<N>>),
     IdentifierName(Box<IdentifierName>),
@@ -43,6 +43,8 @@ pub enum Row<N = Node> {
     LabelIdentifier(Box<LabelIdentifier>),
     SwitchCase(Box<SwitchCase<N>>),
     CatchClause(Box<CatchClause<N>>),
+    BindingProperty(Box<BindingProperty<N>>),
+    BindingRestElement(Box<BindingRestElement<N>>),
 }
 
 impl<N: Drop> Row<N> {
@@ -75,7 +77,7 @@ impl<N: ReadNode> Typed for AnyRow<N> {
             Row::Directive(_) => NodeType::Directive,
             Row::Declaration(row) => N::declaration_type(&(**row).declaration),
             Row::VariableDeclarator(_) => NodeType::VariableDeclarator,
-            Row::BindingPattern(row) => (**row).node_type(),
+            Row::BindingPattern(row) => N::binding_pattern_type(&**row),
             Row::Statement(row) => N::statement_type(&(**row).statement),
             Row::Expression(row) => N::expression_type(&(**row).expression),
             Row::IdentifierName(_) => NodeType::IdentifierName,
@@ -89,6 +91,8 @@ impl<N: ReadNode> Typed for AnyRow<N> {
             Row::LabelIdentifier(_) => NodeType::LabelIdentifier,
             Row::SwitchCase(_) => NodeType::SwitchCase,
             Row::CatchClause(_) => NodeType::CatchClause,
+            Row::BindingProperty(_) => NodeType::BindingProperty,
+            Row::BindingRestElement(_) => NodeType::BindingRestElement,
         }
     }
 }
@@ -166,9 +170,9 @@ pub fn row_of_variable_declarator<N: PlainNode + Drop, R: RowOf<N>>(
 
 pub fn row_of_binding_pattern<N: PlainNode + Drop, R: RowOf<N>>(
     alloc: Global,
-    binding_pattern: BindingPattern,
+    binding_pattern: BindingPattern<N>,
 ) -> Result<R, InputFault>
-    ensures { Same R.plain result (Ok (binding_pattern_plain binding_pattern)) }
+    ensures { Same R.plain result (Ok (binding_pattern_plain N.plain binding_pattern)) }
 {
     let binding_pattern = Box::new(alloc, binding_pattern)?;
     Ok(R::of_row(Row::BindingPattern(binding_pattern)))
@@ -274,4 +278,20 @@ pub fn row_of_catch_clause<N: PlainNode + Drop, R: RowOf<N>>(catch_clause: Box<C
     ensures { R.plain result ≡ catch_clause_row N.plain catch_clause.value }
 {
     R::of_row(Row::CatchClause(catch_clause))
+}
+
+pub fn row_of_binding_property<N: PlainNode + Drop, R: RowOf<N>>(
+    binding_property: Box<BindingProperty<N>>,
+) -> R
+    ensures { R.plain result ≡ binding_property_row N.plain binding_property.value }
+{
+    R::of_row(Row::BindingProperty(binding_property))
+}
+
+pub fn row_of_binding_rest_element<N: PlainNode + Drop, R: RowOf<N>>(
+    binding_rest_element: Box<BindingRestElement<N>>,
+) -> R
+    ensures { R.plain result ≡ binding_rest_element_row N.plain binding_rest_element.value }
+{
+    R::of_row(Row::BindingRestElement(binding_rest_element))
 }

@@ -146,14 +146,18 @@ pub fn assignment_target_of_expression<N: PlainNode + Drop>(
     }
 }
 
-pub fn binding_identifier_of_binding_pattern_in_box(
-    row: BindingPattern,
+pub fn binding_identifier_of_binding_pattern_in_box<N: PlainNode + Drop>(
+    row: BindingPattern<N>,
 ) -> Option<Box<BindingIdentifier>>
     ensures { option_map (λ b. binding_identifier_row b.value) result
-        ≡ (if in_set sets.BindingIdentifier (type_of (binding_pattern_plain row)) then Some (binding_pattern_plain row) else None) }
+        ≡ (if in_set sets.BindingIdentifier (type_of (binding_pattern_plain N.plain row)) then Some (binding_pattern_plain N.plain row) else None) }
 {
     match row {
         BindingPattern::BindingIdentifier(row) => Some(row),
+        rest => {
+            drop(rest);
+            None
+        }
     }
 }
 

@@ -61,7 +61,7 @@ const TYPE_NAMES: [(&str, NodeType); 50] = [
     ("DoWhileStatement", NodeType::DoWhileStatement),
 ];
 
-const TYPE_NAMES_2: [(&str, NodeType); 11] = [
+const TYPE_NAMES_2: [(&str, NodeType); 16] = [
     ("LabelIdentifier", NodeType::LabelIdentifier),
     ("LabeledStatement", NodeType::LabeledStatement),
     ("ContinueStatement", NodeType::ContinueStatement),
@@ -73,6 +73,11 @@ const TYPE_NAMES_2: [(&str, NodeType); 11] = [
     ("SwitchCase", NodeType::SwitchCase),
     ("TryStatement", NodeType::TryStatement),
     ("CatchClause", NodeType::CatchClause),
+    ("ObjectPattern", NodeType::ObjectPattern),
+    ("BindingProperty", NodeType::BindingProperty),
+    ("BindingRestElement", NodeType::BindingRestElement),
+    ("ArrayPattern", NodeType::ArrayPattern),
+    ("AssignmentPattern", NodeType::AssignmentPattern),
 ];
 
 fn first_named(names: &[(&str, NodeType)], name: &str) -> Option<NodeType>

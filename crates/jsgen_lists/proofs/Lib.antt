@@ -3,3 +3,4 @@ pub mod Holes
 pub mod Turns
 pub mod Braced
 pub mod NotOne
+pub mod Left

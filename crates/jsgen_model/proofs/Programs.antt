@@ -3,7 +3,7 @@
 use Rattle.std.proofs.Common.{refl}
 use Rattle.std.proofs.lemmas.Bool.{and_from}
 use Rattle.jsgen_tree.specs.Plain.{node_plain, layer}
-use Rattle.jsgen_tree.proofs.Cases.{with_argument, with_array_expression_element, with_object_property_kind, variable_declarator_by_init, if_statement_by_alternate, chain_expression_by_expression, boxed_object_property_by_key, update_expression_by_argument, assignment_expression_by_left, formal_parameter_by_initializer, boxed_formal_parameters_by_rest, function_by_params, function_by_body, arrow_function_expression_by_params, arrow_function_expression_by_body, for_statement_by_init, for_statement_by_test, for_statement_by_update, for_in_statement_by_left, for_of_statement_by_left, return_statement_by_argument, switch_case_by_test, try_statement_by_handler, try_statement_by_finalizer, boxed_catch_clause_by_param}
+use Rattle.jsgen_tree.proofs.Cases.{with_argument, with_array_expression_element, with_object_property_kind, variable_declarator_by_init, if_statement_by_alternate, chain_expression_by_expression, boxed_object_property_by_key, update_expression_by_argument, assignment_expression_by_left, formal_parameter_by_initializer, boxed_formal_parameters_by_rest, function_by_params, function_by_body, arrow_function_expression_by_params, arrow_function_expression_by_body, for_statement_by_init, for_statement_by_test, for_statement_by_update, for_in_statement_by_left, for_of_statement_by_left, return_statement_by_argument, switch_case_by_test, try_statement_by_handler, try_statement_by_finalizer, boxed_catch_clause_by_param, object_pattern_by_rest, binding_property_by_key, array_pattern_by_rest}
 use Rattle.jsgen_tree.specs.declared.nodes.Node.{Node, Node-F, map-Node}
 use Rattle.jsgen_tree.specs.Tree.{Tree}
 use Rattle.jsgen_tree.specs.declared.sets.Expression.{Expression}
@@ -73,8 +73,11 @@ module _ {A : Type 0} (f : A → Node) (h : (a : A) → IsFormed (node_plain (f 
   statement_is_formed (statements.SwitchStatement b) = (no_hole_changed _ _ _ b.value.cases.items, (h b.value.discriminant.node, (all_changed _ _ _ (switch_case_by_test _ (λ n. (no_hole_changed _ _ _ n.consequent.items, (tt, (all_changed _ _ _ (λ n. h n.node) n.consequent.items, tt)))) (λ n_test. (λ n. (no_hole_changed _ _ _ n.consequent.items, (h n_test.node, (all_changed _ _ _ (λ n. h n.node) n.consequent.items, tt)))))) b.value.cases.items, tt)))
   statement_is_formed (statements.TryStatement b) = (try_statement_by_handler (λ n. IsFormed (layer (map-Node Node Tree node_plain (map-Node A Node f (opened.Statement (statements.TryStatement (record b { value = n }))))))) (try_statement_by_finalizer _ (λ n. (refl, ((no_hole_changed _ _ _ n.block.value.body.items, (all_changed _ _ _ (λ n. h n.node) n.block.value.body.items, tt)), (tt, (tt, tt))))) (λ n_finalizer. (λ n. (refl, ((no_hole_changed _ _ _ n.block.value.body.items, (all_changed _ _ _ (λ n. h n.node) n.block.value.body.items, tt)), (tt, ((no_hole_changed _ _ _ n_finalizer.value.body.items, (all_changed _ _ _ (λ n. h n.node) n_finalizer.value.body.items, tt)), tt))))))) (boxed_catch_clause_by_param _ (λ n_handler. (try_statement_by_finalizer _ (λ n. (refl, ((no_hole_changed _ _ _ n.block.value.body.items, (all_changed _ _ _ (λ n. h n.node) n.block.value.body.items, tt)), ((refl, (tt, ((no_hole_changed _ _ _ n_handler.value.body.value.body.items, (all_changed _ _ _ (λ n. h n.node) n_handler.value.body.value.body.items, tt)), tt))), (tt, tt))))) (λ n_finalizer. (λ n. (refl, ((no_hole_changed _ _ _ n.block.value.body.items, (all_changed _ _ _ (λ n. h n.node) n.block.value.body.items, tt)), ((refl, (tt, ((no_hole_changed _ _ _ n_handler.value.body.value.body.items, (all_changed _ _ _ (λ n. h n.node) n_handler.value.body.value.body.items, tt)), tt))), ((no_hole_changed _ _ _ n_finalizer.value.body.items, (all_changed _ _ _ (λ n. h n.node) n_finalizer.value.body.items, tt)), tt)))))))) (λ n_handler_param. (λ n_handler. (try_statement_by_finalizer _ (λ n. (refl, ((no_hole_changed _ _ _ n.block.value.body.items, (all_changed _ _ _ (λ n. h n.node) n.block.value.body.items, tt)), ((refl, (h n_handler_param.node, ((no_hole_changed _ _ _ n_handler.value.body.value.body.items, (all_changed _ _ _ (λ n. h n.node) n_handler.value.body.value.body.items, tt)), tt))), (tt, tt))))) (λ n_finalizer. (λ n. (refl, ((no_hole_changed _ _ _ n.block.value.body.items, (all_changed _ _ _ (λ n. h n.node) n.block.value.body.items, tt)), ((refl, (h n_handler_param.node, ((no_hole_changed _ _ _ n_handler.value.body.value.body.items, (all_changed _ _ _ (λ n. h n.node) n_handler.value.body.value.body.items, tt)), tt))), ((no_hole_changed _ _ _ n_finalizer.value.body.items, (all_changed _ _ _ (λ n. h n.node) n_finalizer.value.body.items, tt)), tt))))))))))) b.value
 
-  binding_pattern_is_formed : (n : BindingPattern) → IsFormed (layer (map-Node Node Tree node_plain (map-Node A Node f (opened.BindingPattern n))))
+  binding_pattern_is_formed : (n : BindingPattern A) → IsFormed (layer (map-Node Node Tree node_plain (map-Node A Node f (opened.BindingPattern n))))
   binding_pattern_is_formed (binding_patterns.BindingIdentifier b) = (refl, tt)
+  binding_pattern_is_formed (binding_patterns.ObjectPattern b) = (object_pattern_by_rest (λ n. IsFormed (layer (map-Node Node Tree node_plain (map-Node A Node f (opened.BindingPattern (binding_patterns.ObjectPattern (record b { value = n }))))))) (λ n. (no_hole_changed _ _ _ n.properties.items, (all_changed _ _ _ (binding_property_by_key _ (λ n_key. (λ n. (refl, ((refl, tt), (h n.value.node, tt))))) (λ n_key. (λ n. (refl, (h n_key.value.node, (h n.value.node, tt)))))) n.properties.items, (tt, tt)))) (λ n_rest. (λ n. (no_hole_changed _ _ _ n.properties.items, (all_changed _ _ _ (binding_property_by_key _ (λ n_key. (λ n. (refl, ((refl, tt), (h n.value.node, tt))))) (λ n_key. (λ n. (refl, (h n_key.value.node, (h n.value.node, tt)))))) n.properties.items, ((refl, (h n_rest.value.argument.node, tt)), tt)))))) b.value
+  binding_pattern_is_formed (binding_patterns.ArrayPattern b) = (array_pattern_by_rest (λ n. IsFormed (layer (map-Node Node Tree node_plain (map-Node A Node f (opened.BindingPattern (binding_patterns.ArrayPattern (record b { value = n }))))))) (λ n. (refl, (all_changed_or_holes _ _ _ (with_hole _ tt (λ n. h n.node)) n.elements.items, (tt, tt)))) (λ n_rest. (λ n. (refl, (all_changed_or_holes _ _ _ (with_hole _ tt (λ n. h n.node)) n.elements.items, ((refl, (h n_rest.value.argument.node, tt)), tt)))))) b.value
+  binding_pattern_is_formed (binding_patterns.AssignmentPattern b) = (refl, (h b.value.left.node, (h b.value.right.node, tt)))
 
   pub layer_is_formed : (y : Node-F A) → IsFormed (layer (map-Node Node Tree node_plain (map-Node A Node f y)))
   layer_is_formed (opened.Expression n) = expression_is_formed n

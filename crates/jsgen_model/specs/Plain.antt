@@ -23,6 +23,11 @@ abbrev pub is_plain_type : NodeType → Bool
 -- generated from tools/nodes/table.txt: types
 is_plain_type types.RegExpLiteral = false
 is_plain_type types.ImportMeta = false
+is_plain_type types.ObjectPattern = false
+is_plain_type types.BindingProperty = false
+is_plain_type types.BindingRestElement = false
+is_plain_type types.ArrayPattern = false
+is_plain_type types.AssignmentPattern = false
 -- end of what is generated: types
 is_plain_type type = true
 
@@ -126,6 +131,11 @@ is_formed (tree.switch_statement a discriminant cases) = has_no_hole cases
 is_formed (tree.switch_case a test consequent) = has_no_hole consequent
 is_formed (tree.try_statement a block handler finalizer) = true
 is_formed (tree.catch_clause a param body) = true
+is_formed (tree.object_pattern a properties rest) = has_no_hole properties
+is_formed (tree.binding_property a key value) = true
+is_formed (tree.binding_rest_element a argument) = true
+is_formed (tree.array_pattern a elements rest) = true
+is_formed (tree.assignment_pattern a left right) = true
 -- end of what is generated: formed
 is_formed t = false
 

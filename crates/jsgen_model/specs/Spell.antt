@@ -19,11 +19,11 @@ use Rattle.jsgen_tree.specs.declared.functions.FunctionKind.TheVariants as funct
 use Rattle.jsgen_tree.specs.declared.types.NodeType.{NodeType}
 use Rattle.jsgen_tree.specs.declared.types.NodeType.TheVariants as types
 use Rattle.jsgen_tree.specs.Named.{Named, as_written}
-use Rattle.jsgen_tree.specs.Inside.{without_parentheses, ends_open, reference_named, binding_named, looked_up_in, written_name_in, is_proto, is_method, behind_minus, is_negative_number}
+use Rattle.jsgen_tree.specs.Inside.{without_parentheses, ends_open, reference_named, binding_named, looked_up_in, bound_in, written_name_in, is_proto, is_method, behind_minus, is_negative_number}
 use Rattle.jsgen_tree.specs.Words.{declaration_word}
 use Rattle.jsgen_tree.specs.Number.{NumericKind, Whole, Raw}
 use Rattle.jsgen_tree.specs.Tree.{Tree, Maybe, absent, given, Trees, no_trees, more, hole, Atoms, type_of}
-use Rattle.jsgen_tree.specs.Values.{as_text, directive_directive, variable_declaration_kind, identifier_name_name, label_identifier_name, boolean_literal_value, numeric_literal_kind, numeric_literal_negative, numeric_literal_digits, numeric_literal_text, big_int_literal_value, string_literal_value, binary_expression_operator, logical_expression_operator, unary_expression_operator, update_expression_operator, update_expression_prefix, object_property_kind, object_property_method, object_property_shorthand, object_property_computed, function_kind, function_pife, assignment_expression_operator, static_member_expression_optional, computed_member_expression_optional, call_expression_optional, arrow_function_expression_pife}
+use Rattle.jsgen_tree.specs.Values.{as_text, directive_directive, variable_declaration_kind, identifier_name_name, label_identifier_name, boolean_literal_value, numeric_literal_kind, numeric_literal_negative, numeric_literal_digits, numeric_literal_text, big_int_literal_value, string_literal_value, binary_expression_operator, logical_expression_operator, unary_expression_operator, update_expression_operator, update_expression_prefix, object_property_kind, object_property_method, object_property_shorthand, object_property_computed, function_kind, function_pife, assignment_expression_operator, static_member_expression_optional, computed_member_expression_optional, call_expression_optional, arrow_function_expression_pife, binding_property_computed}
 use Rattle.jsgen_tree.specs.Job.{JobData}
 use Rattle.jsgen_tree.specs.Nodes as tree
 use Rattle.jsgen_model.specs.Numbers.{takes_no_dot}
@@ -239,6 +239,11 @@ abbrev pub comma_if : Bool → Items
 comma_if true = punctuator comma
 comma_if false = nothing
 
+-- the comma between elements and what takes the rest
+abbrev pub comma_if_any : Trees → Items
+comma_if_any no_trees = nothing
+comma_if_any ts = punctuator comma ⊕ soft_space
+
 -- what stands in the braces of an object: a single property with a space on each side, more on lines of their own
 abbrev pub object_inside : Trees → Items → Items
 object_inside no_trees items = items
@@ -278,6 +283,22 @@ unless_short shorthand w value items = if is_proto w then items_unless shorthand
 abbrev pub before_value : Bool → Option (List ℕ) → Option Named → Items → Items
 before_value shorthand None value key = key ⊕ (punctuator colon ⊕ soft_space)
 before_value shorthand (Some w) value key = unless_short shorthand w value (key ⊕ (punctuator colon ⊕ soft_space))
+
+-- what stands before what a property is bound to: its key, which may be a name, and a colon, but where that is printed as the key is
+-- written, by itself or with a default
+abbrev pub before_bound : Option (List ℕ) → Option Named → Items → Items
+before_bound None value key = key ⊕ (punctuator colon ⊕ soft_space)
+before_bound (Some w) value key = unless_said w value (key ⊕ (punctuator colon ⊕ soft_space))
+
+-- the braces of an object pattern, in which an empty one has nothing
+abbrev pub pattern_braces : Trees → Maybe → Items → Items
+pattern_braces no_trees absent items = brackets Brace nothing
+pattern_braces properties rest items = brackets Brace (soft_space ⊕ (items ⊕ soft_space))
+
+-- what stands behind the elements of a pattern: what takes the rest, or else the comma of a last element that is left out
+abbrev pub behind_elements : Trees → Maybe → Items → Items
+behind_elements elements absent items = comma_if (ends_in_hole elements)
+behind_elements elements (given rest) items = comma_if_any elements ⊕ items
 
 -- the word before the key of an accessor
 abbrev pub accessor_word : PropertyKind → Items
@@ -433,6 +454,13 @@ abbrev mutual
       ⊕ (brackets Round (spell params (with_calls (child Comma place))) ⊕ spell_apart body within_statement)))
   spell (tree.function_body a directives statements) place =
       body_braces directives statements (spell_directives directives ⊕ spell_body statements)
+  spell (tree.object_pattern a properties rest) place =
+      mark a.span ⊕ pattern_braces properties rest (spell_list properties (child Lowest place) ⊕ (comma_between properties rest ⊕ spell_if_given rest (child Lowest place)))
+  spell (tree.binding_property a key value) place =
+      before_bound (written_name_in key) (bound_in value) (key_items (needs_brackets (binding_property_computed a) key) key (spell key (in_brackets Comma)))
+      ⊕ spell value (child Lowest place)
+  spell (tree.array_pattern a elements rest) place =
+      mark a.span ⊕ brackets Square (spell_elements false elements (child Lowest place) ⊕ behind_elements elements rest (spell_if_given rest (child Lowest place)))
   -- generated from tools/nodes/table.txt: clauses
   spell (tree.variable_declaration a declarations) place =
       as_statement place.in_list (mark a.span ⊕ (word (declaration_word (variable_declaration_kind a)) ⊕ (soft_space
@@ -482,6 +510,9 @@ abbrev mutual
       ⊕ statement_end))))
   spell (tree.debugger_statement a) place =
       comments all_of_them a.span.start ⊕ (indentation ⊕ (marked_word a.span (codes "debugger") ⊕ statement_end))
+  spell (tree.binding_rest_element a argument) place = mark a.span ⊕ (punctuator ellipsis ⊕ spell argument (child Lowest place))
+  spell (tree.assignment_pattern a left right) place =
+      spell left (child Lowest place) ⊕ (soft_space ⊕ (punctuator equal ⊕ (soft_space ⊕ spell right (in_brackets Comma))))
   -- end of what is generated: clauses
   spell t place = nothing
 

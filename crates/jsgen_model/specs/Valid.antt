@@ -27,7 +27,7 @@ use Rattle.jsgen_tree.specs.Number.{NumericKind, Whole, Raw}
 use Rattle.jsgen_tree.specs.Inside.{without_parentheses, looked_up_in, reference_named, binding_named, declared_kind, function_in, written_name_in, is_proto, is_method, is_negative_number, is_negative_big_integer, has_optional_link}
 use Rattle.jsgen_tree.specs.Tree.{Tree, node, Slots, no_slots, one, maybe, many, maybe_many, Maybe, absent, given, Trees, no_trees, more, hole, MaybeTrees, no_list, listed, type_of, span_of}
 use Rattle.jsgen_tree.specs.Nodes as tree
-use Rattle.jsgen_tree.specs.Values.{as_text, program_source, comment_kind, directive_directive, identifier_name_name, label_identifier_name, numeric_literal_kind, numeric_literal_text, big_int_literal_value, reg_exp_literal_pattern, reg_exp_literal_flags, object_property_kind, object_property_method, object_property_shorthand, object_property_computed, function_kind, static_member_expression_optional, computed_member_expression_optional, call_expression_optional}
+use Rattle.jsgen_tree.specs.Values.{as_text, program_source, comment_kind, directive_directive, identifier_name_name, label_identifier_name, numeric_literal_kind, numeric_literal_text, big_int_literal_value, reg_exp_literal_pattern, reg_exp_literal_flags, object_property_kind, object_property_method, object_property_shorthand, object_property_computed, function_kind, static_member_expression_optional, computed_member_expression_optional, call_expression_optional, binding_property_computed}
 use Rattle.jsgen_model.specs.Numbers.{is_raw_number, is_big_integer}
 use Rattle.jsgen_model.specs.RegularExpressions.{is_body, are_flags}
 use Rattle.jsgen_model.specs.Tokens.{has_line_end}
@@ -57,6 +57,8 @@ abbrev pub asked_sets : NodeType → List NodeSet
 asked_sets types.StaticMemberExpression = linked (child_sets (fields types.StaticMemberExpression))
 asked_sets types.ComputedMemberExpression = linked (child_sets (fields types.ComputedMemberExpression))
 asked_sets types.CallExpression = linked (child_sets (fields types.CallExpression))
+asked_sets types.BindingProperty = sets.PropertyKey ∷ sets.BindingElement ∷ []
+asked_sets types.ArrayPattern = sets.BindingElement ∷ sets.BindingRestElement ∷ []
 asked_sets type = child_sets (fields type)
 
 -- what surrounds the children of a node: what surrounds it, but that of a function's body, where `return` may stand (ECMA-262, 15.2)
@@ -246,7 +248,7 @@ chain_faults s element = fault_if (not (has_optional_link element)) (faults.Plac
 abbrev pub target_faults : Tree → List TreeFault
 target_faults target = fault_if (has_optional_link target) (faults.Place (span_of target).start)
 
--- a loop over the values of another binds one name without a value (ECMA-262, 14.7.5)
+-- a loop over the values of another binds one name or one pattern, without a value (ECMA-262, 14.7.5)
 abbrev pub is_one_name : Trees → Bool
 is_one_name (more (tree.variable_declarator a id absent) no_trees) = true
 is_one_name ts = false
@@ -254,6 +256,36 @@ is_one_name ts = false
 abbrev pub left_faults : Tree → List TreeFault
 left_faults (tree.variable_declaration a declarations) = fault_if (not (is_one_name declarations)) (faults.Place a.span.start)
 left_faults left = target_faults left
+
+-- ---- patterns (ECMA-262, 14.3.3)
+
+abbrev pub is_binding_name : NodeType → Bool
+is_binding_name types.BindingIdentifier = true
+is_binding_name type = false
+
+-- what takes the rest of an object is a name
+abbrev pub rest_faults : Maybe → List TreeFault
+rest_faults (given (tree.binding_rest_element a argument)) = fault_if (not (is_binding_name (type_of argument))) (faults.Place (span_of argument).start)
+rest_faults rest = []
+
+-- a pattern without a value
+abbrev pub lacks_value : Tree → Bool
+lacks_value (tree.variable_declarator a id absent) = not (is_binding_name (type_of id))
+lacks_value t = false
+
+abbrev pub any_lacks_value : Trees → Bool
+any_lacks_value no_trees = false
+any_lacks_value (more t ts) = lacks_value t || any_lacks_value ts
+any_lacks_value (hole ts) = any_lacks_value ts
+
+-- a declaration binds a pattern and gives it no value, which only the head of a loop over values does (ECMA-262, 14.3.1 and 14.3.2)
+abbrev pub binds_nothing : Tree → Bool
+binds_nothing (tree.variable_declaration a declarations) = any_lacks_value declarations
+binds_nothing t = false
+
+abbrev pub init_faults : Maybe → List TreeFault
+init_faults absent = []
+init_faults (given t) = fault_if (binds_nothing t) (faults.Place (span_of t).start)
 
 -- ---- comments (ECMA-262, 12.4 and B.1.1)
 
@@ -340,7 +372,7 @@ own_faults around (tree.numeric_literal a) = number_faults a.span (numeric_liter
 own_faults around (tree.big_int_literal a) = big_integer_faults a.span (big_int_literal_value a)
 own_faults around (tree.reg_exp_literal a) = regular_expression_faults a.span (reg_exp_literal_pattern a) (reg_exp_literal_flags a)
 own_faults around (tree.if_statement a test consequent alternate) = body_faults consequent ++ alternate_faults alternate
-own_faults around (tree.for_statement a init test update body) = body_faults body
+own_faults around (tree.for_statement a init test update body) = init_faults init ++ body_faults body
 own_faults around (tree.for_in_statement a left right body) = left_faults left ++ body_faults body
 own_faults around (tree.for_of_statement a left right body) = left_faults left ++ body_faults body
 own_faults around (tree.while_statement a test body) = body_faults body
@@ -361,14 +393,29 @@ own_faults around (tree.object_property a key value) = key_faults (object_proper
 own_faults around (tree.function a id params body) = function_faults a.span (function_kind a) id body
 own_faults around (tree.return_statement a argument) = return_faults around.in_function a.span
 own_faults around (tree.sequence a expressions) = sequence_faults a.span expressions
+own_faults around (tree.object_pattern a properties rest) = rest_faults rest
+own_faults around (tree.binding_property a key value) = key_faults (binding_property_computed a) key
 own_faults around t = []
 
 abbrev pub takes_super : NodeSet → Bool
 takes_super sets.Link = true
 takes_super set = false
 
+-- a default stands in a property or as an element, and nowhere else (ECMA-262, 14.3.3)
+abbrev pub is_default : NodeType → Bool
+is_default types.AssignmentPattern = true
+is_default type = false
+
+abbrev pub takes_default : NodeSet → Bool
+takes_default sets.BindingElement = true
+takes_default set = false
+
+-- of these two a node is neither, or the place takes it
+abbrev pub has_place : NodeSet → NodeType → Bool
+has_place set type = (takes_super set || not (is_super type)) && (takes_default set || not (is_default type))
+
 abbrev pub may_stand : NodeSet → NodeType → Bool
-may_stand set type = in_set set type && (takes_super set || not (is_super type))
+may_stand set type = in_set set type && has_place set type
 
 -- Links of which one is optional stand in a chain: as its expression, or before a further link. Of what is changed, its operation has the rule.
 abbrev pub takes_optional_link : NodeSet → Bool
@@ -392,11 +439,16 @@ same_kind function_kinds.Declaration function_kinds.Declaration = true
 same_kind function_kinds.Expression function_kinds.Expression = true
 same_kind k l = false
 
+abbrev pub is_among_statements : NodeSet → Bool
+is_among_statements sets.Statement = true
+is_among_statements set = false
+
 abbrev pub fits_kind : NodeSet → Tree → Bool
 fits_kind set (tree.function a id params body) = same_kind (function_kind a) (stands_among set)
+fits_kind set (tree.variable_declaration a declarations) = not (is_among_statements set && any_lacks_value declarations)
 fits_kind set t = true
 
--- a child is of the set that its field asks for, and `super`, optional links and functions only where they may be
+-- a child is of the set that its field asks for, and `super`, defaults, optional links, functions and declarations only where they may be
 abbrev pub set_faults : NodeSet → Tree → List TreeFault
 set_faults set t = fault_if (not (may_stand set (type_of t) && fits_kind set t)) (faults.Place (span_of t).start) ++ link_faults set t
 

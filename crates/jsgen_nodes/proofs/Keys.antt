@@ -8,12 +8,12 @@ use Rattle.jsgen_tree.specs.Named.{Named, as_written}
 use Rattle.jsgen_tree.specs.Inside.{without_parentheses, is_proto, is_negative_number}
 use Rattle.jsgen_model.specs.Punctuator.{colon}
 use Rattle.jsgen_model.specs.Items.{Items, nothing, ◌⊕◌, string, punctuator, soft_space}
-use Rattle.jsgen_model.specs.Spell.{string_in, key_text, items_unless, unless_said, before_value}
+use Rattle.jsgen_model.specs.Spell.{string_in, key_text, items_unless, unless_said, before_value, before_bound}
 use Rattle.jsgen_printer.specs.Printer.{pen_of}
 use Rattle.jsgen_printer.specs.Steps.{Lays}
 use Rattle.jsgen_printer.specs.declared.printer.Printer.{Printer}
 use Rattle.jsgen_printer.proofs.Sequence.{where_same_laid}
-use Rattle.jsgen_nodes.specs.Keys.{is_string, is_number, is_said, is_value_alone}
+use Rattle.jsgen_nodes.specs.Keys.{is_string, is_number, is_said, is_value_alone, is_bound_alone}
 
 pub bare_string : (t : Tree) → is_string (type_of t) ≡ true → string_in (without_parentheses t) ≡ string_in t
 bare_string (tree.parenthesized a t) h = absurd (both_ways false refl h)
@@ -53,3 +53,8 @@ said_by_key false shorthand said w value items e h = said_by_name w value said i
 pub before_value_laid : {a b : Printer} (shorthand said : Bool) (name : Option (List ℕ)) (value : Option Named) (key : Items) → said ≡ is_value_alone (pen_of a).style.tables shorthand name value → Lays a b (if said then nothing else (key ⊕ (punctuator colon ⊕ soft_space))) → Lays a b (before_value shorthand name value key)
 before_value_laid shorthand said None value key e h = rw e at h
 before_value_laid shorthand said (Some w) value key e h = said_by_key (is_proto w) shorthand said w value (key ⊕ (punctuator colon ⊕ soft_space)) e h
+
+-- the same of a property of a pattern
+pub before_bound_laid : {a b : Printer} (said : Bool) (name : Option (List ℕ)) (value : Option Named) (key : Items) → said ≡ is_bound_alone (pen_of a).style.tables name value → Lays a b (if said then nothing else (key ⊕ (punctuator colon ⊕ soft_space))) → Lays a b (before_bound name value key)
+before_bound_laid said None value key e h = rw e at h
+before_bound_laid said (Some w) value key e h = said_by_name w value said (key ⊕ (punctuator colon ⊕ soft_space)) e h

@@ -2,13 +2,15 @@
 -- A member that is in no earlier part of the choice, and of no type of this one, is in a later part.
 use Rattle.std.proofs.Common.{◌≡◌, true, false, refl, nat_le}
 use Rattle.jsgen_nodes.proofs.IsNot.{IsNot}
-use Rattle.jsgen_nodes.specs.Parts.{expression_part, declaration_part, statement_part}
+use Rattle.jsgen_nodes.specs.Parts.{expression_part, declaration_part, statement_part, binding_pattern_part}
 use Rattle.jsgen_tree.specs.declared.sets.Expression.{Expression}
 use Rattle.jsgen_tree.specs.declared.sets.Declaration.{Declaration}
 use Rattle.jsgen_tree.specs.declared.sets.Statement.{Statement}
+use Rattle.jsgen_tree.specs.declared.sets.BindingPattern.{BindingPattern}
 use Rattle.jsgen_tree.specs.declared.sets.Expression.TheVariants as expressions
 use Rattle.jsgen_tree.specs.declared.sets.Declaration.TheVariants as declarations
 use Rattle.jsgen_tree.specs.declared.sets.Statement.TheVariants as statements
+use Rattle.jsgen_tree.specs.declared.sets.BindingPattern.TheVariants as binding_patterns
 
 pub expression_past_0 : {N : Type 0} (n : Expression N) → IsNot n expressions.IdentifierReference → IsNot n expressions.ThisExpression → IsNot n expressions.NullLiteral → IsNot n expressions.BooleanLiteral → IsNot n expressions.NumericLiteral → IsNot n expressions.BigIntLiteral → IsNot n expressions.StringLiteral → IsNot n expressions.RegExpLiteral → IsNot n expressions.ParenthesizedExpression → IsNot n expressions.BinaryExpression → IsNot n expressions.LogicalExpression → IsNot n expressions.StaticMemberExpression → IsNot n expressions.ComputedMemberExpression → IsNot n expressions.CallExpression → IsNot n expressions.ChainExpression → nat_le 1 (expression_part n) ≡ true
 expression_past_0 (expressions.IdentifierReference b) no_0 no_1 no_2 no_3 no_4 no_5 no_6 no_7 no_8 no_9 no_10 no_11 no_12 no_13 no_14 = absurd (no_0 b refl)
@@ -191,3 +193,13 @@ statement_past_3 (statements.ThrowStatement b) later no_0 no_1 = let no : false 
 statement_past_3 (statements.DebuggerStatement b) later no_0 no_1 = let no : false ≡ true = later in cc
 statement_past_3 (statements.SwitchStatement b) later no_0 no_1 = absurd (no_0 b refl)
 statement_past_3 (statements.TryStatement b) later no_0 no_1 = absurd (no_1 b refl)
+
+pub binding_pattern_past_0 : {N : Type 0} (n : BindingPattern N) → IsNot n binding_patterns.BindingIdentifier → nat_le 1 (binding_pattern_part n) ≡ true
+binding_pattern_past_0 (binding_patterns.BindingIdentifier b) no_0 = absurd (no_0 b refl)
+binding_pattern_past_0 n no_0 = refl
+
+pub binding_pattern_past_1 : {N : Type 0} (n : BindingPattern N) → nat_le 1 (binding_pattern_part n) ≡ true → IsNot n binding_patterns.ObjectPattern → IsNot n binding_patterns.ArrayPattern → IsNot n binding_patterns.AssignmentPattern → ⊥
+binding_pattern_past_1 (binding_patterns.BindingIdentifier b) later no_0 no_1 no_2 = let no : false ≡ true = later in cc
+binding_pattern_past_1 (binding_patterns.ObjectPattern b) later no_0 no_1 no_2 = absurd (no_0 b refl)
+binding_pattern_past_1 (binding_patterns.ArrayPattern b) later no_0 no_1 no_2 = absurd (no_1 b refl)
+binding_pattern_past_1 (binding_patterns.AssignmentPattern b) later no_0 no_1 no_2 = absurd (no_2 b refl)

@@ -30,6 +30,11 @@ abbrev pub is_value_alone : Tables → Bool → Option (List ℕ) → Option Nam
 is_value_alone tables shorthand None value = false
 is_value_alone tables shorthand (Some w) value = if is_proto w then shorthand else is_said tables value w
 
+-- by the tables a property of a pattern is what it is bound to alone, where its key may be a name, and that a name
+abbrev pub is_bound_alone : Tables → Option (List ℕ) → Option Named → Bool
+is_bound_alone tables None value = false
+is_bound_alone tables (Some w) value = is_said tables value w
+
 -- a key, in brackets where it needs them
 abbrev pub key_of : Bool → Tree → Items
 key_of computed key = key_items (needs_brackets computed key) key (spell key (in_brackets Comma))

@@ -4,9 +4,11 @@ use Rattle.std.specs.Prelude.{ℕ}
 use Rattle.jsgen_tree.specs.declared.sets.Expression.{Expression}
 use Rattle.jsgen_tree.specs.declared.sets.Declaration.{Declaration}
 use Rattle.jsgen_tree.specs.declared.sets.Statement.{Statement}
+use Rattle.jsgen_tree.specs.declared.sets.BindingPattern.{BindingPattern}
 use Rattle.jsgen_tree.specs.declared.sets.Expression.TheVariants as expression
 use Rattle.jsgen_tree.specs.declared.sets.Declaration.TheVariants as declaration
 use Rattle.jsgen_tree.specs.declared.sets.Statement.TheVariants as statement
+use Rattle.jsgen_tree.specs.declared.sets.BindingPattern.TheVariants as binding_pattern
 
 abbrev pub expression_part : {N : Type 0} → Expression N → ℕ
 expression_part (expression.IdentifierReference b) = 0
@@ -61,3 +63,9 @@ statement_part (statement.ThrowStatement b) = 2
 statement_part (statement.DebuggerStatement b) = 2
 statement_part (statement.SwitchStatement b) = 3
 statement_part (statement.TryStatement b) = 3
+
+abbrev pub binding_pattern_part : {N : Type 0} → BindingPattern N → ℕ
+binding_pattern_part (binding_pattern.BindingIdentifier b) = 0
+binding_pattern_part (binding_pattern.ObjectPattern b) = 1
+binding_pattern_part (binding_pattern.ArrayPattern b) = 1
+binding_pattern_part (binding_pattern.AssignmentPattern b) = 1

@@ -185,7 +185,7 @@ fn is_said<N: PrintNode>(value: &N, name: &str, p: &Printer<'_>) -> bool
     }
 }
 
-fn key_name<N: PrintNode>(key: &PropertyKey<N>) -> Option<&str>
+pub fn key_name<N: PrintNode>(key: &PropertyKey<N>) -> Option<&str>
     ensures { option_map (λ s. chars s.now) result ≡ written_name_in (in_property_key N.plain key.now) }
 {
     match key {
@@ -196,8 +196,8 @@ fn key_name<N: PrintNode>(key: &PropertyKey<N>) -> Option<&str>
 
 // ---- keys
 
-// In brackets where it needs them.
-fn print_key<N: PrintNode>(key: &PropertyKey<N>, computed: bool, p: &mut Printer<'_>)
+/// In brackets where it needs them.
+pub fn print_key<N: PrintNode>(key: &PropertyKey<N>, computed: bool, p: &mut Printer<'_>)
     ensures { Lays p.old p.new (key_of computed (in_property_key N.plain key.now)) }
 {
     let within = Place::in_brackets(Precedence::Comma);

@@ -9,6 +9,7 @@ pub mod functions;
 mod inside;
 pub mod loops;
 pub mod operations;
+pub mod patterns;
 pub mod quotes;
 pub mod sets;
 pub mod statements;
@@ -17,7 +18,7 @@ ghost use Rattle.std.specs.Prelude.{◌≡◌, option_map};
 ghost use Rattle.std.specs.Str.{chars};
 ghost use Rattle.jsgen_syntax.specs.Units.{js_units};
 ghost use Rattle.jsgen_tree.specs.Tree.{Tree, type_of};
-ghost use Rattle.jsgen_tree.specs.Inside.{without_parentheses, ends_open, looked_up_in, named_by, written_name_in, is_negative};
+ghost use Rattle.jsgen_tree.specs.Inside.{without_parentheses, ends_open, looked_up_in, named_by, bound_in, bound_by, written_name_in, is_negative};
 ghost use Rattle.jsgen_tree.specs.Plain.{node_plain};
 ghost use Rattle.jsgen_model.specs.Quotes.{is_member_of, is_named};
 ghost use Rattle.jsgen_model.specs.Spell.{spell, spell_method, string_in, string_statement};
@@ -33,7 +34,9 @@ use jsgen_questions::{
     Operand, ends_open, is_binding_name, is_member, is_named, operand_of, string, string_statement,
 };
 use jsgen_syntax::JsStr;
-use jsgen_tree::{Declaration, Expression, IdentifierReference, Node, NodeType, Statement};
+use jsgen_tree::{
+    BindingIdentifier, Declaration, Expression, IdentifierReference, Node, NodeType, Statement,
+};
 use sets::{print_binding_pattern, print_declaration, print_expression, print_statement};
 
 /// Where trees nest: what the print functions ask of a child. Only `Node` implements it.
@@ -73,6 +76,10 @@ pub trait PrintNode {
     /// The reference itself, with its number, without the parentheses that it may have round it.
     fn looked_up(&self) -> Option<&IdentifierReference>
         ensures { option_map (λ n. named_by n.now) result ≡ looked_up_in (without_parentheses (plain self.now)) };
+
+    /// The name that a pattern is, with its number, by itself or with a default.
+    fn bound(&self) -> Option<&BindingIdentifier>
+        ensures { option_map (λ n. bound_by n.now) result ≡ bound_in (plain self.now) };
 
     /// The name that stands there as it is written.
     fn written_name(&self) -> Option<&str>
@@ -158,6 +165,10 @@ impl PrintNode for Node {
 
     fn looked_up(&self) -> Option<&IdentifierReference> {
         self.looked_up()
+    }
+
+    fn bound(&self) -> Option<&BindingIdentifier> {
+        self.bound()
     }
 
     fn written_name(&self) -> Option<&str> {

@@ -4,7 +4,7 @@ ghost use Rattle.std.specs.Prelude.{◌≡◌, true, nat_le};
 ghost use Rattle.jsgen_tree.specs.Rows.{in_simple_assignment_target, in_assignment_target, expression_plain, declaration_plain, statement_plain, binding_pattern_plain};
 ghost use Rattle.jsgen_printer.specs.Steps.{Lays};
 ghost use Rattle.jsgen_model.specs.Spell.{spell};
-ghost use Rattle.jsgen_nodes.specs.Parts.{expression_part, declaration_part, statement_part};
+ghost use Rattle.jsgen_nodes.specs.Parts.{expression_part, declaration_part, statement_part, binding_pattern_part};
 
 use crate::assignments::print_assignment_expression;
 use crate::choices::{print_switch_statement, print_try_statement};
@@ -19,9 +19,11 @@ use crate::loops::{
     print_do_while_statement, print_for_in_statement, print_for_of_statement, print_for_statement,
 };
 use crate::operations::{print_new_expression, print_update_expression};
+use crate::patterns::{print_array_pattern, print_object_pattern};
 use crate::statements::{print_block_statement, print_if_statement};
 use crate::{Inside, PrintNode};
 use jsgen_inside::{print_binding_identifier, print_identifier_reference};
+use jsgen_patterns::print_assignment_pattern;
 use jsgen_place::Place;
 use jsgen_printer::Printer;
 use jsgen_spelled::{
@@ -218,11 +220,34 @@ fn print_statement_in_choices<N: PrintNode>(node: &Statement<N>, p: &mut Printer
     }
 }
 
-pub fn print_binding_pattern(node: &BindingPattern, p: &mut Printer<'_>, place: Place)
-    ensures { Lays p.old p.new (spell (binding_pattern_plain node.now) place) }
+pub fn print_binding_pattern<N: PrintNode>(
+    node: &BindingPattern<N>,
+    p: &mut Printer<'_>,
+    place: Place,
+)
+    ensures { Lays p.old p.new (spell (binding_pattern_plain N.plain node.now) place) }
 {
     match node {
         BindingPattern::BindingIdentifier(node) => print_binding_identifier(node, p, place),
+        _ => print_binding_pattern_in_patterns(node, p, place),
+    }
+}
+
+fn print_binding_pattern_in_patterns<N: PrintNode>(
+    node: &BindingPattern<N>,
+    p: &mut Printer<'_>,
+    place: Place,
+)
+    requires { nat_le 1 (binding_pattern_part node.now) ≡ true }
+    ensures { Lays p.old p.new (spell (binding_pattern_plain N.plain node.now) place) }
+{
+    match node {
+        BindingPattern::ObjectPattern(node) => print_object_pattern(node, p, place),
+        BindingPattern::ArrayPattern(node) => print_array_pattern(node, p, place),
+        BindingPattern::AssignmentPattern(node) => print_assignment_pattern::<_, Inside>(
+            node, p, place,
+        ),
+        _ => unreachable!(),
     }
 }
 

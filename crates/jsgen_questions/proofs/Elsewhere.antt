@@ -28,8 +28,11 @@ pub no_open_declaration : (n : Declaration Node) → false ≡ ends_open (declar
 no_open_declaration (declarations.VariableDeclaration b) = refl
 no_open_declaration (declarations.Function b) = refl
 
-pub no_open_pattern : (n : BindingPattern) → false ≡ ends_open (binding_pattern_plain n)
+pub no_open_pattern : (n : BindingPattern Node) → false ≡ ends_open (binding_pattern_plain node_plain n)
 no_open_pattern (binding_patterns.BindingIdentifier b) = refl
+no_open_pattern (binding_patterns.ObjectPattern b) = refl
+no_open_pattern (binding_patterns.ArrayPattern b) = refl
+no_open_pattern (binding_patterns.AssignmentPattern b) = refl
 
 pub no_open_statement : (n : Statement Node) → IsNot n statements.Declaration → IsNot n statements.IfStatement → IsNot n statements.ForStatement → IsNot n statements.ForInStatement → IsNot n statements.ForOfStatement → IsNot n statements.WhileStatement → IsNot n statements.LabeledStatement → false ≡ ends_open (statement_plain node_plain n)
 no_open_statement (statements.Declaration b) no_declaration no_if no_for no_for_in no_for_of no_while no_label = absurd (no_declaration b refl)
@@ -51,8 +54,11 @@ pub no_declaration_string : (n : Declaration Node) → None ≡ string_statement
 no_declaration_string (declarations.VariableDeclaration b) = refl
 no_declaration_string (declarations.Function b) = refl
 
-pub no_pattern_string : (n : BindingPattern) → None ≡ string_statement (binding_pattern_plain n)
+pub no_pattern_string : (n : BindingPattern Node) → None ≡ string_statement (binding_pattern_plain node_plain n)
 no_pattern_string (binding_patterns.BindingIdentifier b) = refl
+no_pattern_string (binding_patterns.ObjectPattern b) = refl
+no_pattern_string (binding_patterns.ArrayPattern b) = refl
+no_pattern_string (binding_patterns.AssignmentPattern b) = refl
 
 pub no_string_statement : (n : Statement Node) → IsNot n statements.Declaration → IsNot n statements.ExpressionStatement → None ≡ string_statement (statement_plain node_plain n)
 no_string_statement (statements.Declaration b) no_declaration no_expression = absurd (no_declaration b refl)

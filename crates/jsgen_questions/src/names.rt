@@ -88,6 +88,11 @@ pub fn is_binding_name(node: &Node) -> bool
             _ => false,
         },
         Node::Declaration(_) => false,
-        Node::BindingPattern(BindingPattern::BindingIdentifier(_)) => true,
+        Node::BindingPattern(pattern) => match pattern {
+            BindingPattern::BindingIdentifier(_) => true,
+            BindingPattern::ObjectPattern(_) => false,
+            BindingPattern::ArrayPattern(_) => false,
+            BindingPattern::AssignmentPattern(_) => false,
+        },
     }
 }

@@ -27,7 +27,7 @@ use Rattle.jsgen_model.specs.Plain.{IsPlain, is_plain_row, has_plain_flags, is_n
 use Rattle.jsgen_model.specs.Normal.{or_none, directive_units}
 use Rattle.jsgen_tree.specs.declared.functions.FunctionKind.{FunctionKind}
 use Rattle.jsgen_tree.specs.declared.functions.FunctionKind.TheVariants as kinds
-use Rattle.jsgen_model.specs.Valid.{Surroundings, ChildPlace, takes_super, is_super, may_stand, breaches, in_maybe, in_trees, fault_if, fits_kind, set_faults, span_faults, body_faults, is_in_tables, name_faults, directive_faults, written_name_faults, number_faults, big_integer_faults, is_literal_key, may_be_key, key_faults, method_faults, shorthand_faults, takes_optional_link, link_faults, super_faults, is_one_name, is_lexical_word, label_faults, try_faults, stands_among, same_kind, function_faults, fits_method, declaration_faults}
+use Rattle.jsgen_model.specs.Valid.{Surroundings, ChildPlace, is_super, is_default, has_place, may_stand, breaches, in_maybe, in_trees, fault_if, fits_kind, set_faults, span_faults, body_faults, is_in_tables, name_faults, directive_faults, written_name_faults, number_faults, big_integer_faults, is_literal_key, may_be_key, key_faults, method_faults, shorthand_faults, takes_optional_link, link_faults, super_faults, is_one_name, is_lexical_word, label_faults, try_faults, stands_among, same_kind, function_faults, fits_method, declaration_faults}
 use Rattle.jsgen_reading_laws.proofs.Families.{has_value, IsLink, IsExpression, IsChain, IsChainBase, IsKey, IsRest, IsBinding, AreDeclarators, IsStatement, IsLeft, IsLabel, AreEndsOfTry, IsHandler, IsBlock, IsItem, AreDirectives, HasName, IsSynchronous, IsProperty}
 use Rattle.jsgen_reading_laws.proofs.Families as family
 
@@ -73,11 +73,11 @@ standing around s t others e = let h = none_three (set_faults s t) (breaches aro
 
 -- and so is of the set that its field asks for
 pub placed : (around : Surroundings) (s : NodeSet) (t : Tree) (others : List TreeFault) → (set_faults s t ++ breaches around t) ++ others ≡ [] → (in_set s (type_of t) ≡ true) × (breaches around t ≡ []) × (others ≡ [])
-placed around s t others e = let h = standing around s t others e in ((and_parts (in_set s (type_of t)) (takes_super s || not (is_super (type_of t))) h.0.0).0, h.1, h.2)
+placed around s t others e = let h = standing around s t others e in ((and_parts (in_set s (type_of t)) (has_place s (type_of t)) h.0.0).0, h.1, h.2)
 
 -- a statement, or a function that is declared
 pub placed_statement : (around : Surroundings) (t : Tree) (others : List TreeFault) → (set_faults sets.Statement t ++ breaches around t) ++ others ≡ [] → ((is_statement (type_of t) ≡ true) × (fits_kind sets.Statement t ≡ true)) × (breaches around t ≡ []) × (others ≡ [])
-placed_statement around t others e = let h = standing around sets.Statement t others e in (((and_parts (is_statement (type_of t)) (false || not (is_super (type_of t))) h.0.0).0, h.0.2), h.1, h.2)
+placed_statement around t others e = let h = standing around sets.Statement t others e in (((and_parts (is_statement (type_of t)) (has_place sets.Expression (type_of t)) h.0.0).0, h.0.2), h.1, h.2)
 
 abbrev pub place_of : NodeSet → Surroundings → ChildPlace
 place_of s around = record { set = s; around = around }
@@ -122,7 +122,7 @@ expression_type t p s n = by (is_expression (type_of t)) refl
 
 -- and so it is no `super`, which no argument is
 pub argument_stands : (t : Tree) → is_plain_row t ≡ true → StandsAt sets.Argument t → is_spread t ≡ false → StandsAt sets.Expression t
-argument_stands t p s n = let h = and_parts (is_argument (type_of t)) (false || not (is_super (type_of t))) s.0 in (and_from (is_expression (type_of t)) (false || not (is_super (type_of t))) (expression_type t p h.0 n) h.1, s.1, fits_expression sets.Argument t refl s.2)
+argument_stands t p s n = let h = and_parts (is_argument (type_of t)) (has_place sets.Expression (type_of t)) s.0 in (and_from (is_expression (type_of t)) (has_place sets.Expression (type_of t)) (expression_type t p h.0 n) h.1, s.1, fits_expression sets.Argument t refl s.2)
 
 -- what stands behind an arrow is an expression, or a body in braces
 pub arrow_body_stands : (t : Tree) → is_function_body (type_of t) ≡ false → StandsAt sets.ArrowFunctionBody t → StandsAt sets.Expression t
@@ -155,7 +155,9 @@ link_valid c t p s n f = family.an_operand (f (s.0, n, fits_expression sets.Link
 
 -- what an optional link goes on from is no `super`
 pub base_stands : (t : Tree) → StandsAt sets.Link t → super_faults true t ≡ [] → has_optional_link t ≡ false → StandsAt sets.Expression t
-base_stands t s e n = (and_from (is_expression (type_of t)) (false || not (is_super (type_of t))) (and_parts (is_expression (type_of t)) true s.0).0 (ap not (none_if (is_super (type_of t)) (faults.Place (span_of t).start) e)), n, fits_expression sets.Link t refl s.2)
+base_stands t s e n =
+    let h = and_parts (is_expression (type_of t)) (has_place sets.Link (type_of t)) s.0 in
+    (and_from (is_expression (type_of t)) (has_place sets.Expression (type_of t)) h.0 (and_from (false || not (is_super (type_of t))) (false || not (is_default (type_of t))) (ap not (none_if (is_super (type_of t)) (faults.Place (span_of t).start) e)) h.1), n, fits_expression sets.Link t refl s.2)
 
 pub base_valid : {names : Tables} (c : Allowed) (t : Tree) → StandsAt sets.Link t → super_faults true t ≡ [] → (has_optional_link t ≡ true → IsChain names c t) → (StandsAt sets.Expression t → IsExpression names c t) → IsChainBase names c t
 base_valid {names} c t s e f g = by (has_optional_link t) refl
@@ -184,7 +186,7 @@ property_faults tables a x v b = key_faults (object_property_computed a) x ++ re
 
 -- a key that is an expression is no `super`
 pub key_stands : (t : Tree) → is_expression (type_of t) ≡ true → StandsAt sets.PropertyKey t → StandsAt sets.Expression t
-key_stands t s m = (and_from (is_expression (type_of t)) (false || not (is_super (type_of t))) s (and_parts (in_set sets.PropertyKey (type_of t)) (false || not (is_super (type_of t))) m.0).1, m.1, fits_expression sets.PropertyKey t refl m.2)
+key_stands t s m = (and_from (is_expression (type_of t)) (has_place sets.Expression (type_of t)) s (and_parts (in_set sets.PropertyKey (type_of t)) (has_place sets.Expression (type_of t)) m.0).1, m.1, fits_expression sets.PropertyKey t refl m.2)
 
 pub big_valued : (around : Surroundings) (a : Atoms) → breaches around (tree.big_int_literal a) ≡ [] → is_big_integer (big_int_literal_value a) ≡ true
 big_valued around a e = none_unless (is_big_integer (big_int_literal_value a)) (faults.Literal a.span.start) (parts (span_faults around a.span) (big_integer_faults a.span (big_int_literal_value a)) [] e).0
@@ -234,13 +236,13 @@ rest_valid c around absent p e = family.no_rest
 rest_valid c around (given t) p e =
     let h = none_both (set_faults sets.FormalParameterRest t) (breaches around t) e in
     let s = stands_at sets.FormalParameterRest t h.0 in
-    rest_parameter_valid c around t p (and_parts (is_formal_parameter_rest (type_of t)) (false || not (is_super (type_of t))) s.0).0 h.1
+    rest_parameter_valid c around t p (and_parts (is_formal_parameter_rest (type_of t)) (has_place sets.Expression (type_of t)) s.0).0 h.1
 
 -- a child that is there, and is of the set that its field asks for
 pub placed_if_given : (around : Surroundings) (s : NodeSet) (t : Tree) → set_faults s t ++ breaches around t ≡ [] → (in_set s (type_of t) ≡ true) × (breaches around t ≡ [])
 placed_if_given around s t e =
     let h = none_both (set_faults s t) (breaches around t) e in
-    ((and_parts (in_set s (type_of t)) (takes_super s || not (is_super (type_of t))) (stands_at s t h.0).0).0, h.1)
+    ((and_parts (in_set s (type_of t)) (has_place s (type_of t)) (stands_at s t h.0).0).0, h.1)
 
 -- ---- directives
 
@@ -385,12 +387,12 @@ none_first t p s n e = search (no_truth, no_falsehood, no_truth_behind)
 
 pub init_stands : (t : Tree) → is_plain_row t ≡ true → StandsAt sets.ForStatementInit t → is_declaration t ≡ false → StandsAt sets.Expression t
 init_stands t p s n =
-    let h = and_parts (is_for_statement_init (type_of t)) (false || not (is_super (type_of t))) s.0 in
-    (and_from (is_expression (type_of t)) (false || not (is_super (type_of t))) (by (is_expression (type_of t)) refl) h.1, s.1, fits_expression sets.ForStatementInit t refl s.2)
+    let h = and_parts (is_for_statement_init (type_of t)) (has_place sets.Expression (type_of t)) s.0 in
+    (and_from (is_expression (type_of t)) (has_place sets.Expression (type_of t)) (by (is_expression (type_of t)) refl) h.1, s.1, fits_expression sets.ForStatementInit t refl s.2)
   where
     by : (b : Bool) → is_expression (type_of t) ≡ b → b ≡ true
     by true e = refl
-    by false e = absurd (none_first t p (and_parts (is_for_statement_init (type_of t)) (false || not (is_super (type_of t))) s.0).0 n e)
+    by false e = absurd (none_first t p (and_parts (is_for_statement_init (type_of t)) (has_place sets.Expression (type_of t)) s.0).0 n e)
 
 -- and what a loop gives its values is a target
 pub none_left : (t : Tree) → is_plain_row t ≡ true → is_for_statement_left (type_of t) ≡ true → is_declaration t ≡ false → is_simple_assignment_target (type_of t) ≡ false → ⊥

@@ -14,7 +14,7 @@ use Rattle.jsgen_model.specs.declared.fault.TreeFault.TheVariants as faults
 use Rattle.jsgen_model.specs.Grammar.{Allowed, in_module, in_arrow_body, in_function}
 use Rattle.jsgen_model.specs.Plain.{IsPlain, is_plain_row, has_plain_flags, is_module, has_no_hole}
 use Rattle.jsgen_tree.specs.declared.functions.FunctionKind.TheVariants as kinds
-use Rattle.jsgen_model.specs.Valid.{Surroundings, ChildPlace, breaches, in_maybe, in_trees, fits_kind, set_faults, span_faults, own_faults, body_faults, name_faults, number_faults, declaration_faults, key_faults, sequence_faults, super_faults, chain_faults, target_faults, is_one_name, left_faults, defaults, switch_faults, try_faults, function_faults, return_faults}
+use Rattle.jsgen_model.specs.Valid.{Surroundings, ChildPlace, breaches, in_maybe, in_trees, fits_kind, set_faults, span_faults, own_faults, body_faults, name_faults, number_faults, declaration_faults, key_faults, sequence_faults, super_faults, chain_faults, target_faults, is_one_name, left_faults, init_faults, defaults, switch_faults, try_faults, function_faults, return_faults}
 use Rattle.jsgen_reading_laws.proofs.Families.{IsExpression, AreParts, IsChain, AreProperties, IsKey, AreArguments, AreElements, IsParameters, AreParameters, IsParameter, IsValue, IsDeclarator, AreDeclarators, IsStatement, IsInit, IsLeft, AreCases, AreEndsOfTry, IsHandler, IsBlock, IsItem, AreStatements, IsProgram, IsBody}
 use Rattle.jsgen_reading_laws.proofs.Families as family
 use Rattle.jsgen_reading_laws.proofs.Faultless.{none_both, none_if, none_unless, parts, stands_at, standing, placed, placed_statement, no_truth, no_truth_behind, unset, member_valid, argument_stands, arrow_body_stands, target_stands, target_fits, target_is_simple, link_valid, base_valid, none_in_object, key_stands, big_valued, number_valued, key_valid, link_kind, free_since, binding_valid, rest_valid, placed_if_given, directives_valid, kind_is, bodiless, init_stands, left_is_simple, name_valid, label_valid, jump_valid, variables_are, body_valid, one_less, none_left_out, none_case, ends_of_try, StandsAt, place_of, rest_of_property, property_faults, Returns, most, HandlerIfGiven, FinalizerIfGiven, function_parts, braces_parts, within_function, property_since, variables_parts, unset}
@@ -282,14 +282,15 @@ mutual
       let i = placed_statement around v [] j.2 in
       family.a_statement (family.an_if_with_else (expression_valid c around t p.1.0 k.0 k.1) (body_valid u b.0 (item_valid c around returns u p.1.1.0 j.0.0 j.0.1 j.1)) (body_valid v b.1 (item_valid c around returns v p.1.1.1.0 i.0.0 i.0.1 i.1)))
   item_valid c around returns (tree.for_statement a init test update_child u) p s fits e =
-      let h = parts (span_faults around a.span) (body_faults u) _ e in
+      let h = parts (span_faults around a.span) (init_faults init ++ body_faults u) _ e in
+      let f = none_both (init_faults init) (body_faults u) h.0 in
       let last : List ChildPlace = place_of sets.Statement around ∷ [] in
       let behind : List ChildPlace = place_of sets.Expression around ∷ last in
       let i = none_both (in_maybe around (place_of sets.ForStatementInit around ∷ place_of sets.Expression around ∷ behind) init) _ h.1 in
       let j = none_both (in_maybe around (place_of sets.Expression around ∷ behind) test) _ i.1 in
       let k = none_both (in_maybe around (place_of sets.Expression around ∷ last) update_child) _ j.1 in
       let b = placed_statement around u [] k.1 in
-      family.a_statement (family.a_for (init_valid c around (place_of sets.Expression around ∷ behind) init p.1.0 i.0) (value_valid c around behind test p.1.1.0 j.0) (value_valid c around last update_child p.1.1.1.0 k.0) (body_valid u h.0 (item_valid c around returns u p.1.1.1.1.0 b.0.0 b.0.1 b.1)))
+      family.a_statement (family.a_for (init_valid c around (place_of sets.Expression around ∷ behind) init p.1.0 i.0) (value_valid c around behind test p.1.1.0 j.0) (value_valid c around last update_child p.1.1.1.0 k.0) (body_valid u f.1 (item_valid c around returns u p.1.1.1.1.0 b.0.0 b.0.1 b.1)))
   item_valid c around returns (tree.for_in_statement a l x u) p s fits e =
       let h = parts (span_faults around a.span) (left_faults l ++ body_faults u) _ e in
       let b = none_both (left_faults l) (body_faults u) h.0 in

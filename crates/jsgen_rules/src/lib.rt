@@ -3,7 +3,7 @@
 
 ghost use Rattle.std.specs.Prelude.{◌≡◌, not, ◌&&◌};
 ghost use Rattle.std.specs.Str.{chars};
-ghost use Rattle.jsgen_model.specs.Valid.{directive_faults, raw_number_faults, big_integer_faults, fault_if, is_super, takes_super, may_stand, takes_optional_link};
+ghost use Rattle.jsgen_model.specs.Valid.{directive_faults, raw_number_faults, big_integer_faults, fault_if, is_super, takes_super, is_default, takes_default, has_place, may_stand, is_binding_name, is_among_statements, takes_optional_link};
 ghost use Rattle.jsgen_model.specs.declared.fault.TreeFault.TheVariants as faults;
 ghost use Rattle.jsgen_rules.specs.Verdict.{verdict};
 
@@ -69,10 +69,43 @@ fn takes_super(set: NodeSet) -> bool
     matches!(&set, NodeSet::Link)
 }
 
+fn is_default(node_type: NodeType) -> bool
+    ensures { result ≡ is_default node_type }
+{
+    matches!(&node_type, NodeType::AssignmentPattern)
+}
+
+fn takes_default(set: NodeSet) -> bool
+    ensures { result ≡ takes_default set }
+{
+    matches!(&set, NodeSet::BindingElement)
+}
+
+// Of `super` and defaults a node is neither, or the place takes it.
+fn has_place(node_type: NodeType, set: NodeSet) -> bool
+    ensures { result ≡ has_place set node_type }
+{
+    (takes_super(set) || !is_super(node_type)) && (takes_default(set) || !is_default(node_type))
+}
+
 fn may_stand(node_type: NodeType, set: NodeSet) -> bool
     ensures { result ≡ may_stand set node_type }
 {
-    node_type.is_in(set) && (takes_super(set) || !is_super(node_type))
+    node_type.is_in(set) && has_place(node_type, set)
+}
+
+/// Whether nodes of this type are names that are bound.
+pub fn is_binding_name(node_type: NodeType) -> bool
+    ensures { result ≡ is_binding_name node_type }
+{
+    matches!(&node_type, NodeType::BindingIdentifier)
+}
+
+/// Whether a place that asks for this set stands among statements.
+pub fn is_among_statements(set: NodeSet) -> bool
+    ensures { result ≡ is_among_statements set }
+{
+    matches!(&set, NodeSet::Statement)
 }
 
 /// Whether links of which one is optional may stand at a place that asks for this set, or its row has a rule for them.
@@ -99,8 +132,8 @@ pub fn check_no_optional_link(has_optional_link: bool, start: u32) -> Result<(),
     Ok(())
 }
 
-/// A child is of the set that its field asks for, `super` stands only where a link follows it, and a function is of the kind that
-/// the place takes.
+/// A child is of the set that its field asks for, `super` stands only where a link follows it, a default only in a pattern, and a
+/// function or a declaration is of the kind that the place takes.
 pub fn check_set(
     node_type: NodeType,
     set: NodeSet,

@@ -42,6 +42,10 @@ use Rattle.jsgen_tree.specs.declared.loops.ReturnStatement.{ReturnStatement}
 use Rattle.jsgen_tree.specs.declared.choices.SwitchCase.{SwitchCase}
 use Rattle.jsgen_tree.specs.declared.choices.TryStatement.{TryStatement}
 use Rattle.jsgen_tree.specs.declared.choices.CatchClause.{CatchClause}
+use Rattle.jsgen_tree.specs.declared.patterns.ObjectPattern.{ObjectPattern}
+use Rattle.jsgen_tree.specs.declared.patterns.BindingProperty.{BindingProperty}
+use Rattle.jsgen_tree.specs.declared.patterns.BindingRestElement.{BindingRestElement}
+use Rattle.jsgen_tree.specs.declared.patterns.ArrayPattern.{ArrayPattern}
 use Rattle.jsgen_tree.specs.declared.sets.Argument.TheVariants as arguments
 use Rattle.jsgen_tree.specs.declared.sets.ArrayExpressionElement.TheVariants as array_expression_elements
 use Rattle.jsgen_tree.specs.declared.sets.ChainElement.TheVariants as chain_elements
@@ -176,3 +180,12 @@ catch_clause_by_param P none some n = elim n.param as (λ o. P (record n { param
 
 pub boxed_catch_clause_by_param : {N : Type 0} (P : Box (CatchClause N) Global → Type 0) → ((n : Box (CatchClause N) Global) → P (record n { value = record n.value { param = None } })) → ((c : BindingPatternNode N) (n : Box (CatchClause N) Global) → P (record n { value = record n.value { param = Some c } })) → (n : Box (CatchClause N) Global) → P n
 boxed_catch_clause_by_param P none some n = elim n.value.param as (λ o. P (record n { value = record n.value { param = o } })) [ None ↦ none n | Some c ↦ some c n ]
+
+pub object_pattern_by_rest : {N : Type 0} (P : ObjectPattern N → Type 0) → ((n : ObjectPattern N) → P (record n { rest = None })) → ((c : Box (BindingRestElement N) Global) (n : ObjectPattern N) → P (record n { rest = Some c })) → (n : ObjectPattern N) → P n
+object_pattern_by_rest P none some n = elim n.rest as (λ o. P (record n { rest = o })) [ None ↦ none n | Some c ↦ some c n ]
+
+pub binding_property_by_key : {N : Type 0} (P : BindingProperty N → Type 0) → ((b : Box IdentifierName Global) (n : BindingProperty N) → P (record n { key = (property_keys.IdentifierName b) })) → ((b : Box (ExpressionNode N) Global) (n : BindingProperty N) → P (record n { key = (property_keys.Expression b) })) → (n : BindingProperty N) → P n
+binding_property_by_key P of_identifier_name of_expression n = elim n.key as (λ o. P (record n { key = o })) [ property_keys.IdentifierName b ↦ of_identifier_name b n | property_keys.Expression b ↦ of_expression b n ]
+
+pub array_pattern_by_rest : {N : Type 0} (P : ArrayPattern N → Type 0) → ((n : ArrayPattern N) → P (record n { rest = None })) → ((c : Box (BindingRestElement N) Global) (n : ArrayPattern N) → P (record n { rest = Some c })) → (n : ArrayPattern N) → P n
+array_pattern_by_rest P none some n = elim n.rest as (λ o. P (record n { rest = o })) [ None ↦ none n | Some c ↦ some c n ]

@@ -1,7 +1,7 @@
 -- Generated from tools/nodes/table.txt; edit that and run tools/nodes/generate.
 -- The plain data of the recursive type is, set by set, that of what it holds.
 use Rattle.std.proofs.Common.{◌≡◌, refl, sym, ap, ◌∙◌}
-use Rattle.jsgen_tree.proofs.Cases.{with_argument, with_array_expression_element, with_object_property_kind, variable_declarator_by_init, if_statement_by_alternate, chain_expression_by_expression, boxed_object_property_by_key, update_expression_by_argument, assignment_expression_by_left, formal_parameter_by_initializer, boxed_formal_parameters_by_rest, function_by_params, function_by_body, arrow_function_expression_by_params, arrow_function_expression_by_body, for_statement_by_init, for_statement_by_test, for_statement_by_update, for_in_statement_by_left, for_of_statement_by_left, return_statement_by_argument, switch_case_by_test, try_statement_by_handler, try_statement_by_finalizer, boxed_catch_clause_by_param}
+use Rattle.jsgen_tree.proofs.Cases.{with_argument, with_array_expression_element, with_object_property_kind, variable_declarator_by_init, if_statement_by_alternate, chain_expression_by_expression, boxed_object_property_by_key, update_expression_by_argument, assignment_expression_by_left, formal_parameter_by_initializer, boxed_formal_parameters_by_rest, function_by_params, function_by_body, arrow_function_expression_by_params, arrow_function_expression_by_body, for_statement_by_init, for_statement_by_test, for_statement_by_update, for_in_statement_by_left, for_of_statement_by_left, return_statement_by_argument, switch_case_by_test, try_statement_by_handler, try_statement_by_finalizer, boxed_catch_clause_by_param, object_pattern_by_rest, binding_property_by_key, array_pattern_by_rest}
 use Rattle.jsgen_tree.specs.Plain.{node_plain, layer}
 use Rattle.jsgen_tree.specs.Spans.{expression_span, declaration_span, statement_span, binding_pattern_span}
 use Rattle.jsgen_tree.specs.Tree.{Tree, given, trees, holed, span_of}
@@ -80,6 +80,12 @@ natural_statement h (statements.DebuggerStatement b) = refl
 natural_statement h (statements.SwitchStatement b) = same_slots (same_one refl (same_many (ap trees (map_after _ _ _ (switch_case_by_test _ (λ n. same_slots (same_maybe refl (same_many (ap trees (map_after _ _ _ (λ n. refl) n.consequent.items)) refl))) (λ n_test. (λ n. same_slots (same_maybe refl (same_many (ap trees (map_after _ _ _ (λ n. refl) n.consequent.items)) refl))))) b.value.cases.items)) refl))
 natural_statement h (statements.TryStatement b) = (try_statement_by_handler (λ n. layer (map-Node Node Tree h (opened.Statement (statements.TryStatement (record b { value = n })))) ≡ statement_plain h (statements.TryStatement (record b { value = n }))) (try_statement_by_finalizer _ (λ n. same_slots (same_one (same_slots (same_many (ap trees (map_after _ _ _ (λ n. refl) n.block.value.body.items)) refl)) (same_maybe refl (same_maybe refl refl)))) (λ n_finalizer. (λ n. same_slots (same_one (same_slots (same_many (ap trees (map_after _ _ _ (λ n. refl) n.block.value.body.items)) refl)) (same_maybe refl (same_maybe (ap (λ t. given t) (same_slots (same_many (ap trees (map_after _ _ _ (λ n. refl) n_finalizer.value.body.items)) refl))) refl)))))) (boxed_catch_clause_by_param _ (λ n_handler. (try_statement_by_finalizer _ (λ n. same_slots (same_one (same_slots (same_many (ap trees (map_after _ _ _ (λ n. refl) n.block.value.body.items)) refl)) (same_maybe (ap (λ t. given t) (same_slots (same_maybe refl (same_one (same_slots (same_many (ap trees (map_after _ _ _ (λ n. refl) n_handler.value.body.value.body.items)) refl)) refl)))) (same_maybe refl refl)))) (λ n_finalizer. (λ n. same_slots (same_one (same_slots (same_many (ap trees (map_after _ _ _ (λ n. refl) n.block.value.body.items)) refl)) (same_maybe (ap (λ t. given t) (same_slots (same_maybe refl (same_one (same_slots (same_many (ap trees (map_after _ _ _ (λ n. refl) n_handler.value.body.value.body.items)) refl)) refl)))) (same_maybe (ap (λ t. given t) (same_slots (same_many (ap trees (map_after _ _ _ (λ n. refl) n_finalizer.value.body.items)) refl))) refl))))))) (λ n_handler_param. (λ n_handler. (try_statement_by_finalizer _ (λ n. same_slots (same_one (same_slots (same_many (ap trees (map_after _ _ _ (λ n. refl) n.block.value.body.items)) refl)) (same_maybe (ap (λ t. given t) (same_slots (same_maybe refl (same_one (same_slots (same_many (ap trees (map_after _ _ _ (λ n. refl) n_handler.value.body.value.body.items)) refl)) refl)))) (same_maybe refl refl)))) (λ n_finalizer. (λ n. same_slots (same_one (same_slots (same_many (ap trees (map_after _ _ _ (λ n. refl) n.block.value.body.items)) refl)) (same_maybe (ap (λ t. given t) (same_slots (same_maybe refl (same_one (same_slots (same_many (ap trees (map_after _ _ _ (λ n. refl) n_handler.value.body.value.body.items)) refl)) refl)))) (same_maybe (ap (λ t. given t) (same_slots (same_many (ap trees (map_after _ _ _ (λ n. refl) n_finalizer.value.body.items)) refl))) refl)))))))))) b.value
 
+natural_binding_pattern : (h : Node → Tree) (n : BindingPattern Node) → layer (map-Node Node Tree h (opened.BindingPattern n)) ≡ binding_pattern_plain h n
+natural_binding_pattern h (binding_patterns.BindingIdentifier b) = refl
+natural_binding_pattern h (binding_patterns.ObjectPattern b) = (object_pattern_by_rest (λ n. layer (map-Node Node Tree h (opened.BindingPattern (binding_patterns.ObjectPattern (record b { value = n })))) ≡ binding_pattern_plain h (binding_patterns.ObjectPattern (record b { value = n }))) (λ n. same_slots (same_many (ap trees (map_after _ _ _ (binding_property_by_key _ (λ n_key. (λ n. refl)) (λ n_key. (λ n. refl))) n.properties.items)) (same_maybe refl refl))) (λ n_rest. (λ n. same_slots (same_many (ap trees (map_after _ _ _ (binding_property_by_key _ (λ n_key. (λ n. refl)) (λ n_key. (λ n. refl))) n.properties.items)) (same_maybe refl refl))))) b.value
+natural_binding_pattern h (binding_patterns.ArrayPattern b) = (array_pattern_by_rest (λ n. layer (map-Node Node Tree h (opened.BindingPattern (binding_patterns.ArrayPattern (record b { value = n })))) ≡ binding_pattern_plain h (binding_patterns.ArrayPattern (record b { value = n }))) (λ n. same_slots (same_many (ap holed (map_after _ _ _ (with_hole _ refl (λ n. refl)) n.elements.items)) (same_maybe refl refl))) (λ n_rest. (λ n. same_slots (same_many (ap holed (map_after _ _ _ (with_hole _ refl (λ n. refl)) n.elements.items)) (same_maybe refl refl))))) b.value
+natural_binding_pattern h (binding_patterns.AssignmentPattern b) = refl
+
 pub plain_expression : (n : Expression Node) → node_plain (nodes.Expression n) ≡ expression_plain node_plain n
 plain_expression n = plain_out (nodes.Expression n) ∙ ap (λ o. layer (map-Node Node Tree node_plain o)) (outs-Expression n) ∙ natural_expression node_plain n
 
@@ -89,8 +95,8 @@ plain_declaration n = plain_out (nodes.Declaration n) ∙ ap (λ o. layer (map-N
 pub plain_statement : (n : Statement Node) → node_plain (nodes.Statement n) ≡ statement_plain node_plain n
 plain_statement n = plain_out (nodes.Statement n) ∙ ap (λ o. layer (map-Node Node Tree node_plain o)) (outs-Statement n) ∙ natural_statement node_plain n
 
-pub plain_binding_pattern : (n : BindingPattern) → node_plain (nodes.BindingPattern n) ≡ binding_pattern_plain n
-plain_binding_pattern n = plain_out (nodes.BindingPattern n) ∙ ap (λ o. layer (map-Node Node Tree node_plain o)) (outs-BindingPattern n)
+pub plain_binding_pattern : (n : BindingPattern Node) → node_plain (nodes.BindingPattern n) ≡ binding_pattern_plain node_plain n
+plain_binding_pattern n = plain_out (nodes.BindingPattern n) ∙ ap (λ o. layer (map-Node Node Tree node_plain o)) (outs-BindingPattern n) ∙ natural_binding_pattern node_plain n
 
 -- ---- spans
 
@@ -157,8 +163,11 @@ of_statement h (statements.TryStatement b) = refl
 pub statement_spans : (n : Statement Node) → statement_span (λ n. span_of (node_plain n)) n ≡ span_of (node_plain (nodes.Statement n))
 statement_spans n = of_statement node_plain n ∙ ap span_of (sym (plain_statement n))
 
-of_binding_pattern : (h : Node → Tree) (n : BindingPattern) → binding_pattern_span n ≡ span_of (binding_pattern_plain n)
+of_binding_pattern : (h : Node → Tree) (n : BindingPattern Node) → binding_pattern_span n ≡ span_of (binding_pattern_plain h n)
 of_binding_pattern h (binding_patterns.BindingIdentifier b) = refl
+of_binding_pattern h (binding_patterns.ObjectPattern b) = refl
+of_binding_pattern h (binding_patterns.ArrayPattern b) = refl
+of_binding_pattern h (binding_patterns.AssignmentPattern b) = refl
 
-pub binding_pattern_spans : (n : BindingPattern) → binding_pattern_span n ≡ span_of (node_plain (nodes.BindingPattern n))
+pub binding_pattern_spans : (n : BindingPattern Node) → binding_pattern_span n ≡ span_of (node_plain (nodes.BindingPattern n))
 binding_pattern_spans n = of_binding_pattern node_plain n ∙ ap span_of (sym (plain_binding_pattern n))

@@ -20,8 +20,11 @@ of_declaration h (declarations.Function b) = refl
 pub declaration_is_none : (n : Declaration Node) → is_only_expression (type_of (node_plain (nodes.Declaration n))) ≡ false
 declaration_is_none n = ap (λ t. is_only_expression (type_of t)) (plain_declaration n) ∙ of_declaration node_plain n
 
-of_binding_pattern : (h : Node → Tree) (n : BindingPattern) → is_only_expression (type_of (binding_pattern_plain n)) ≡ false
+of_binding_pattern : (h : Node → Tree) (n : BindingPattern Node) → is_only_expression (type_of (binding_pattern_plain h n)) ≡ false
 of_binding_pattern h (binding_patterns.BindingIdentifier b) = refl
+of_binding_pattern h (binding_patterns.ObjectPattern b) = refl
+of_binding_pattern h (binding_patterns.ArrayPattern b) = refl
+of_binding_pattern h (binding_patterns.AssignmentPattern b) = refl
 
-pub binding_pattern_is_none : (n : BindingPattern) → is_only_expression (type_of (node_plain (nodes.BindingPattern n))) ≡ false
+pub binding_pattern_is_none : (n : BindingPattern Node) → is_only_expression (type_of (node_plain (nodes.BindingPattern n))) ≡ false
 binding_pattern_is_none n = ap (λ t. is_only_expression (type_of t)) (plain_binding_pattern n) ∙ of_binding_pattern node_plain n

@@ -2,7 +2,7 @@
 use Rattle.std.specs.Prelude.{◌≡◌, ◌==◌, ℕ, List, [], ◌∷◌, Bool, true, false, Option, Some, None, is_some, option_and_then, codes, if◌then◌else◌, ◌||◌}
 use Rattle.std.specs.Str.{bytes_eq}
 use Rattle.jsgen_tree.specs.Tree.{Tree, Atoms, absent, given, type_of}
-use Rattle.jsgen_tree.specs.Nodes.{parenthesized, if_statement, for_statement, for_in_statement, for_of_statement, while_statement, labeled_statement, variable_declaration, function, identifier_reference, identifier_name, numeric_literal, big_int_literal, static_member, computed_member, call}
+use Rattle.jsgen_tree.specs.Nodes.{parenthesized, if_statement, for_statement, for_in_statement, for_of_statement, while_statement, labeled_statement, variable_declaration, function, identifier_reference, identifier_name, numeric_literal, big_int_literal, static_member, computed_member, call, binding_identifier, assignment_pattern}
 use Rattle.jsgen_tree.specs.Named.{Named, looked_up, bound}
 use Rattle.jsgen_tree.specs.Values.{variable_declaration_kind, identifier_reference_name, identifier_reference_reference, binding_identifier_name, binding_identifier_symbol, identifier_name_name, numeric_literal_negative, big_int_literal_value, static_member_expression_optional, computed_member_expression_optional, call_expression_optional}
 use Rattle.jsgen_tree.specs.Sets.{is_expression}
@@ -12,6 +12,7 @@ use Rattle.jsgen_tree.specs.declared.collections.PropertyKind.TheVariants as pro
 use Rattle.jsgen_tree.specs.declared.types.NodeType.{NodeType}
 use Rattle.jsgen_tree.specs.declared.types.NodeType.TheVariants as types
 use Rattle.jsgen_tree.specs.declared.expressions.IdentifierReference.{IdentifierReference}
+use Rattle.jsgen_tree.specs.declared.statements.BindingIdentifier.{BindingIdentifier}
 use Rattle.jsgen_tree.specs.declared.statements.VariableDeclarationKind.{VariableDeclarationKind}
 
 -- a statement ends in an `if` without `else`: by itself, or by what it ends in
@@ -83,6 +84,16 @@ looked_up_in t = None
 -- the name of a reference, which its row holds
 abbrev pub named_by : IdentifierReference → Named
 named_by n = looked_up n.reference (characters n.name)
+
+-- the name that a pattern is, by itself or with a default (ECMA-262, 14.3.3)
+abbrev pub bound_in : Tree → Option Named
+bound_in (binding_identifier a) = Some (binding_named a)
+bound_in (assignment_pattern a left right) = bound_in left
+bound_in t = None
+
+-- the name of a binding, which its row holds
+abbrev pub bound_by : BindingIdentifier → Named
+bound_by n = bound n.symbol (characters n.name)
 
 -- the name that stands there as it is written
 abbrev pub written_name_in : Tree → Option (List ℕ)

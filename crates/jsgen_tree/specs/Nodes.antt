@@ -185,3 +185,18 @@ try_statement a block_child handler finalizer = node types.TryStatement a (one b
 
 pattern abbrev pub catch_clause : Atoms → Maybe → Tree → Tree
 catch_clause a param body = node types.CatchClause a (maybe param (one body no_slots))
+
+pattern abbrev pub object_pattern : Atoms → Trees → Maybe → Tree
+object_pattern a properties rest = node types.ObjectPattern a (many properties (maybe rest no_slots))
+
+pattern abbrev pub binding_property : Atoms → Tree → Tree → Tree
+binding_property a key value = node types.BindingProperty a (one key (one value no_slots))
+
+pattern abbrev pub binding_rest_element : Atoms → Tree → Tree
+binding_rest_element a argument = node types.BindingRestElement a (one argument no_slots)
+
+pattern abbrev pub array_pattern : Atoms → Trees → Maybe → Tree
+array_pattern a elements rest = node types.ArrayPattern a (many elements (maybe rest no_slots))
+
+pattern abbrev pub assignment_pattern : Atoms → Tree → Tree → Tree
+assignment_pattern a left right = node types.AssignmentPattern a (one left (one right no_slots))

@@ -11,7 +11,7 @@ abbrev pub layer : Node-F Tree → Tree
 layer (layers.Expression b) = expression_plain (λ t. t) b
 layer (layers.Declaration b) = declaration_plain (λ t. t) b
 layer (layers.Statement b) = statement_plain (λ t. t) b
-layer (layers.BindingPattern b) = binding_pattern_plain b
+layer (layers.BindingPattern b) = binding_pattern_plain (λ t. t) b
 
 unfoldable pub node_plain : Node → Tree
 node_plain = fold-Node Tree layer

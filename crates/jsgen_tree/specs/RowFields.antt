@@ -187,3 +187,18 @@ try_statement_fields = fields types.TryStatement
 
 abbrev pub catch_clause_fields : List Field
 catch_clause_fields = fields types.CatchClause
+
+abbrev pub object_pattern_fields : List Field
+object_pattern_fields = fields types.ObjectPattern
+
+abbrev pub binding_property_fields : List Field
+binding_property_fields = fields types.BindingProperty
+
+abbrev pub binding_rest_element_fields : List Field
+binding_rest_element_fields = fields types.BindingRestElement
+
+abbrev pub array_pattern_fields : List Field
+array_pattern_fields = fields types.ArrayPattern
+
+abbrev pub assignment_pattern_fields : List Field
+assignment_pattern_fields = fields types.AssignmentPattern

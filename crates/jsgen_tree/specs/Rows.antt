@@ -5,7 +5,7 @@ use Rattle.jsgen_syntax.specs.Units.{js_units}
 use Rattle.jsgen_tree.specs.Characters.{characters, number_if_given, numeric_values}
 use Rattle.jsgen_tree.specs.Tree.{Tree, optional, trees, holed}
 use Rattle.jsgen_tree.specs.Atom.{no_value, text, units, number, flag, kind_of_comment, content_of_comment, source_kind, declaration_kind, binary_operator, logical_operator, property_kind, unary_operator, update_operator, assignment_operator, kind_of_function}
-use Rattle.jsgen_tree.specs.Nodes.{program, comment, directive, variable_declaration, variable_declarator, binding_identifier, expression_statement, block, if_statement, empty_statement, identifier_reference, this_expression, null_literal, boolean_literal, numeric_literal, big_int_literal, string_literal, reg_exp_literal, parenthesized, binary, logical, identifier_name, static_member, computed_member, call, chain, spread, array, object_property, object_expression, unary, new_target, update, new_expression, super, import_meta, conditional, sequence, assignment, formal_parameter, formal_parameter_rest, formal_parameters, function, function_body, arrow_function, for_statement, for_in_statement, for_of_statement, while_statement, do_while_statement, label_identifier, labeled_statement, continue_statement, break_statement, return_statement, throw_statement, debugger_statement, switch_statement, switch_case, try_statement, catch_clause}
+use Rattle.jsgen_tree.specs.Nodes.{program, comment, directive, variable_declaration, variable_declarator, binding_identifier, expression_statement, block, if_statement, empty_statement, identifier_reference, this_expression, null_literal, boolean_literal, numeric_literal, big_int_literal, string_literal, reg_exp_literal, parenthesized, binary, logical, identifier_name, static_member, computed_member, call, chain, spread, array, object_property, object_expression, unary, new_target, update, new_expression, super, import_meta, conditional, sequence, assignment, formal_parameter, formal_parameter_rest, formal_parameters, function, function_body, arrow_function, for_statement, for_in_statement, for_of_statement, while_statement, do_while_statement, label_identifier, labeled_statement, continue_statement, break_statement, return_statement, throw_statement, debugger_statement, switch_statement, switch_case, try_statement, catch_clause, object_pattern, binding_property, binding_rest_element, array_pattern, assignment_pattern}
 use Rattle.jsgen_tree.specs.declared.nodes.ExpressionNode.{ExpressionNode}
 use Rattle.jsgen_tree.specs.declared.nodes.DeclarationNode.{DeclarationNode}
 use Rattle.jsgen_tree.specs.declared.nodes.StatementNode.{StatementNode}
@@ -71,6 +71,11 @@ use Rattle.jsgen_tree.specs.declared.choices.SwitchStatement.{SwitchStatement}
 use Rattle.jsgen_tree.specs.declared.choices.SwitchCase.{SwitchCase}
 use Rattle.jsgen_tree.specs.declared.choices.TryStatement.{TryStatement}
 use Rattle.jsgen_tree.specs.declared.choices.CatchClause.{CatchClause}
+use Rattle.jsgen_tree.specs.declared.patterns.ObjectPattern.{ObjectPattern}
+use Rattle.jsgen_tree.specs.declared.patterns.BindingProperty.{BindingProperty}
+use Rattle.jsgen_tree.specs.declared.patterns.BindingRestElement.{BindingRestElement}
+use Rattle.jsgen_tree.specs.declared.patterns.ArrayPattern.{ArrayPattern}
+use Rattle.jsgen_tree.specs.declared.patterns.AssignmentPattern.{AssignmentPattern}
 use Rattle.jsgen_tree.specs.declared.sets.Expression.{Expression}
 use Rattle.jsgen_tree.specs.declared.sets.Argument.{Argument}
 use Rattle.jsgen_tree.specs.declared.sets.ArrayExpressionElement.{ArrayExpressionElement}
@@ -344,6 +349,21 @@ catch_clause_row plain n = catch_clause (record { span = n.span; values = [] }) 
 abbrev pub try_statement_row : {N : Type 0} → (N → Tree) → TryStatement N → Tree
 try_statement_row plain n = try_statement (record { span = n.span; values = [] }) (block_statement_row plain n.block.value) (optional (option_map (λ b. catch_clause_row plain b.value) n.handler)) (optional (option_map (λ b. block_statement_row plain b.value) n.finalizer))
 
+abbrev pub binding_property_row : {N : Type 0} → (N → Tree) → BindingProperty N → Tree
+binding_property_row plain n = binding_property (record { span = n.span; values = flag n.computed ∷ [] }) (in_property_key plain n.key) (in_binding_pattern plain n.value)
+
+abbrev pub binding_rest_element_row : {N : Type 0} → (N → Tree) → BindingRestElement N → Tree
+binding_rest_element_row plain n = binding_rest_element (record { span = n.span; values = [] }) (in_binding_pattern plain n.argument)
+
+abbrev pub object_pattern_row : {N : Type 0} → (N → Tree) → ObjectPattern N → Tree
+object_pattern_row plain n = object_pattern (record { span = n.span; values = [] }) (trees (map (binding_property_row plain) n.properties.items)) (optional (option_map (λ b. binding_rest_element_row plain b.value) n.rest))
+
+abbrev pub array_pattern_row : {N : Type 0} → (N → Tree) → ArrayPattern N → Tree
+array_pattern_row plain n = array_pattern (record { span = n.span; values = [] }) (holed (map (option_map (in_binding_pattern plain)) n.elements.items)) (optional (option_map (λ b. binding_rest_element_row plain b.value) n.rest))
+
+abbrev pub assignment_pattern_row : {N : Type 0} → (N → Tree) → AssignmentPattern N → Tree
+assignment_pattern_row plain n = assignment_pattern (record { span = n.span; values = [] }) (in_binding_pattern plain n.left) (in_expression plain n.right)
+
 -- ---- sets that nest
 
 abbrev pub expression_plain : {N : Type 0} → (N → Tree) → Expression N → Tree
@@ -400,5 +420,8 @@ statement_plain plain (statement.DebuggerStatement b) = debugger_statement_row b
 statement_plain plain (statement.SwitchStatement b) = switch_statement_row plain b.value
 statement_plain plain (statement.TryStatement b) = try_statement_row plain b.value
 
-abbrev pub binding_pattern_plain : BindingPattern → Tree
-binding_pattern_plain (binding_pattern.BindingIdentifier b) = binding_identifier_row b.value
+abbrev pub binding_pattern_plain : {N : Type 0} → (N → Tree) → BindingPattern N → Tree
+binding_pattern_plain plain (binding_pattern.BindingIdentifier b) = binding_identifier_row b.value
+binding_pattern_plain plain (binding_pattern.ObjectPattern b) = object_pattern_row plain b.value
+binding_pattern_plain plain (binding_pattern.ArrayPattern b) = array_pattern_row plain b.value
+binding_pattern_plain plain (binding_pattern.AssignmentPattern b) = assignment_pattern_row plain b.value

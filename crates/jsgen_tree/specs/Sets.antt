@@ -114,6 +114,9 @@ is_statement type = is_declaration type
 
 abbrev pub is_binding_pattern : NodeType → Bool
 is_binding_pattern types.BindingIdentifier = true
+is_binding_pattern types.ObjectPattern = true
+is_binding_pattern types.ArrayPattern = true
+is_binding_pattern types.AssignmentPattern = true
 is_binding_pattern type = false
 
 abbrev pub is_comment : NodeType → Bool
@@ -168,6 +171,14 @@ abbrev pub is_catch_clause : NodeType → Bool
 is_catch_clause types.CatchClause = true
 is_catch_clause type = false
 
+abbrev pub is_binding_property : NodeType → Bool
+is_binding_property types.BindingProperty = true
+is_binding_property type = false
+
+abbrev pub is_binding_rest_element : NodeType → Bool
+is_binding_rest_element types.BindingRestElement = true
+is_binding_rest_element type = false
+
 abbrev pub in_set : NodeSet → NodeType → Bool
 in_set sets.Comment t = is_comment t
 in_set sets.Directive t = is_directive t
@@ -195,4 +206,7 @@ in_set sets.LabelIdentifier t = is_label_identifier t
 in_set sets.SwitchCase t = is_switch_case t
 in_set sets.BlockStatement t = is_block_statement t
 in_set sets.CatchClause t = is_catch_clause t
+in_set sets.BindingProperty t = is_binding_property t
+in_set sets.BindingRestElement t = is_binding_rest_element t
 in_set sets.Link t = is_expression t
+in_set sets.BindingElement t = is_binding_pattern t

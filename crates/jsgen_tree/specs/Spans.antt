@@ -129,5 +129,8 @@ statement_span own (statement.DebuggerStatement b) = b.value.span
 statement_span own (statement.SwitchStatement b) = b.value.span
 statement_span own (statement.TryStatement b) = b.value.span
 
-abbrev pub binding_pattern_span : BindingPattern → Span
+abbrev pub binding_pattern_span : {N : Type 0} → BindingPattern N → Span
 binding_pattern_span (binding_pattern.BindingIdentifier b) = b.value.span
+binding_pattern_span (binding_pattern.ObjectPattern b) = b.value.span
+binding_pattern_span (binding_pattern.ArrayPattern b) = b.value.span
+binding_pattern_span (binding_pattern.AssignmentPattern b) = b.value.span

@@ -288,3 +288,6 @@ for_of_statement_is_await a = as_flag (value_at 0 a.values)
 
 abbrev pub label_identifier_name : Atoms → List ℕ
 label_identifier_name a = as_text (value_at 0 a.values)
+
+abbrev pub binding_property_computed : Atoms → Bool
+binding_property_computed a = as_flag (value_at 0 a.values)

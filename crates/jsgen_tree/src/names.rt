@@ -1,12 +1,13 @@
 // Which name a node is.
 ghost use Rattle.std.specs.Prelude.{◌≡◌, option_map};
 ghost use Rattle.std.specs.Str.{chars};
-ghost use Rattle.jsgen_tree.specs.Inside.{without_parentheses, reference_in, looked_up_in, named_by, written_name_in, is_proto};
+ghost use Rattle.jsgen_tree.specs.Inside.{without_parentheses, reference_in, looked_up_in, named_by, bound_in, bound_by, written_name_in, is_proto};
 ghost use Rattle.jsgen_tree.specs.Plain.{node_plain};
 
 use crate::expressions::IdentifierReference;
 use crate::nodes::Node;
-use crate::sets::{Expression, Statement};
+use crate::sets::{BindingPattern, Expression, Statement};
+use crate::statements::BindingIdentifier;
 
 /// Whether a property of this name sets the prototype, where it has a value (ECMA-262, 13.2.5.5).
 pub fn is_proto(name: &str) -> bool
@@ -33,6 +34,27 @@ impl Node {
         match self.inner_expression() {
             Some(Expression::IdentifierReference(node)) => Some(node),
             _ => None,
+        }
+    }
+
+    /// The name that a pattern is, by itself or with a default.
+    #[cycle(bound)]
+    pub fn bound(&self) -> Option<&BindingIdentifier>
+        ensures { option_map (λ n. bound_by n.now) result ≡ bound_in (node_plain self.now) }
+    {
+        match self {
+            Node::Expression(_) => None,
+            Node::Statement(statement) => match statement {
+                Statement::Declaration(node) => node.get().bound(),
+                _ => None,
+            },
+            Node::Declaration(_) => None,
+            Node::BindingPattern(pattern) => match pattern {
+                BindingPattern::BindingIdentifier(node) => Some(node),
+                BindingPattern::AssignmentPattern(node) => node.left.get().bound(),
+                BindingPattern::ObjectPattern(_) => None,
+                BindingPattern::ArrayPattern(_) => None,
+            },
         }
     }
 

@@ -221,10 +221,13 @@ impl Statement {
 impl BindingPattern {
     /// The type of the node.
     pub fn node_type(&self) -> NodeType
-        ensures { result ≡ type_of (binding_pattern_plain self.now) }
+        ensures { result ≡ type_of (binding_pattern_plain node_plain self.now) }
     {
         match self {
             BindingPattern::BindingIdentifier(_) => NodeType::BindingIdentifier,
+            BindingPattern::ObjectPattern(_) => NodeType::ObjectPattern,
+            BindingPattern::ArrayPattern(_) => NodeType::ArrayPattern,
+            BindingPattern::AssignmentPattern(_) => NodeType::AssignmentPattern,
         }
     }
 }

@@ -20,6 +20,7 @@ use crate::nodes::{DeclarationNode, ExpressionNode, Node};
 use crate::operations::{
     ImportMeta, NewExpression, NewTarget, Super, UnaryExpression, UpdateExpression,
 };
+use crate::patterns::{ArrayPattern, AssignmentPattern, ObjectPattern};
 use crate::statements::{
     BindingIdentifier, BlockStatement, EmptyStatement, ExpressionStatement, IfStatement,
     VariableDeclaration,
@@ -161,6 +162,9 @@ pub enum Statement<N = Node> {
 }
 
 #[derive(Drop)]
-pub enum BindingPattern {
+pub enum BindingPattern<N = Node> {
     BindingIdentifier(Box<BindingIdentifier>),
+    ObjectPattern(Box<ObjectPattern<N>>),
+    ArrayPattern(Box<ArrayPattern<N>>),
+    AssignmentPattern(Box<AssignmentPattern<N>>),
 }

@@ -27,6 +27,9 @@ use crate::nodes::Node;
 use crate::operations::{
     ImportMeta, NewExpression, NewTarget, Super, UnaryExpression, UpdateExpression,
 };
+use crate::patterns::{
+    ArrayPattern, AssignmentPattern, BindingProperty, BindingRestElement, ObjectPattern,
+};
 use crate::sets::{
     Argument, ArrayExpressionElement, ArrowFunctionBody, AssignmentTarget, BindingPattern,
     ChainElement, Declaration, Expression, ForStatementInit, ForStatementLeft, ObjectPropertyKind,
@@ -536,6 +539,46 @@ impl<N> GetSpan for CatchClause<N> {
     }
 }
 
+impl<N> GetSpan for ObjectPattern<N> {
+    ghost own_span = { λ n. n.span };
+
+    fn span(&self) -> Span {
+        self.span
+    }
+}
+
+impl<N> GetSpan for BindingProperty<N> {
+    ghost own_span = { λ n. n.span };
+
+    fn span(&self) -> Span {
+        self.span
+    }
+}
+
+impl<N> GetSpan for BindingRestElement<N> {
+    ghost own_span = { λ n. n.span };
+
+    fn span(&self) -> Span {
+        self.span
+    }
+}
+
+impl<N> GetSpan for ArrayPattern<N> {
+    ghost own_span = { λ n. n.span };
+
+    fn span(&self) -> Span {
+        self.span
+    }
+}
+
+impl<N> GetSpan for AssignmentPattern<N> {
+    ghost own_span = { λ n. n.span };
+
+    fn span(&self) -> Span {
+        self.span
+    }
+}
+
 impl<N> GetSpan for Expression<N> {
     ghost own_span = { λ n. expression_span n };
 
@@ -726,12 +769,15 @@ impl<N: GetSpan> GetSpan for Statement<N> {
     }
 }
 
-impl GetSpan for BindingPattern {
+impl<N> GetSpan for BindingPattern<N> {
     ghost own_span = { λ n. binding_pattern_span n };
 
     fn span(&self) -> Span {
         match self {
             BindingPattern::BindingIdentifier(node) => node.span,
+            BindingPattern::ObjectPattern(node) => node.span,
+            BindingPattern::ArrayPattern(node) => node.span,
+            BindingPattern::AssignmentPattern(node) => node.span,
         }
     }
 }

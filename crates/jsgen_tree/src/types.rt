@@ -1,7 +1,7 @@
 // Generated from tools/nodes/table.txt; edit that and run tools/nodes/generate.
 // The types of nodes, and the sets that a field's child may be of.
 ghost use Rattle.std.specs.Prelude.{◌≡◌};
-ghost use Rattle.jsgen_tree.specs.Sets.{in_set, is_expression, is_argument, is_array_expression_element, is_chain_element, is_simple_assignment_target, is_assignment_target, is_arrow_function_body, is_for_statement_init, is_for_statement_left, is_object_property_kind, is_property_key, is_declaration, is_statement};
+ghost use Rattle.jsgen_tree.specs.Sets.{in_set, is_expression, is_argument, is_array_expression_element, is_chain_element, is_simple_assignment_target, is_assignment_target, is_arrow_function_body, is_for_statement_init, is_for_statement_left, is_object_property_kind, is_property_key, is_declaration, is_statement, is_binding_pattern};
 
 /// The type of a node.
 #[derive(Clone, Copy, Debug, PartialEq, Eq)]
@@ -67,6 +67,11 @@ pub enum NodeType {
     SwitchCase,
     TryStatement,
     CatchClause,
+    ObjectPattern,
+    BindingProperty,
+    BindingRestElement,
+    ArrayPattern,
+    AssignmentPattern,
 }
 
 /// What the child of a field may be: a member of a set, or a node of one type.
@@ -98,7 +103,10 @@ pub enum NodeSet {
     SwitchCase,
     BlockStatement,
     CatchClause,
+    BindingProperty,
+    BindingRestElement,
     Link,
+    BindingElement,
 }
 
 impl NodeType {
@@ -111,7 +119,7 @@ impl NodeType {
             NodeSet::Directive => matches!(&self, NodeType::Directive),
             NodeSet::Statement => self.is_statement(),
             NodeSet::VariableDeclarator => matches!(&self, NodeType::VariableDeclarator),
-            NodeSet::BindingPattern => matches!(&self, NodeType::BindingIdentifier),
+            NodeSet::BindingPattern => self.is_binding_pattern(),
             NodeSet::Expression => self.is_expression(),
             NodeSet::IdentifierName => matches!(&self, NodeType::IdentifierName),
             NodeSet::Argument => self.is_argument(),
@@ -133,7 +141,10 @@ impl NodeType {
             NodeSet::SwitchCase => matches!(&self, NodeType::SwitchCase),
             NodeSet::BlockStatement => matches!(&self, NodeType::BlockStatement),
             NodeSet::CatchClause => matches!(&self, NodeType::CatchClause),
+            NodeSet::BindingProperty => matches!(&self, NodeType::BindingProperty),
+            NodeSet::BindingRestElement => matches!(&self, NodeType::BindingRestElement),
             NodeSet::Link => self.is_expression(),
+            NodeSet::BindingElement => self.is_binding_pattern(),
         }
     }
 
@@ -452,6 +463,19 @@ impl NodeType {
                 | NodeType::DebuggerStatement
                 | NodeType::SwitchStatement
                 | NodeType::TryStatement
+        )
+    }
+
+    /// Whether nodes of this type are in `BindingPattern`.
+    pub fn is_binding_pattern(self) -> bool
+        ensures { result ≡ is_binding_pattern self }
+    {
+        matches!(
+            &self,
+            NodeType::BindingIdentifier
+                | NodeType::ObjectPattern
+                | NodeType::ArrayPattern
+                | NodeType::AssignmentPattern
         )
     }
 }

@@ -3,7 +3,8 @@ its children, each at its place. What a row's own rules are stands by hand in cr
 its folder, for each type that has `rules` in the table."""
 
 import layout
-from children import child_type, each, kinds_of, nests, plain, plural, typed
+import children
+from children import plain, plural, typed
 from names import SPECS, row_names
 from table import snake
 
@@ -16,6 +17,24 @@ BODIES = ["FunctionBody"]  # what surrounds their children differs, by `within_b
 PROGRAM = "Program"  # its row stands by hand, in crates/jsgen_check/src/program.rt
 RESULT = "Result<u64, TreeFault>"
 LISTS_THAT_ARE_TYPES = ["FormalParameter"]  # the plural of its name is the name of another type
+
+
+# A list or a child that may be absent is asked for by its set, or by the name of its place: what a set is asked here, a place is
+# asked by its set.
+def kinds_of(table, many):
+    return list(dict.fromkeys(f.place or f.kind for n in table.nodes.values() for f in table.children(n) if f.many == many))
+
+
+def nests(table, kind):
+    return children.nests(table, table.places.get(kind, kind))
+
+
+def child_type(table, kind):
+    return children.child_type(table, table.places.get(kind, kind))
+
+
+def each(table, kind, *of):
+    return children.each(table, table.places.get(kind, kind), *of)
 
 
 def write(table):
@@ -98,14 +117,15 @@ def calls(table, n):
     found, around = [], "&within" if n.name in BODIES else "around"
     for f in table.children(n):
         here = f"node.{f.rust}"
+        asked = f.place or f.kind
         if f.many == "*":
-            found.append((f.rust, f"{check_all(f.kind)}(&{here}, {around})", "deref.value", None))
+            found.append((f.rust, f"{check_all(asked)}(&{here}, {around})", "deref.value", None))
         elif f.many == "?*":
-            found.append((f.rust, f"{check_all_or_holes(f.kind)}(&{here}, {around})", "deref.value", None))
+            found.append((f.rust, f"{check_all_or_holes(asked)}(&{here}, {around})", "deref.value", None))
         elif f.many == "?":
-            found.append((f.rust, f"{check_optional(f.kind)}(&{here}, {around})", None, None))
+            found.append((f.rust, f"{check_optional(asked)}(&{here}, {around})", None, None))
         elif nests(table, f.kind):
-            found.append((f.rust, f"check_child({here}.get(), NodeSet::{f.place or f.kind}, {around})", "get", None))
+            found.append((f.rust, f"check_child({here}.get(), NodeSet::{asked}, {around})", "get", None))
         else:
             of_type = f.kind if f.kind in table.nodes else None
             found.append((f.rust, f"{check(f.kind)}(&{here}, {around})", "deref" if of_type else None, of_type))

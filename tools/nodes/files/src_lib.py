@@ -1,7 +1,5 @@
 """src/lib.rt: the modules, and the names that the crate passes on."""
 
-import re
-
 import layout
 from names import nodes_in_rust
 
@@ -27,6 +25,5 @@ def write(table):
     passed["types"] = ["NodeSet", "NodeType"]
     passed["node_type"] = []
     mods = "".join(f"mod {m};\n" for m in sorted(passed))
-    uses = "".join(f"pub use {m}::{{{', '.join(sorted(names))}}};\n" for m, names in sorted(passed.items()) if names)
-    uses = re.sub(r"\{(\w+)\}", r"\1", uses)
-    return {"src/lib.rt": layout.RUST + HEAD + "\n" + mods + "\n" + uses}
+    uses = layout.use_lines([(m, names) for m, names in sorted(passed.items()) if names], "pub use")
+    return {"src/lib.rt": layout.RUST + HEAD + "\n" + mods + "\n" + "\n".join(uses) + "\n"}

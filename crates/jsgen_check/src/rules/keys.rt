@@ -113,7 +113,8 @@ fn may_be_key<N: CheckNode>(computed: bool, key: &PropertyKey<N>) -> bool
     }
 }
 
-fn check_key<N: CheckNode>(computed: bool, key: &PropertyKey<N>) -> Result<(), TreeFault>
+/// Whether it is computed or not, the key is one.
+pub fn check_key<N: CheckNode>(computed: bool, key: &PropertyKey<N>) -> Result<(), TreeFault>
     ensures { result ≡ verdict (key_faults computed (in_property_key N.plain key.now)) }
 {
     if may_be_key(computed, key) {

@@ -9,6 +9,7 @@ ghost use Rattle.jsgen_rules.specs.Verdict.{verdict};
 ghost use Rattle.jsgen_check.specs.Verdict.{surroundings_plain};
 
 use crate::links::{computed_member_has_optional_link, static_member_has_optional_link};
+use crate::rules::patterns::check_init;
 use crate::{CheckNode, Surroundings};
 use jsgen_model::TreeFault;
 use jsgen_rules::{check_body, check_defaults, check_ends, check_no_optional_link, check_one_name};
@@ -54,10 +55,11 @@ pub fn check_for_statement_rules<N: CheckNode>(
     ensures { result ≡ verdict (own_faults (surroundings_plain around.now) (for_statement_row N.plain node.now)) }
 {
     let _ = around;
+    check_init(&node.init)?;
     check_followed(node.body.get())
 }
 
-/// Whether a declaration declares one name, without a value.
+/// Whether a declaration declares one name or one pattern, without a value.
 fn is_one_name<N: CheckNode>(declarators: &[VariableDeclarator<N>]) -> bool
     ensures { result ≡ is_one_name (trees (map (variable_declarator_row N.plain) declarators.now)) }
 {
@@ -67,7 +69,7 @@ fn is_one_name<N: CheckNode>(declarators: &[VariableDeclarator<N>]) -> bool
     }
 }
 
-/// What a loop gives its values is a declaration of one name, or a target without an optional link.
+/// What a loop gives its values is a declaration of one name or one pattern, or a target without an optional link.
 fn check_left<N: CheckNode>(left: &ForStatementLeft<N>) -> Result<(), TreeFault>
     ensures { result ≡ verdict (left_faults (in_for_statement_left N.plain left.now)) }
 {

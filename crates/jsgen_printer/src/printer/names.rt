@@ -45,6 +45,13 @@ impl Printer<'_> {
         is_same(self.tables.reference_name(reference, text), written)
     }
 
+    /// Whether a name that is bound is printed as this one is written.
+    pub fn binds_as(&self, text: &str, symbol: Option<u32>, written: &str) -> bool
+        ensures { result ≡ are_same (pen_of self.now).style.tables (bound symbol (chars text.now)) (as_written (chars written.now)) }
+    {
+        is_same(self.tables.binding_name(symbol, text), written)
+    }
+
     // A name, apart from a word that the code ends in.
     fn print_name_apart(&mut self, text: &str)
         ensures { Goes self.old self.new (with_name (chars text.now)) }

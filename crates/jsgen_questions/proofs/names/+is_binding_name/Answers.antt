@@ -1,4 +1,4 @@
-use Rattle.std.proofs.Common.{rules}
+use Rattle.std.proofs.Common.{rules, refl}
 use Rattle.jsgen_tree.proofs.Knot.{plain_expression, plain_declaration, plain_binding_pattern, plain_statement}
 use Rattle.jsgen_questions.proofs.names.+is_binding_name.Goals as goal
 
@@ -14,5 +14,14 @@ returns-in_default t c = search (rules, plain_statement)
 pub returns-in-Declaration : goal.returns-in-Declaration
 returns-in-Declaration t c = search (rules, plain_declaration)
 
-pub returns-in-BindingPattern-BindingIdentifier : goal.returns-in-BindingPattern-BindingIdentifier
-returns-in-BindingPattern-BindingIdentifier t c = search (rules, plain_binding_pattern)
+pub returns-in-BindingIdentifier : goal.returns-in-BindingIdentifier
+returns-in-BindingIdentifier t c = rw (c.in-BindingPattern.is, plain_binding_pattern c.in-BindingPattern.pattern, c.in-BindingIdentifier.is) refl
+
+pub returns-in-ObjectPattern : goal.returns-in-ObjectPattern
+returns-in-ObjectPattern t c = rw (c.in-BindingPattern.is, plain_binding_pattern c.in-BindingPattern.pattern, c.in-ObjectPattern.is) refl
+
+pub returns-in-ArrayPattern : goal.returns-in-ArrayPattern
+returns-in-ArrayPattern t c = rw (c.in-BindingPattern.is, plain_binding_pattern c.in-BindingPattern.pattern, c.in-ArrayPattern.is) refl
+
+pub returns-in-AssignmentPattern : goal.returns-in-AssignmentPattern
+returns-in-AssignmentPattern t c = rw (c.in-BindingPattern.is, plain_binding_pattern c.in-BindingPattern.pattern, c.in-AssignmentPattern.is) refl

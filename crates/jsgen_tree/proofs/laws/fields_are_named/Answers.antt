@@ -33,4 +33,5 @@ returns c = record {
   arrow_function_expression = λ a. (refl, refl, refl);
   for_of_statement = λ a. refl;
   label_identifier = λ a. refl;
+  binding_property = λ a. refl;
 }

@@ -1,0 +1,38 @@
+-- Declarators of patterns without a value.
+use Rattle.std.proofs.Common.{◌≡◌, ℕ, ◌+◌, ◌<◌, ◌≤◌, Bool, true, false, not, ◌&&◌, ◌||◌, List, ◌∷◌, map, drop, length, Option, None, refl, sym, ap, ◌∙◌}
+use Rattle.std.proofs.Math.ListN.{get_or}
+use Rattle.std.proofs.lemmas.List.{at_drop_all, at_drop_more}
+use Rattle.jsgen_tree.specs.Nodes as tree
+use Rattle.jsgen_tree.specs.Rows.{variable_declarator_row}
+use Rattle.jsgen_tree.specs.Tree.{Tree, trees}
+use Rattle.jsgen_tree.specs.Inside.{function_in}
+use Rattle.jsgen_tree.specs.declared.types.NodeSet.{NodeSet}
+use Rattle.jsgen_tree.specs.declared.statements.VariableDeclarator.{VariableDeclarator}
+use Rattle.jsgen_model.specs.Valid.{lacks_value, any_lacks_value, binds_nothing, is_among_statements, fits_kind}
+
+abbrev pub any_of : {N : Type 0} → (N → Tree) → List (VariableDeclarator N) → Bool
+any_of plain xs = any_lacks_value (trees (map (variable_declarator_row plain) xs))
+
+-- the first of those that are left
+first_left : {N : Type 0} (plain : N → Tree) (xs : List (VariableDeclarator N)) (i : ℕ) (x : VariableDeclarator N) → i < length xs → x ≡ get_or xs i x → any_of plain (drop i xs) ≡ lacks_value (variable_declarator_row plain x) || any_of plain (drop (i + 1) xs)
+first_left plain xs i x inside is = at_drop_more (any_of plain) xs i x inside ∙ ap (λ y. any_of plain (y ∷ drop (i + 1) xs)) (sym is)
+
+pub next_left : {N : Type 0} (plain : N → Tree) (xs : List (VariableDeclarator N)) (i : ℕ) (x : VariableDeclarator N) → i < length xs → x ≡ get_or xs i x → lacks_value (variable_declarator_row plain x) ≡ false → any_of plain (drop i xs) ≡ any_of plain xs → any_of plain (drop (i + 1) xs) ≡ any_of plain xs
+next_left plain xs i x inside is none so_far = sym (ap (λ b. b || any_of plain (drop (i + 1) xs)) none) ∙ (sym (first_left plain xs i x inside is) ∙ so_far)
+
+pub found_there : {N : Type 0} (plain : N → Tree) (xs : List (VariableDeclarator N)) (i : ℕ) (x : VariableDeclarator N) → i < length xs → x ≡ get_or xs i x → lacks_value (variable_declarator_row plain x) ≡ true → any_of plain (drop i xs) ≡ any_of plain xs → true ≡ any_of plain xs
+found_there plain xs i x inside is some so_far = sym (ap (λ b. b || any_of plain (drop (i + 1) xs)) some) ∙ (sym (first_left plain xs i x inside is) ∙ so_far)
+
+pub all_passed : {N : Type 0} (plain : N → Tree) (xs : List (VariableDeclarator N)) (i : ℕ) → length xs ≤ i → any_of plain (drop i xs) ≡ any_of plain xs → false ≡ any_of plain xs
+all_passed plain xs i outside so_far = sym (at_drop_all (any_of plain) xs i outside) ∙ so_far
+
+-- ---- what a place among statements asks of what is no function
+
+none_bound : (b : Bool) → not (b && false) ≡ true
+none_bound true = refl
+none_bound false = refl
+
+pub bound_there : (set : NodeSet) (t : Tree) → function_in t ≡ None → not (is_among_statements set && binds_nothing t) ≡ fits_kind set t
+bound_there set (tree.function a id params body) e = absurd (cc)
+bound_there set (tree.variable_declaration a declarations) e = refl
+bound_there set t e = none_bound (is_among_statements set)

@@ -1,0 +1,21 @@
+use Rattle.std.proofs.Common.{rules}
+use Rattle.jsgen_tree.proofs.Knot.{plain_expression, plain_statement, plain_declaration, plain_binding_pattern}
+use Rattle.jsgen_check.proofs.rules.patterns.+binds_nothing.Goals as goal
+
+pub returns-in-Expression : goal.returns-in-Expression
+returns-in-Expression t c = search (rules, plain_expression)
+
+pub returns-in-Declaration-statement : goal.returns-in-Declaration-statement
+returns-in-Declaration-statement t c = search (rules, plain_statement)
+
+pub returns-in_default : goal.returns-in_default
+returns-in_default t c = search (rules, plain_statement)
+
+pub returns-in-VariableDeclaration : goal.returns-in-VariableDeclaration
+returns-in-VariableDeclaration t c = rw (c.in-Declaration.is, plain_declaration c.in-Declaration.declaration, c.in-VariableDeclaration.is, ← c.deref.ensures) c.declaration_binds_nothing.ensures
+
+pub returns-in-Function : goal.returns-in-Function
+returns-in-Function t c = search (rules, plain_declaration)
+
+pub returns-in-BindingPattern : goal.returns-in-BindingPattern
+returns-in-BindingPattern t c = search (rules, plain_binding_pattern)

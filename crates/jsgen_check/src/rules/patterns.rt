@@ -1,0 +1,137 @@
+// Patterns: keys, what takes the rest of an object, and patterns that are given no value (ECMA-262, 14.3).
+#![tactic(auto, unfolding(jsgen_rules::specs::Verdict::verdict))]
+
+ghost use Rattle.std.specs.Prelude.{◌≡◌, not, ◌&&◌, map, option_map};
+ghost use Rattle.jsgen_tree.specs.Tree.{optional, trees, type_of, span_of};
+ghost use Rattle.jsgen_tree.specs.Rows.{object_pattern_row, binding_property_row, binding_rest_element_row, variable_declarator_row, variable_declaration_row, in_for_statement_init};
+ghost use Rattle.jsgen_tree.specs.Plain.{node_plain};
+ghost use Rattle.jsgen_model.specs.Valid.{own_faults, fault_if, rest_faults, is_binding_name, lacks_value, any_lacks_value, binds_nothing, init_faults};
+ghost use Rattle.jsgen_model.specs.declared.fault.TreeFault.TheVariants as faults;
+ghost use Rattle.jsgen_rules.specs.Verdict.{verdict};
+ghost use Rattle.jsgen_check.specs.Verdict.{surroundings_plain};
+
+use crate::rules::keys::check_key;
+use crate::{CheckNode, Surroundings};
+use jsgen_model::TreeFault;
+use jsgen_rules::is_binding_name;
+use jsgen_tree::{
+    BindingProperty, BindingRestElement, Declaration, ForStatementInit, Node, ObjectPattern,
+    Statement, VariableDeclaration, VariableDeclarator,
+};
+
+/// What takes the rest of an object is a name.
+fn check_rest<N: CheckNode>(rest: &Option<Box<BindingRestElement<N>>>) -> Result<(), TreeFault>
+    ensures { result ≡ verdict (rest_faults (optional (option_map (λ b. binding_rest_element_row N.plain b.value) rest.now))) }
+{
+    match rest {
+        Some(rest) => check_name(rest.argument.get()),
+        None => Ok(()),
+    }
+}
+
+fn check_name<N: CheckNode>(argument: &N) -> Result<(), TreeFault>
+    ensures { result ≡ verdict (fault_if (not (is_binding_name (type_of (N.plain argument.now)))) (faults.Place (span_of (N.plain argument.now)).start)) }
+{
+    if !is_binding_name(argument.node_type()) {
+        return Err(TreeFault::Place {
+            start: argument.start(),
+        });
+    }
+    Ok(())
+}
+
+#[tactic(auto)]
+pub fn check_object_pattern_rules<N: CheckNode>(
+    node: &ObjectPattern<N>,
+    around: &Surroundings<'_>,
+) -> Result<(), TreeFault>
+    ensures { result ≡ verdict (own_faults (surroundings_plain around.now) (object_pattern_row N.plain node.now)) }
+{
+    let _ = around;
+    check_rest(&node.rest)
+}
+
+#[tactic(auto)]
+pub fn check_binding_property_rules<N: CheckNode>(
+    node: &BindingProperty<N>,
+    around: &Surroundings<'_>,
+) -> Result<(), TreeFault>
+    ensures { result ≡ verdict (own_faults (surroundings_plain around.now) (binding_property_row N.plain node.now)) }
+{
+    let _ = around;
+    check_key(node.computed, &node.key)
+}
+
+// ---- patterns without a value
+
+fn lacks_value<N: CheckNode>(declarator: &VariableDeclarator<N>) -> bool
+    ensures { result ≡ lacks_value (variable_declarator_row N.plain declarator.now) }
+{
+    match declarator.init {
+        Some(_) => false,
+        None => !is_binding_name(declarator.id.get().node_type()),
+    }
+}
+
+fn any_lacks_value<N: CheckNode>(declarators: &[VariableDeclarator<N>]) -> bool
+    ensures { result ≡ any_lacks_value (trees (map (variable_declarator_row N.plain) declarators.now)) }
+{
+    for declarator in declarators {
+        if lacks_value(declarator) {
+            return true;
+        }
+    }
+    false
+}
+
+/// Whether a declaration binds a pattern and gives it no value.
+pub fn declaration_binds_nothing<N: CheckNode>(node: &VariableDeclaration<N>) -> bool
+    ensures { result ≡ binds_nothing (variable_declaration_row N.plain node.now) }
+{
+    any_lacks_value(&node.declarations)
+}
+
+/// Whether a node is a declaration that does so.
+#[cycle(binds_nothing)]
+pub fn binds_nothing(node: &Node) -> bool
+    ensures { result ≡ binds_nothing (node_plain node.now) }
+{
+    match node {
+        Node::Expression(_) => false,
+        Node::Statement(statement) => match statement {
+            Statement::Declaration(node) => binds_nothing(node.get()),
+            _ => false,
+        },
+        Node::Declaration(declaration) => match declaration {
+            Declaration::VariableDeclaration(node) => declaration_binds_nothing(node),
+            Declaration::Function(_) => false,
+        },
+        Node::BindingPattern(_) => false,
+    }
+}
+
+/// Before the first round of a loop each pattern has a value.
+pub fn check_init<N: CheckNode>(init: &Option<ForStatementInit<N>>) -> Result<(), TreeFault>
+    ensures { result ≡ verdict (init_faults (optional (option_map (in_for_statement_init N.plain) init.now))) }
+{
+    match init {
+        Some(init) => check_first(init),
+        None => Ok(()),
+    }
+}
+
+fn check_first<N: CheckNode>(init: &ForStatementInit<N>) -> Result<(), TreeFault>
+    ensures { result ≡ verdict (fault_if (binds_nothing (in_for_statement_init N.plain init.now)) (faults.Place (span_of (in_for_statement_init N.plain init.now)).start)) }
+{
+    match init {
+        ForStatementInit::VariableDeclaration(node) => {
+            if declaration_binds_nothing(node) {
+                return Err(TreeFault::Place {
+                    start: node.span.start,
+                });
+            }
+            Ok(())
+        }
+        ForStatementInit::Expression(_) => Ok(()),
+    }
+}
