@@ -2,22 +2,7 @@
 // What is printed by itself has `Gen`, and what is printed at a level `GenExpr`.
 
 use crate::gens::{Gen, GenExpr};
-use jsgen_tree::{
-    Argument, ArrayExpression, ArrayExpressionElement, ArrowFunctionExpression,
-    AssignmentExpression, AssignmentTarget, BigIntLiteral, BinaryExpression, BindingIdentifier,
-    BindingPattern, BlockStatement, BooleanLiteral, BreakStatement, CallExpression, CatchClause,
-    ChainExpression, ComputedMemberExpression, ConditionalExpression, ContinueStatement,
-    DebuggerStatement, Directive, DoWhileStatement, EmptyStatement, Expression,
-    ExpressionStatement, ForInStatement, ForOfStatement, ForStatement, ForStatementInit,
-    ForStatementLeft, FormalParameter, FormalParameterRest, FormalParameters, Function,
-    FunctionBody, IdentifierName, IdentifierReference, IfStatement, ImportMeta, LabelIdentifier,
-    LabeledStatement, LogicalExpression, NewExpression, NewTarget, NullLiteral, NumericLiteral,
-    ObjectExpression, ObjectProperty, ObjectPropertyKind, ParenthesizedExpression, Program,
-    PropertyKey, ReturnStatement, SequenceExpression, SimpleAssignmentTarget, SpreadElement,
-    Statement, StaticMemberExpression, StringLiteral, Super, SwitchCase, SwitchStatement,
-    ThisExpression, ThrowStatement, TryStatement, UnaryExpression, UpdateExpression,
-    VariableDeclaration, VariableDeclarator, WhileStatement,
-};
+use jsgen_tree::{Argument, ArrayExpression, ArrayExpressionElement, ArrowFunctionExpression, AssignmentExpression, AssignmentTarget, BigIntLiteral, BinaryExpression, BindingIdentifier, BindingPattern, BlockStatement, BooleanLiteral, BreakStatement, CallExpression, CatchClause, ChainExpression, Class, ClassBody, ClassElement, ComputedMemberExpression, ConditionalExpression, ContinueStatement, DebuggerStatement, Directive, DoWhileStatement, EmptyStatement, Expression, ExpressionStatement, ForInStatement, ForOfStatement, ForStatement, ForStatementInit, ForStatementLeft, FormalParameter, FormalParameterRest, FormalParameters, Function, FunctionBody, IdentifierName, IdentifierReference, IfStatement, ImportMeta, LabelIdentifier, LabeledStatement, LogicalExpression, MethodDefinition, NewExpression, NewTarget, NullLiteral, NumericLiteral, ObjectExpression, ObjectProperty, ObjectPropertyKind, ParenthesizedExpression, PrivateFieldExpression, PrivateIdentifier, PrivateInExpression, Program, PropertyDefinition, PropertyKey, ReturnStatement, SequenceExpression, SimpleAssignmentTarget, SpreadElement, Statement, StaticBlock, StaticMemberExpression, StringLiteral, Super, SwitchCase, SwitchStatement, ThisExpression, ThrowStatement, TryStatement, UnaryExpression, UpdateExpression, VariableDeclaration, VariableDeclarator, WhileStatement};
 
 impl Gen for Program {}
 
@@ -137,6 +122,22 @@ impl Gen for TryStatement {}
 
 impl Gen for CatchClause {}
 
+impl Gen for PrivateIdentifier {}
+
+impl GenExpr for PrivateFieldExpression {}
+
+impl GenExpr for PrivateInExpression {}
+
+impl Gen for Class {}
+
+impl Gen for ClassBody {}
+
+impl Gen for StaticBlock {}
+
+impl Gen for MethodDefinition {}
+
+impl Gen for PropertyDefinition {}
+
 impl GenExpr for Expression {}
 
 impl Gen for Argument {}
@@ -158,3 +159,5 @@ impl Gen for PropertyKey {}
 impl Gen for Statement {}
 
 impl Gen for BindingPattern {}
+
+impl Gen for ClassElement {}

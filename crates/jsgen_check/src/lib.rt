@@ -244,6 +244,7 @@ impl CheckNode for Node {
             Node::Statement(statement) => check_statement_set(statement, around),
             Node::Declaration(declaration) => check_declaration_set(declaration, around),
             Node::BindingPattern(pattern) => check_binding_pattern_set(pattern, around),
+            Node::ClassElement(element) => check_class_element_set(element, around),
         }
     }
 }

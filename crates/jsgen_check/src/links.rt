@@ -75,6 +75,7 @@ pub fn has_optional_link(node: &Node) -> bool
         },
         Node::Declaration(_) => false,
         Node::BindingPattern(_) => false,
+        Node::ClassElement(_) => false,
     }
 }
 

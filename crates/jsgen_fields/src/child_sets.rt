@@ -3,31 +3,14 @@
 ghost use Rattle.std.specs.Prelude.{◌≡◌, IfOk, Some, None, option_map, if◌then◌else◌};
 ghost use Rattle.jsgen_tree.specs.Tree.{type_of};
 ghost use Rattle.jsgen_tree.specs.Sets.{in_set};
-ghost use Rattle.jsgen_tree.specs.Rows.{in_expression, in_argument, in_array_expression_element, in_chain_element, in_simple_assignment_target, in_assignment_target, in_arrow_function_body, in_for_statement_init, in_for_statement_left, in_object_property_kind, in_property_key, in_statement, in_binding_pattern, comment_row, directive_row, variable_declarator_row, binding_identifier_row, block_statement_row, identifier_name_row, formal_parameter_row, formal_parameter_rest_row, formal_parameters_row, function_body_row, label_identifier_row, switch_case_row, catch_clause_row};
+ghost use Rattle.jsgen_tree.specs.Rows.{in_expression, in_argument, in_array_expression_element, in_chain_element, in_simple_assignment_target, in_assignment_target, in_arrow_function_body, in_for_statement_init, in_for_statement_left, in_object_property_kind, in_property_key, in_statement, in_binding_pattern, in_class_element, comment_row, directive_row, variable_declarator_row, binding_identifier_row, block_statement_row, identifier_name_row, formal_parameter_row, formal_parameter_rest_row, formal_parameters_row, function_row, function_body_row, label_identifier_row, switch_case_row, catch_clause_row, private_identifier_row, class_body_row};
 ghost use Rattle.jsgen_fields.specs.Kept.{row_plain};
 ghost use Rattle.jsgen_tree.specs.declared.types.NodeSet.TheVariants as sets;
 
-use crate::asked::{
-    Child, HoldsBindingPattern, HoldsDeclaration, HoldsExpression, HoldsStatement, PlainNode,
-};
+use crate::asked::{Child, HoldsBindingPattern, HoldsClassElement, HoldsDeclaration, HoldsExpression, HoldsStatement, PlainNode};
 use crate::kept::Row;
-use crate::members::{
-    argument_of_expression, array_expression_element_of_expression,
-    arrow_function_body_of_expression, assignment_target_of_expression,
-    binding_identifier_of_binding_pattern_in_box, block_statement_of_statement_in_box,
-    chain_element_of_expression, for_statement_init_of_declaration,
-    for_statement_init_of_expression, for_statement_left_of_declaration,
-    for_statement_left_of_expression, property_key_of_expression,
-    simple_assignment_target_of_expression, statement_of_declaration,
-};
-use jsgen_tree::{
-    Argument, ArrayExpressionElement, ArrowFunctionBody, AssignmentTarget, BindingIdentifier,
-    BindingPatternNode, BlockStatement, CatchClause, ChainElement, Comment, Declaration, Directive,
-    Expression, ExpressionNode, ForStatementInit, ForStatementLeft, FormalParameter,
-    FormalParameterRest, FormalParameters, FunctionBody, IdentifierName, LabelIdentifier, NodeSet,
-    ObjectPropertyKind, PropertyKey, SimpleAssignmentTarget, StatementNode, SwitchCase,
-    VariableDeclarator,
-};
+use crate::members::{argument_of_expression, array_expression_element_of_expression, arrow_function_body_of_expression, assignment_target_of_expression, binding_identifier_of_binding_pattern_in_box, block_statement_of_statement_in_box, chain_element_of_expression, for_statement_init_of_declaration, for_statement_init_of_expression, for_statement_left_of_declaration, for_statement_left_of_expression, property_key_of_expression, simple_assignment_target_of_expression, statement_of_declaration};
+use jsgen_tree::{Argument, ArrayExpressionElement, ArrowFunctionBody, AssignmentTarget, BindingIdentifier, BindingPatternNode, BlockStatement, CatchClause, ChainElement, ClassBody, ClassElementNode, Comment, Declaration, Directive, Expression, ExpressionNode, ForStatementInit, ForStatementLeft, FormalParameter, FormalParameterRest, FormalParameters, Function, FunctionBody, IdentifierName, LabelIdentifier, NodeSet, ObjectPropertyKind, PrivateIdentifier, PropertyKey, SimpleAssignmentTarget, StatementNode, SwitchCase, VariableDeclarator};
 use std::alloc::{AllocError, Global};
 
 impl<N: PlainNode + Drop> Child<N> for Comment {
@@ -95,15 +78,10 @@ impl<N: HoldsDeclaration + HoldsStatement + Drop> Child<N> for StatementNode<N> 
             ≡ (if in_set sets.Statement (type_of (row_plain N.plain row)) then Some (row_plain N.plain row) else None)) }
     {
         match row {
-            Row::Declaration(row) => statement_of_declaration(
-                alloc,
-                N::declaration_node(Box::into_inner(row).declaration),
-            ),
+            Row::Declaration(row) => statement_of_declaration(alloc, N::declaration_node(Box::into_inner(row).declaration)),
             Row::Statement(row) => Ok(Some(N::statement_node(Box::into_inner(row).statement))),
-            Row::Function(row) => statement_of_declaration(
-                alloc,
-                N::declaration_node(Declaration::Function(row)),
-            ),
+            Row::Function(row) => statement_of_declaration(alloc, N::declaration_node(Declaration::Function(row))),
+            Row::Class(row) => statement_of_declaration(alloc, N::declaration_node(Declaration::Class(row))),
             rest => {
                 rest.let_go();
                 Ok(None)
@@ -180,6 +158,7 @@ impl<N: HoldsExpression + Drop> Child<N> for ExpressionNode<N> {
         match row {
             Row::Expression(row) => Ok(Some(N::expression_node(Box::into_inner(row).expression))),
             Row::Function(row) => Ok(Some(N::expression_node(Expression::Function(row)))),
+            Row::Class(row) => Ok(Some(N::expression_node(Expression::Class(row)))),
             rest => {
                 rest.let_go();
                 Ok(None)
@@ -228,15 +207,10 @@ impl<N: HoldsExpression + Drop> Child<N> for Argument<N> {
             ≡ (if in_set sets.Argument (type_of (row_plain N.plain row)) then Some (row_plain N.plain row) else None)) }
     {
         match row {
-            Row::Expression(row) => argument_of_expression(
-                alloc,
-                N::expression_node(Box::into_inner(row).expression),
-            ),
+            Row::Expression(row) => argument_of_expression(alloc, N::expression_node(Box::into_inner(row).expression)),
             Row::SpreadElement(row) => Ok(Some(Argument::SpreadElement(row))),
-            Row::Function(row) => argument_of_expression(
-                alloc,
-                N::expression_node(Expression::Function(row)),
-            ),
+            Row::Function(row) => argument_of_expression(alloc, N::expression_node(Expression::Function(row))),
+            Row::Class(row) => argument_of_expression(alloc, N::expression_node(Expression::Class(row))),
             rest => {
                 rest.let_go();
                 Ok(None)
@@ -285,15 +259,10 @@ impl<N: HoldsExpression + Drop> Child<N> for ArrayExpressionElement<N> {
             ≡ (if in_set sets.ArrayExpressionElement (type_of (row_plain N.plain row)) then Some (row_plain N.plain row) else None)) }
     {
         match row {
-            Row::Expression(row) => array_expression_element_of_expression(
-                alloc,
-                N::expression_node(Box::into_inner(row).expression),
-            ),
+            Row::Expression(row) => array_expression_element_of_expression(alloc, N::expression_node(Box::into_inner(row).expression)),
             Row::SpreadElement(row) => Ok(Some(ArrayExpressionElement::SpreadElement(row))),
-            Row::Function(row) => array_expression_element_of_expression(
-                alloc,
-                N::expression_node(Expression::Function(row)),
-            ),
+            Row::Function(row) => array_expression_element_of_expression(alloc, N::expression_node(Expression::Function(row))),
+            Row::Class(row) => array_expression_element_of_expression(alloc, N::expression_node(Expression::Class(row))),
             rest => {
                 rest.let_go();
                 Ok(None)
@@ -317,15 +286,11 @@ impl<N: HoldsExpression + Drop> Child<N> for PropertyKey<N> {
             ≡ (if in_set sets.PropertyKey (type_of (row_plain N.plain row)) then Some (row_plain N.plain row) else None)) }
     {
         match row {
-            Row::Expression(row) => property_key_of_expression(
-                alloc,
-                N::expression_node(Box::into_inner(row).expression),
-            ),
+            Row::Expression(row) => property_key_of_expression(alloc, N::expression_node(Box::into_inner(row).expression)),
             Row::IdentifierName(row) => Ok(Some(PropertyKey::IdentifierName(row))),
-            Row::Function(row) => property_key_of_expression(
-                alloc,
-                N::expression_node(Expression::Function(row)),
-            ),
+            Row::Function(row) => property_key_of_expression(alloc, N::expression_node(Expression::Function(row))),
+            Row::PrivateIdentifier(row) => Ok(Some(PropertyKey::PrivateIdentifier(row))),
+            Row::Class(row) => property_key_of_expression(alloc, N::expression_node(Expression::Class(row))),
             rest => {
                 rest.let_go();
                 Ok(None)
@@ -376,9 +341,7 @@ impl<N: PlainNode + Drop> Child<N> for SimpleAssignmentTarget<N> {
     {
         let _ = alloc;
         match row {
-            Row::Expression(row) => Ok(simple_assignment_target_of_expression(Box::into_inner(
-                row,
-            ))),
+            Row::Expression(row) => Ok(simple_assignment_target_of_expression(Box::into_inner(row))),
             rest => {
                 rest.let_go();
                 Ok(None)
@@ -447,10 +410,7 @@ impl<N: PlainNode + Drop> Child<N> for Box<FormalParameterRest<N>> {
     }
 
     #[tactic(auto, using(crate::proofs::Sets::takes_formal_parameter_rests))]
-    fn from_row(
-        alloc: Global,
-        row: Row<N>,
-    ) -> Result<Option<Box<FormalParameterRest<N>>>, AllocError>
+    fn from_row(alloc: Global, row: Row<N>) -> Result<Option<Box<FormalParameterRest<N>>>, AllocError>
         ensures { IfOk result (λ child. option_map (λ b. formal_parameter_rest_row N.plain b.value) child
             ≡ (if in_set sets.FormalParameterRest (type_of (row_plain N.plain row)) then Some (row_plain N.plain row) else None)) }
     {
@@ -481,9 +441,7 @@ impl<N: PlainNode + Drop> Child<N> for Box<BindingIdentifier> {
     {
         let _ = alloc;
         match row {
-            Row::BindingPattern(row) => Ok(binding_identifier_of_binding_pattern_in_box(
-                Box::into_inner(row),
-            )),
+            Row::BindingPattern(row) => Ok(binding_identifier_of_binding_pattern_in_box(Box::into_inner(row))),
             rest => {
                 rest.let_go();
                 Ok(None)
@@ -557,15 +515,10 @@ impl<N: HoldsExpression + Drop> Child<N> for ArrowFunctionBody<N> {
             ≡ (if in_set sets.ArrowFunctionBody (type_of (row_plain N.plain row)) then Some (row_plain N.plain row) else None)) }
     {
         match row {
-            Row::Expression(row) => arrow_function_body_of_expression(
-                alloc,
-                N::expression_node(Box::into_inner(row).expression),
-            ),
-            Row::Function(row) => arrow_function_body_of_expression(
-                alloc,
-                N::expression_node(Expression::Function(row)),
-            ),
+            Row::Expression(row) => arrow_function_body_of_expression(alloc, N::expression_node(Box::into_inner(row).expression)),
+            Row::Function(row) => arrow_function_body_of_expression(alloc, N::expression_node(Expression::Function(row))),
             Row::FunctionBody(row) => Ok(Some(ArrowFunctionBody::FunctionBody(row))),
+            Row::Class(row) => arrow_function_body_of_expression(alloc, N::expression_node(Expression::Class(row))),
             rest => {
                 rest.let_go();
                 Ok(None)
@@ -590,14 +543,9 @@ impl<N: HoldsExpression + Drop> Child<N> for ForStatementInit<N> {
     {
         match row {
             Row::Declaration(row) => Ok(for_statement_init_of_declaration(Box::into_inner(row))),
-            Row::Expression(row) => for_statement_init_of_expression(
-                alloc,
-                N::expression_node(Box::into_inner(row).expression),
-            ),
-            Row::Function(row) => for_statement_init_of_expression(
-                alloc,
-                N::expression_node(Expression::Function(row)),
-            ),
+            Row::Expression(row) => for_statement_init_of_expression(alloc, N::expression_node(Box::into_inner(row).expression)),
+            Row::Function(row) => for_statement_init_of_expression(alloc, N::expression_node(Expression::Function(row))),
+            Row::Class(row) => for_statement_init_of_expression(alloc, N::expression_node(Expression::Class(row))),
             rest => {
                 rest.let_go();
                 Ok(None)
@@ -724,6 +672,106 @@ impl<N: PlainNode + Drop> Child<N> for Box<CatchClause<N>> {
         let _ = alloc;
         match row {
             Row::CatchClause(row) => Ok(Some(row)),
+            rest => {
+                rest.let_go();
+                Ok(None)
+            }
+        }
+    }
+}
+
+impl<N: PlainNode + Drop> Child<N> for Box<PrivateIdentifier> {
+    ghost plain = { λ n. private_identifier_row n.value };
+
+    ghost of_set = { sets.PrivateIdentifier };
+
+    fn set() -> NodeSet {
+        NodeSet::PrivateIdentifier
+    }
+
+    #[tactic(auto, using(crate::proofs::Sets::takes_private_identifiers))]
+    fn from_row(alloc: Global, row: Row<N>) -> Result<Option<Box<PrivateIdentifier>>, AllocError>
+        ensures { IfOk result (λ child. option_map (λ b. private_identifier_row b.value) child
+            ≡ (if in_set sets.PrivateIdentifier (type_of (row_plain N.plain row)) then Some (row_plain N.plain row) else None)) }
+    {
+        let _ = alloc;
+        match row {
+            Row::PrivateIdentifier(row) => Ok(Some(row)),
+            rest => {
+                rest.let_go();
+                Ok(None)
+            }
+        }
+    }
+}
+
+impl<N: PlainNode + Drop> Child<N> for Box<ClassBody<N>> {
+    ghost plain = { λ n. class_body_row N.plain n.value };
+
+    ghost of_set = { sets.ClassBody };
+
+    fn set() -> NodeSet {
+        NodeSet::ClassBody
+    }
+
+    #[tactic(auto, using(crate::proofs::Sets::takes_class_bodys))]
+    fn from_row(alloc: Global, row: Row<N>) -> Result<Option<Box<ClassBody<N>>>, AllocError>
+        ensures { IfOk result (λ child. option_map (λ b. class_body_row N.plain b.value) child
+            ≡ (if in_set sets.ClassBody (type_of (row_plain N.plain row)) then Some (row_plain N.plain row) else None)) }
+    {
+        let _ = alloc;
+        match row {
+            Row::ClassBody(row) => Ok(Some(row)),
+            rest => {
+                rest.let_go();
+                Ok(None)
+            }
+        }
+    }
+}
+
+impl<N: HoldsClassElement + Drop> Child<N> for ClassElementNode<N> {
+    ghost plain = { λ n. in_class_element N.plain n };
+
+    ghost of_set = { sets.ClassElement };
+
+    fn set() -> NodeSet {
+        NodeSet::ClassElement
+    }
+
+    #[tactic(auto, using(crate::proofs::Sets::takes_class_elements))]
+    fn from_row(alloc: Global, row: Row<N>) -> Result<Option<ClassElementNode<N>>, AllocError>
+        ensures { IfOk result (λ child. option_map (in_class_element N.plain) child
+            ≡ (if in_set sets.ClassElement (type_of (row_plain N.plain row)) then Some (row_plain N.plain row) else None)) }
+    {
+        let _ = alloc;
+        match row {
+            Row::ClassElement(row) => Ok(Some(N::class_element_node(Box::into_inner(row)))),
+            rest => {
+                rest.let_go();
+                Ok(None)
+            }
+        }
+    }
+}
+
+impl<N: PlainNode + Drop> Child<N> for Box<Function<N>> {
+    ghost plain = { λ n. function_row N.plain n.value };
+
+    ghost of_set = { sets.Function };
+
+    fn set() -> NodeSet {
+        NodeSet::Function
+    }
+
+    #[tactic(auto, using(crate::proofs::Sets::takes_functions))]
+    fn from_row(alloc: Global, row: Row<N>) -> Result<Option<Box<Function<N>>>, AllocError>
+        ensures { IfOk result (λ child. option_map (λ b. function_row N.plain b.value) child
+            ≡ (if in_set sets.Function (type_of (row_plain N.plain row)) then Some (row_plain N.plain row) else None)) }
+    {
+        let _ = alloc;
+        match row {
+            Row::Function(row) => Ok(Some(row)),
             rest => {
                 rest.let_go();
                 Ok(None)

@@ -3,7 +3,7 @@
 ghost use Rattle.std.specs.Prelude.{◌≡◌, IfOk, Some, None, option_map, if◌then◌else◌, Ok};
 ghost use Rattle.jsgen_tree.specs.Tree.{type_of};
 ghost use Rattle.jsgen_tree.specs.Sets.{in_set};
-ghost use Rattle.jsgen_tree.specs.Rows.{program_row, comment_row, directive_row, variable_declarator_row, identifier_name_row, spread_element_row, object_property_row, formal_parameter_row, formal_parameter_rest_row, formal_parameters_row, function_row, function_body_row, label_identifier_row, switch_case_row, catch_clause_row, expression_plain, declaration_plain, statement_plain, binding_pattern_plain, expression_plain, declaration_plain, statement_plain, binding_pattern_plain, program_row};
+ghost use Rattle.jsgen_tree.specs.Rows.{program_row, comment_row, directive_row, variable_declarator_row, identifier_name_row, spread_element_row, object_property_row, formal_parameter_row, formal_parameter_rest_row, formal_parameters_row, function_row, function_body_row, label_identifier_row, switch_case_row, catch_clause_row, private_identifier_row, class_row, class_body_row, expression_plain, declaration_plain, statement_plain, binding_pattern_plain, class_element_plain, expression_plain, declaration_plain, statement_plain, binding_pattern_plain, class_element_plain, program_row};
 ghost use Rattle.jsgen_fields.specs.Kept.{row_plain, any_row_plain};
 ghost use Rattle.jsgen_fields.specs.Values.{Same};
 ghost use Rattle.jsgen_fields.specs.Meaning.{is_program};
@@ -12,12 +12,7 @@ use crate::InputFault;
 use crate::asked::{Child, PlainNode, ReadNode, RowOf};
 use crate::others::{OtherDeclaration, OtherExpression, OtherStatement};
 use jsgen_pool::Typed;
-use jsgen_tree::{
-    BindingPattern, CatchClause, Comment, Declaration, Directive, Expression, FormalParameter,
-    FormalParameterRest, FormalParameters, Function, FunctionBody, IdentifierName, LabelIdentifier,
-    Node, NodeType, ObjectProperty, Program, SpreadElement, Statement, SwitchCase,
-    VariableDeclarator,
-};
+use jsgen_tree::{BindingPattern, CatchClause, Class, ClassBody, ClassElement, Comment, Declaration, Directive, Expression, FormalParameter, FormalParameterRest, FormalParameters, Function, FunctionBody, IdentifierName, LabelIdentifier, Node, NodeType, ObjectProperty, PrivateIdentifier, Program, SpreadElement, Statement, SwitchCase, VariableDeclarator};
 use std::alloc::{AllocError, Global};
 
 /// A row that was read, by the set that it is a child of. Sets are in boxes, so that a row is small whatever
@@ -43,6 +38,10 @@ pub enum Row<N = Node> {
     LabelIdentifier(Box<LabelIdentifier>),
     SwitchCase(Box<SwitchCase<N>>),
     CatchClause(Box<CatchClause<N>>),
+    PrivateIdentifier(Box<PrivateIdentifier>),
+    Class(Box<Class<N>>),
+    ClassBody(Box<ClassBody<N>>),
+    ClassElement(Box<ClassElement<N>>),
 }
 
 impl<N: Drop> Row<N> {
@@ -89,6 +88,10 @@ impl<N: ReadNode> Typed for AnyRow<N> {
             Row::LabelIdentifier(_) => NodeType::LabelIdentifier,
             Row::SwitchCase(_) => NodeType::SwitchCase,
             Row::CatchClause(_) => NodeType::CatchClause,
+            Row::PrivateIdentifier(_) => NodeType::PrivateIdentifier,
+            Row::Class(_) => NodeType::Class,
+            Row::ClassBody(_) => NodeType::ClassBody,
+            Row::ClassElement(row) => N::class_element_type(&**row),
         }
     }
 }
@@ -146,97 +149,71 @@ pub fn row_of_directive<N: PlainNode + Drop, R: RowOf<N>>(directive: Box<Directi
     R::of_row(Row::Directive(directive))
 }
 
-pub fn row_of_declaration<N: PlainNode + Drop, R: RowOf<N>>(
-    alloc: Global,
-    other: OtherDeclaration<N>,
-) -> Result<R, InputFault>
+pub fn row_of_declaration<N: PlainNode + Drop, R: RowOf<N>>(alloc: Global, other: OtherDeclaration<N>) -> Result<R, InputFault>
     ensures { Same R.plain result (Ok (declaration_plain N.plain other.declaration)) }
 {
     let other = Box::new(alloc, other)?;
     Ok(R::of_row(Row::Declaration(other)))
 }
 
-pub fn row_of_variable_declarator<N: PlainNode + Drop, R: RowOf<N>>(
-    variable_declarator: Box<VariableDeclarator<N>>,
-) -> R
+pub fn row_of_variable_declarator<N: PlainNode + Drop, R: RowOf<N>>(variable_declarator: Box<VariableDeclarator<N>>) -> R
     ensures { R.plain result ≡ variable_declarator_row N.plain variable_declarator.value }
 {
     R::of_row(Row::VariableDeclarator(variable_declarator))
 }
 
-pub fn row_of_binding_pattern<N: PlainNode + Drop, R: RowOf<N>>(
-    alloc: Global,
-    binding_pattern: BindingPattern,
-) -> Result<R, InputFault>
+pub fn row_of_binding_pattern<N: PlainNode + Drop, R: RowOf<N>>(alloc: Global, binding_pattern: BindingPattern) -> Result<R, InputFault>
     ensures { Same R.plain result (Ok (binding_pattern_plain binding_pattern)) }
 {
     let binding_pattern = Box::new(alloc, binding_pattern)?;
     Ok(R::of_row(Row::BindingPattern(binding_pattern)))
 }
 
-pub fn row_of_statement<N: PlainNode + Drop, R: RowOf<N>>(
-    alloc: Global,
-    other: OtherStatement<N>,
-) -> Result<R, InputFault>
+pub fn row_of_statement<N: PlainNode + Drop, R: RowOf<N>>(alloc: Global, other: OtherStatement<N>) -> Result<R, InputFault>
     ensures { Same R.plain result (Ok (statement_plain N.plain other.statement)) }
 {
     let other = Box::new(alloc, other)?;
     Ok(R::of_row(Row::Statement(other)))
 }
 
-pub fn row_of_expression<N: PlainNode + Drop, R: RowOf<N>>(
-    alloc: Global,
-    other: OtherExpression<N>,
-) -> Result<R, InputFault>
+pub fn row_of_expression<N: PlainNode + Drop, R: RowOf<N>>(alloc: Global, other: OtherExpression<N>) -> Result<R, InputFault>
     ensures { Same R.plain result (Ok (expression_plain N.plain other.expression)) }
 {
     let other = Box::new(alloc, other)?;
     Ok(R::of_row(Row::Expression(other)))
 }
 
-pub fn row_of_identifier_name<N: PlainNode + Drop, R: RowOf<N>>(
-    identifier_name: Box<IdentifierName>,
-) -> R
+pub fn row_of_identifier_name<N: PlainNode + Drop, R: RowOf<N>>(identifier_name: Box<IdentifierName>) -> R
     ensures { R.plain result ≡ identifier_name_row identifier_name.value }
 {
     R::of_row(Row::IdentifierName(identifier_name))
 }
 
-pub fn row_of_spread_element<N: PlainNode + Drop, R: RowOf<N>>(
-    spread_element: Box<SpreadElement<N>>,
-) -> R
+pub fn row_of_spread_element<N: PlainNode + Drop, R: RowOf<N>>(spread_element: Box<SpreadElement<N>>) -> R
     ensures { R.plain result ≡ spread_element_row N.plain spread_element.value }
 {
     R::of_row(Row::SpreadElement(spread_element))
 }
 
-pub fn row_of_object_property<N: PlainNode + Drop, R: RowOf<N>>(
-    object_property: Box<ObjectProperty<N>>,
-) -> R
+pub fn row_of_object_property<N: PlainNode + Drop, R: RowOf<N>>(object_property: Box<ObjectProperty<N>>) -> R
     ensures { R.plain result ≡ object_property_row N.plain object_property.value }
 {
     R::of_row(Row::ObjectProperty(object_property))
 }
 
-pub fn row_of_formal_parameter<N: PlainNode + Drop, R: RowOf<N>>(
-    formal_parameter: Box<FormalParameter<N>>,
-) -> R
+pub fn row_of_formal_parameter<N: PlainNode + Drop, R: RowOf<N>>(formal_parameter: Box<FormalParameter<N>>) -> R
     ensures { R.plain result ≡ formal_parameter_row N.plain formal_parameter.value }
 {
     R::of_row(Row::FormalParameter(formal_parameter))
 }
 
-pub fn row_of_formal_parameter_rest<N: PlainNode + Drop, R: RowOf<N>>(
-    formal_parameter_rest: Box<FormalParameterRest<N>>,
-) -> R
+pub fn row_of_formal_parameter_rest<N: PlainNode + Drop, R: RowOf<N>>(formal_parameter_rest: Box<FormalParameterRest<N>>) -> R
     ensures { R.plain result ≡ formal_parameter_rest_row N.plain formal_parameter_rest.value }
 {
     R::of_row(Row::FormalParameterRest(formal_parameter_rest))
 }
 
-pub fn row_of_formal_parameters<N: PlainNode + Drop, R: RowOf<N>>(
-    formal_parameters: Box<FormalParameters<N>>,
-) -> R
+pub fn row_of_formal_parameters<N: PlainNode + Drop, R: RowOf<N>>(formal_parameters: Box<FormalParameters<N>>) -> R
     ensures { R.plain result ≡ formal_parameters_row N.plain formal_parameters.value }
 {
     R::of_row(Row::FormalParameters(formal_parameters))
@@ -248,17 +225,13 @@ pub fn row_of_function<N: PlainNode + Drop, R: RowOf<N>>(function: Box<Function<
     R::of_row(Row::Function(function))
 }
 
-pub fn row_of_function_body<N: PlainNode + Drop, R: RowOf<N>>(
-    function_body: Box<FunctionBody<N>>,
-) -> R
+pub fn row_of_function_body<N: PlainNode + Drop, R: RowOf<N>>(function_body: Box<FunctionBody<N>>) -> R
     ensures { R.plain result ≡ function_body_row N.plain function_body.value }
 {
     R::of_row(Row::FunctionBody(function_body))
 }
 
-pub fn row_of_label_identifier<N: PlainNode + Drop, R: RowOf<N>>(
-    label_identifier: Box<LabelIdentifier>,
-) -> R
+pub fn row_of_label_identifier<N: PlainNode + Drop, R: RowOf<N>>(label_identifier: Box<LabelIdentifier>) -> R
     ensures { R.plain result ≡ label_identifier_row label_identifier.value }
 {
     R::of_row(Row::LabelIdentifier(label_identifier))
@@ -274,4 +247,29 @@ pub fn row_of_catch_clause<N: PlainNode + Drop, R: RowOf<N>>(catch_clause: Box<C
     ensures { R.plain result ≡ catch_clause_row N.plain catch_clause.value }
 {
     R::of_row(Row::CatchClause(catch_clause))
+}
+
+pub fn row_of_private_identifier<N: PlainNode + Drop, R: RowOf<N>>(private_identifier: Box<PrivateIdentifier>) -> R
+    ensures { R.plain result ≡ private_identifier_row private_identifier.value }
+{
+    R::of_row(Row::PrivateIdentifier(private_identifier))
+}
+
+pub fn row_of_class<N: PlainNode + Drop, R: RowOf<N>>(class: Box<Class<N>>) -> R
+    ensures { R.plain result ≡ class_row N.plain class.value }
+{
+    R::of_row(Row::Class(class))
+}
+
+pub fn row_of_class_body<N: PlainNode + Drop, R: RowOf<N>>(class_body: Box<ClassBody<N>>) -> R
+    ensures { R.plain result ≡ class_body_row N.plain class_body.value }
+{
+    R::of_row(Row::ClassBody(class_body))
+}
+
+pub fn row_of_class_element<N: PlainNode + Drop, R: RowOf<N>>(alloc: Global, class_element: ClassElement<N>) -> Result<R, InputFault>
+    ensures { Same R.plain result (Ok (class_element_plain N.plain class_element)) }
+{
+    let class_element = Box::new(alloc, class_element)?;
+    Ok(R::of_row(Row::ClassElement(class_element)))
 }

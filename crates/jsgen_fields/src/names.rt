@@ -28,10 +28,7 @@ const TYPE_NAMES: [(&str, NodeType); 50] = [
     ("LogicalExpression", NodeType::LogicalExpression),
     ("IdentifierName", NodeType::IdentifierName),
     ("StaticMemberExpression", NodeType::StaticMemberExpression),
-    (
-        "ComputedMemberExpression",
-        NodeType::ComputedMemberExpression,
-    ),
+    ("ComputedMemberExpression", NodeType::ComputedMemberExpression),
     ("CallExpression", NodeType::CallExpression),
     ("ChainExpression", NodeType::ChainExpression),
     ("SpreadElement", NodeType::SpreadElement),
@@ -61,7 +58,7 @@ const TYPE_NAMES: [(&str, NodeType); 50] = [
     ("LabelIdentifier", NodeType::LabelIdentifier),
 ];
 
-const TYPE_NAMES_2: [(&str, NodeType); 10] = [
+const TYPE_NAMES_2: [(&str, NodeType); 18] = [
     ("LabeledStatement", NodeType::LabeledStatement),
     ("ContinueStatement", NodeType::ContinueStatement),
     ("BreakStatement", NodeType::BreakStatement),
@@ -72,6 +69,14 @@ const TYPE_NAMES_2: [(&str, NodeType); 10] = [
     ("SwitchCase", NodeType::SwitchCase),
     ("TryStatement", NodeType::TryStatement),
     ("CatchClause", NodeType::CatchClause),
+    ("PrivateIdentifier", NodeType::PrivateIdentifier),
+    ("PrivateFieldExpression", NodeType::PrivateFieldExpression),
+    ("PrivateInExpression", NodeType::PrivateInExpression),
+    ("Class", NodeType::Class),
+    ("ClassBody", NodeType::ClassBody),
+    ("StaticBlock", NodeType::StaticBlock),
+    ("MethodDefinition", NodeType::MethodDefinition),
+    ("PropertyDefinition", NodeType::PropertyDefinition),
 ];
 
 fn first_named(names: &[(&str, NodeType)], name: &str) -> Option<NodeType>

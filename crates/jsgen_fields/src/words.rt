@@ -2,20 +2,16 @@
 // Fields that hold a word.
 ghost use Rattle.std.specs.Prelude.{◌≡◌, true, option_map};
 ghost use Rattle.serde_json.specs.View.{view};
-ghost use Rattle.jsgen_tree.specs.Atom.{no_value, kind_of_comment, content_of_comment, source_kind, declaration_kind, binary_operator, logical_operator, property_kind, unary_operator, update_operator, assignment_operator, kind_of_function};
+ghost use Rattle.jsgen_tree.specs.Atom.{no_value, kind_of_comment, content_of_comment, source_kind, declaration_kind, binary_operator, logical_operator, property_kind, unary_operator, update_operator, assignment_operator, kind_of_function, class_form, kind_of_method};
 ghost use Rattle.jsgen_tree.specs.Table.{word};
-ghost use Rattle.jsgen_tree.specs.Fields.{kind_of_comment_words, content_of_comment_words, source_kind_words, declaration_kind_words, binary_operator_words, logical_operator_words, property_kind_words, unary_operator_words, update_operator_words, assignment_operator_words, kind_of_function_words};
+ghost use Rattle.jsgen_tree.specs.Fields.{kind_of_comment_words, content_of_comment_words, source_kind_words, declaration_kind_words, binary_operator_words, logical_operator_words, property_kind_words, unary_operator_words, update_operator_words, assignment_operator_words, kind_of_function_words, class_form_words, kind_of_method_words};
 ghost use Rattle.jsgen_fields.specs.Reads.{read_value};
 ghost use Rattle.jsgen_fields.specs.Values.{Same, at, field as value_under, word_meaning, words_of_length};
 
 use crate::values::needed_word;
 use crate::{At, InputFault};
-use jsgen_syntax::{
-    AssignmentOperator, BinaryOperator, LogicalOperator, SourceKind, UnaryOperator, UpdateOperator,
-};
-use jsgen_tree::{
-    CommentContent, CommentKind, FunctionKind, PropertyKind, VariableDeclarationKind,
-};
+use jsgen_syntax::{AssignmentOperator, BinaryOperator, LogicalOperator, SourceKind, UnaryOperator, UpdateOperator};
+use jsgen_tree::{ClassKind, CommentContent, CommentKind, FunctionKind, MethodDefinitionKind, PropertyKind, VariableDeclarationKind};
 use serde_json::Value;
 
 fn kind_of_comment_by_word(word: &str) -> Option<CommentKind>
@@ -31,12 +27,7 @@ fn kind_of_comment_by_word(word: &str) -> Option<CommentKind>
     }
 }
 
-pub fn needed_kind_of_comment(
-    number: usize,
-    field: usize,
-    row: &Value,
-    name: &str,
-) -> Result<CommentKind, InputFault>
+pub fn needed_kind_of_comment(number: usize, field: usize, row: &Value, name: &str) -> Result<CommentKind, InputFault>
     ensures { Same (λ o. kind_of_comment o) result
         (read_value (at number field) true no_value (word kind_of_comment_words) (value_under name.now (view row.now))) }
 {
@@ -149,12 +140,7 @@ fn content_of_comment_by_word(word: &str) -> Option<CommentContent>
     }
 }
 
-pub fn needed_content_of_comment(
-    number: usize,
-    field: usize,
-    row: &Value,
-    name: &str,
-) -> Result<CommentContent, InputFault>
+pub fn needed_content_of_comment(number: usize, field: usize, row: &Value, name: &str) -> Result<CommentContent, InputFault>
     ensures { Same (λ o. content_of_comment o) result
         (read_value (at number field) true no_value (word content_of_comment_words) (value_under name.now (view row.now))) }
 {
@@ -176,12 +162,7 @@ fn source_kind_by_word(word: &str) -> Option<SourceKind>
     }
 }
 
-pub fn needed_source_kind(
-    number: usize,
-    field: usize,
-    row: &Value,
-    name: &str,
-) -> Result<SourceKind, InputFault>
+pub fn needed_source_kind(number: usize, field: usize, row: &Value, name: &str) -> Result<SourceKind, InputFault>
     ensures { Same (λ o. source_kind o) result
         (read_value (at number field) true no_value (word source_kind_words) (value_under name.now (view row.now))) }
 {
@@ -205,12 +186,7 @@ fn declaration_kind_by_word(word: &str) -> Option<VariableDeclarationKind>
     }
 }
 
-pub fn needed_declaration_kind(
-    number: usize,
-    field: usize,
-    row: &Value,
-    name: &str,
-) -> Result<VariableDeclarationKind, InputFault>
+pub fn needed_declaration_kind(number: usize, field: usize, row: &Value, name: &str) -> Result<VariableDeclarationKind, InputFault>
     ensures { Same (λ o. declaration_kind o) result
         (read_value (at number field) true no_value (word declaration_kind_words) (value_under name.now (view row.now))) }
 {
@@ -289,12 +265,7 @@ fn binary_operator_by_word(word: &str) -> Option<BinaryOperator>
     }
 }
 
-pub fn needed_binary_operator(
-    number: usize,
-    field: usize,
-    row: &Value,
-    name: &str,
-) -> Result<BinaryOperator, InputFault>
+pub fn needed_binary_operator(number: usize, field: usize, row: &Value, name: &str) -> Result<BinaryOperator, InputFault>
     ensures { Same (λ o. binary_operator o) result
         (read_value (at number field) true no_value (word binary_operator_words) (value_under name.now (view row.now))) }
 {
@@ -318,12 +289,7 @@ fn logical_operator_by_word(word: &str) -> Option<LogicalOperator>
     }
 }
 
-pub fn needed_logical_operator(
-    number: usize,
-    field: usize,
-    row: &Value,
-    name: &str,
-) -> Result<LogicalOperator, InputFault>
+pub fn needed_logical_operator(number: usize, field: usize, row: &Value, name: &str) -> Result<LogicalOperator, InputFault>
     ensures { Same (λ o. logical_operator o) result
         (read_value (at number field) true no_value (word logical_operator_words) (value_under name.now (view row.now))) }
 {
@@ -347,12 +313,7 @@ fn property_kind_by_word(word: &str) -> Option<PropertyKind>
     }
 }
 
-pub fn needed_property_kind(
-    number: usize,
-    field: usize,
-    row: &Value,
-    name: &str,
-) -> Result<PropertyKind, InputFault>
+pub fn needed_property_kind(number: usize, field: usize, row: &Value, name: &str) -> Result<PropertyKind, InputFault>
     ensures { Same (λ o. property_kind o) result
         (read_value (at number field) true no_value (word property_kind_words) (value_under name.now (view row.now))) }
 {
@@ -407,12 +368,7 @@ fn unary_operator_by_word(word: &str) -> Option<UnaryOperator>
     }
 }
 
-pub fn needed_unary_operator(
-    number: usize,
-    field: usize,
-    row: &Value,
-    name: &str,
-) -> Result<UnaryOperator, InputFault>
+pub fn needed_unary_operator(number: usize, field: usize, row: &Value, name: &str) -> Result<UnaryOperator, InputFault>
     ensures { Same (λ o. unary_operator o) result
         (read_value (at number field) true no_value (word unary_operator_words) (value_under name.now (view row.now))) }
 {
@@ -435,12 +391,7 @@ fn update_operator_by_word(word: &str) -> Option<UpdateOperator>
     }
 }
 
-pub fn needed_update_operator(
-    number: usize,
-    field: usize,
-    row: &Value,
-    name: &str,
-) -> Result<UpdateOperator, InputFault>
+pub fn needed_update_operator(number: usize, field: usize, row: &Value, name: &str) -> Result<UpdateOperator, InputFault>
     ensures { Same (λ o. update_operator o) result
         (read_value (at number field) true no_value (word update_operator_words) (value_under name.now (view row.now))) }
 {
@@ -513,12 +464,7 @@ fn assignment_operator_by_word(word: &str) -> Option<AssignmentOperator>
     }
 }
 
-pub fn needed_assignment_operator(
-    number: usize,
-    field: usize,
-    row: &Value,
-    name: &str,
-) -> Result<AssignmentOperator, InputFault>
+pub fn needed_assignment_operator(number: usize, field: usize, row: &Value, name: &str) -> Result<AssignmentOperator, InputFault>
     ensures { Same (λ o. assignment_operator o) result
         (read_value (at number field) true no_value (word assignment_operator_words) (value_under name.now (view row.now))) }
 {
@@ -541,17 +487,60 @@ fn kind_of_function_by_word(word: &str) -> Option<FunctionKind>
     }
 }
 
-pub fn needed_kind_of_function(
-    number: usize,
-    field: usize,
-    row: &Value,
-    name: &str,
-) -> Result<FunctionKind, InputFault>
+pub fn needed_kind_of_function(number: usize, field: usize, row: &Value, name: &str) -> Result<FunctionKind, InputFault>
     ensures { Same (λ o. kind_of_function o) result
         (read_value (at number field) true no_value (word kind_of_function_words) (value_under name.now (view row.now))) }
 {
     match needed_word(number, field, row, name) {
         Ok(word) => match kind_of_function_by_word(word) {
+            Some(found) => Ok(found),
+            None => Err(InputFault::Wrong(At::of_row(number, field))),
+        },
+        Err(fault) => Err(fault),
+    }
+}
+
+fn class_form_by_word(word: &str) -> Option<ClassKind>
+    ensures { option_map class_form result ≡ word_meaning class_form_words word.now }
+{
+    match word {
+        "declaration" => Some(ClassKind::Declaration),
+        "expression" => Some(ClassKind::Expression),
+        _ => None,
+    }
+}
+
+pub fn needed_class_form(number: usize, field: usize, row: &Value, name: &str) -> Result<ClassKind, InputFault>
+    ensures { Same (λ o. class_form o) result
+        (read_value (at number field) true no_value (word class_form_words) (value_under name.now (view row.now))) }
+{
+    match needed_word(number, field, row, name) {
+        Ok(word) => match class_form_by_word(word) {
+            Some(found) => Ok(found),
+            None => Err(InputFault::Wrong(At::of_row(number, field))),
+        },
+        Err(fault) => Err(fault),
+    }
+}
+
+fn kind_of_method_by_word(word: &str) -> Option<MethodDefinitionKind>
+    ensures { option_map kind_of_method result ≡ word_meaning kind_of_method_words word.now }
+{
+    match word {
+        "constructor" => Some(MethodDefinitionKind::Constructor),
+        "method" => Some(MethodDefinitionKind::Method),
+        "get" => Some(MethodDefinitionKind::Get),
+        "set" => Some(MethodDefinitionKind::Set),
+        _ => None,
+    }
+}
+
+pub fn needed_kind_of_method(number: usize, field: usize, row: &Value, name: &str) -> Result<MethodDefinitionKind, InputFault>
+    ensures { Same (λ o. kind_of_method o) result
+        (read_value (at number field) true no_value (word kind_of_method_words) (value_under name.now (view row.now))) }
+{
+    match needed_word(number, field, row, name) {
+        Ok(word) => match kind_of_method_by_word(word) {
             Some(found) => Ok(found),
             None => Err(InputFault::Wrong(At::of_row(number, field))),
         },

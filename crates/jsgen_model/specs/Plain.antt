@@ -22,6 +22,14 @@ use Rattle.jsgen_tree.specs.Job.{JobData}
 abbrev pub is_plain_type : NodeType → Bool
 -- generated from tools/nodes/table.txt: types
 is_plain_type types.ImportMeta = false
+is_plain_type types.PrivateIdentifier = false
+is_plain_type types.PrivateFieldExpression = false
+is_plain_type types.PrivateInExpression = false
+is_plain_type types.Class = false
+is_plain_type types.ClassBody = false
+is_plain_type types.StaticBlock = false
+is_plain_type types.MethodDefinition = false
+is_plain_type types.PropertyDefinition = false
 -- end of what is generated: types
 is_plain_type type = true
 
@@ -34,6 +42,9 @@ has_plain_flags types.FormalParameter a = not (formal_parameter_is_override a) &
 has_plain_flags types.Function a = not (function_is_async a) && not (function_generator a) && not (function_declare a)
 has_plain_flags types.ArrowFunctionExpression a = not (arrow_function_expression_is_async a)
 has_plain_flags types.ForOfStatement a = not (for_of_statement_is_await a)
+has_plain_flags types.Class a = not (class_declare a) && not (class_is_abstract a)
+has_plain_flags types.MethodDefinition a = not (method_definition_is_override a) && not (method_definition_is_abstract a) && not (method_definition_optional a)
+has_plain_flags types.PropertyDefinition a = not (property_definition_declare a) && not (property_definition_is_abstract a) && not (property_definition_is_override a) && not (property_definition_readonly a) && not (property_definition_optional a) && not (property_definition_definite a)
 -- end of what is generated: flags
 has_plain_flags type a = true
 
@@ -124,6 +135,14 @@ is_formed (tree.switch_statement a discriminant cases) = has_no_hole cases
 is_formed (tree.switch_case a test consequent) = has_no_hole consequent
 is_formed (tree.try_statement a block handler finalizer) = true
 is_formed (tree.catch_clause a param body) = true
+is_formed (tree.private_identifier a) = true
+is_formed (tree.private_member a object field) = true
+is_formed (tree.private_in a left right) = true
+is_formed (tree.class a id heritage body) = true
+is_formed (tree.class_body a body) = has_no_hole body
+is_formed (tree.static_block a body) = has_no_hole body
+is_formed (tree.method_definition a key value) = true
+is_formed (tree.property_definition a key value) = true
 -- end of what is generated: formed
 is_formed t = false
 

@@ -106,6 +106,7 @@ impl PrintNode for Node {
             Node::Statement(node) => print_statement(node, p, place),
             Node::Declaration(node) => print_declaration(node, p, place),
             Node::BindingPattern(node) => print_binding_pattern(node, p, place),
+            Node::ClassElement(node) => print_class_element(node, p, place),
         }
     }
 
@@ -125,6 +126,7 @@ impl PrintNode for Node {
                 _ => {}
             },
             Node::BindingPattern(_) => {}
+            Node::ClassElement(_) => {}
         }
     }
 

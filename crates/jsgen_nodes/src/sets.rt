@@ -1,7 +1,7 @@
 // Generated from tools/nodes/table.txt; edit that and run tools/nodes/generate.
 // A set prints as its member does.
 ghost use Rattle.std.specs.Prelude.{◌≡◌, true, nat_le};
-ghost use Rattle.jsgen_tree.specs.Rows.{in_simple_assignment_target, in_assignment_target, expression_plain, declaration_plain, statement_plain, binding_pattern_plain};
+ghost use Rattle.jsgen_tree.specs.Rows.{in_simple_assignment_target, in_assignment_target, expression_plain, declaration_plain, statement_plain, binding_pattern_plain, class_element_plain};
 ghost use Rattle.jsgen_printer.specs.Steps.{Lays};
 ghost use Rattle.jsgen_model.specs.Spell.{spell};
 ghost use Rattle.jsgen_nodes.specs.Parts.{expression_part, declaration_part, statement_part};
@@ -9,34 +9,23 @@ ghost use Rattle.jsgen_nodes.specs.Parts.{expression_part, declaration_part, sta
 use crate::assignments::print_assignment_expression;
 use crate::choices::{print_switch_statement, print_try_statement};
 use crate::collections::{print_array_expression, print_object_expression};
-use crate::expressions::{
-    print_big_int_literal, print_binary_expression, print_boolean_literal, print_call_expression,
-    print_chain_expression, print_computed_member_expression, print_logical_expression,
-    print_numeric_literal, print_static_member_expression, print_string_literal,
-};
+use crate::expressions::{print_big_int_literal, print_binary_expression, print_boolean_literal, print_call_expression, print_chain_expression, print_computed_member_expression, print_logical_expression, print_numeric_literal, print_static_member_expression, print_string_literal};
 use crate::functions::{print_arrow_function_expression, print_function};
-use crate::loops::{
-    print_do_while_statement, print_for_in_statement, print_for_of_statement, print_for_statement,
-};
+use crate::loops::{print_do_while_statement, print_for_in_statement, print_for_of_statement, print_for_statement};
 use crate::operations::{print_new_expression, print_update_expression};
 use crate::statements::{print_block_statement, print_if_statement};
 use crate::{Inside, PrintNode};
 use jsgen_inside::{print_binding_identifier, print_identifier_reference};
 use jsgen_place::Place;
 use jsgen_printer::Printer;
-use jsgen_spelled::{
-    print_break_statement, print_conditional_expression, print_continue_statement,
-    print_debugger_statement, print_empty_statement, print_expression_statement, print_import_meta,
-    print_labeled_statement, print_new_target, print_null_literal, print_parenthesized_expression,
-    print_return_statement, print_sequence_expression, print_super, print_this_expression,
-    print_throw_statement, print_unary_expression, print_variable_declaration,
-    print_while_statement,
-};
-use jsgen_tree::{
-    AssignmentTarget, BindingPattern, Declaration, Expression, SimpleAssignmentTarget, Statement,
-};
+use jsgen_spelled::{print_break_statement, print_conditional_expression, print_continue_statement, print_debugger_statement, print_empty_statement, print_expression_statement, print_import_meta, print_labeled_statement, print_new_target, print_null_literal, print_parenthesized_expression, print_return_statement, print_sequence_expression, print_super, print_this_expression, print_throw_statement, print_unary_expression, print_variable_declaration, print_while_statement};
+use jsgen_tree::{AssignmentTarget, BindingPattern, ClassElement, Declaration, Expression, SimpleAssignmentTarget, Statement};
 
-pub fn print_expression<N: PrintNode>(node: &Expression<N>, p: &mut Printer<'_>, place: Place)
+pub fn print_expression<N: PrintNode>(
+    node: &Expression<N>,
+    p: &mut Printer<'_>,
+    place: Place,
+)
     ensures { Lays p.old p.new (spell (expression_plain N.plain node.now) place) }
 {
     match node {
@@ -47,15 +36,11 @@ pub fn print_expression<N: PrintNode>(node: &Expression<N>, p: &mut Printer<'_>,
         Expression::NumericLiteral(node) => print_numeric_literal(node, p, place),
         Expression::BigIntLiteral(node) => print_big_int_literal(node, p, place),
         Expression::StringLiteral(node) => print_string_literal(node, p, place),
-        Expression::ParenthesizedExpression(node) => print_parenthesized_expression::<_, Inside>(
-            node, p, place,
-        ),
+        Expression::ParenthesizedExpression(node) => print_parenthesized_expression::<_, Inside>(node, p, place),
         Expression::BinaryExpression(node) => print_binary_expression(node, p, place),
         Expression::LogicalExpression(node) => print_logical_expression(node, p, place),
         Expression::StaticMemberExpression(node) => print_static_member_expression(node, p, place),
-        Expression::ComputedMemberExpression(node) => print_computed_member_expression(
-            node, p, place,
-        ),
+        Expression::ComputedMemberExpression(node) => print_computed_member_expression(node, p, place),
         Expression::CallExpression(node) => print_call_expression(node, p, place),
         Expression::ChainExpression(node) => print_chain_expression(node, p, place),
         _ => print_expression_in_collections(node, p, place),
@@ -105,12 +90,8 @@ fn print_expression_in_assignments<N: PrintNode>(
     ensures { Lays p.old p.new (spell (expression_plain N.plain node.now) place) }
 {
     match node {
-        Expression::ConditionalExpression(node) => print_conditional_expression::<_, Inside>(
-            node, p, place,
-        ),
-        Expression::SequenceExpression(node) => print_sequence_expression::<_, Inside>(
-            node, p, place,
-        ),
+        Expression::ConditionalExpression(node) => print_conditional_expression::<_, Inside>(node, p, place),
+        Expression::SequenceExpression(node) => print_sequence_expression::<_, Inside>(node, p, place),
         Expression::AssignmentExpression(node) => print_assignment_expression(node, p, place),
         _ => print_expression_in_functions(node, p, place),
     }
@@ -126,20 +107,36 @@ fn print_expression_in_functions<N: PrintNode>(
 {
     match node {
         Expression::Function(node) => print_function(node, p, place),
-        Expression::ArrowFunctionExpression(node) => print_arrow_function_expression(
-            node, p, place,
-        ),
+        Expression::ArrowFunctionExpression(node) => print_arrow_function_expression(node, p, place),
+        _ => print_expression_in_classes(node, p, place),
+    }
+}
+
+fn print_expression_in_classes<N: PrintNode>(
+    node: &Expression<N>,
+    p: &mut Printer<'_>,
+    place: Place,
+)
+    requires { nat_le 5 (expression_part node.now) ≡ true }
+    ensures { Lays p.old p.new (spell (expression_plain N.plain node.now) place) }
+{
+    match node {
+        Expression::PrivateFieldExpression(node) => print_private_field_expression(node, p, place),
+        Expression::PrivateInExpression(node) => print_private_in_expression(node, p, place),
+        Expression::Class(node) => print_class(node, p, place),
         _ => unreachable!(),
     }
 }
 
-pub fn print_declaration<N: PrintNode>(node: &Declaration<N>, p: &mut Printer<'_>, place: Place)
+pub fn print_declaration<N: PrintNode>(
+    node: &Declaration<N>,
+    p: &mut Printer<'_>,
+    place: Place,
+)
     ensures { Lays p.old p.new (spell (declaration_plain N.plain node.now) place) }
 {
     match node {
-        Declaration::VariableDeclaration(node) => print_variable_declaration::<_, Inside>(
-            node, p, place,
-        ),
+        Declaration::VariableDeclaration(node) => print_variable_declaration::<_, Inside>(node, p, place),
         _ => print_declaration_in_functions(node, p, place),
     }
 }
@@ -154,11 +151,29 @@ fn print_declaration_in_functions<N: PrintNode>(
 {
     match node {
         Declaration::Function(node) => print_function(node, p, place),
+        _ => print_declaration_in_classes(node, p, place),
+    }
+}
+
+fn print_declaration_in_classes<N: PrintNode>(
+    node: &Declaration<N>,
+    p: &mut Printer<'_>,
+    place: Place,
+)
+    requires { nat_le 2 (declaration_part node.now) ≡ true }
+    ensures { Lays p.old p.new (spell (declaration_plain N.plain node.now) place) }
+{
+    match node {
+        Declaration::Class(node) => print_class(node, p, place),
         _ => unreachable!(),
     }
 }
 
-pub fn print_statement<N: PrintNode>(node: &Statement<N>, p: &mut Printer<'_>, place: Place)
+pub fn print_statement<N: PrintNode>(
+    node: &Statement<N>,
+    p: &mut Printer<'_>,
+    place: Place,
+)
     ensures { Lays p.old p.new (spell (statement_plain N.plain node.now) place) }
 {
     match node {
@@ -176,9 +191,7 @@ fn print_statement_in_statements<N: PrintNode>(
     ensures { Lays p.old p.new (spell (statement_plain N.plain node.now) place) }
 {
     match node {
-        Statement::ExpressionStatement(node) => print_expression_statement::<_, Inside>(
-            node, p, place,
-        ),
+        Statement::ExpressionStatement(node) => print_expression_statement::<_, Inside>(node, p, place),
         Statement::BlockStatement(node) => print_block_statement(node, p, place),
         Statement::IfStatement(node) => print_if_statement(node, p, place),
         Statement::EmptyStatement(node) => print_empty_statement(node, p, place),
@@ -186,7 +199,11 @@ fn print_statement_in_statements<N: PrintNode>(
     }
 }
 
-fn print_statement_in_loops<N: PrintNode>(node: &Statement<N>, p: &mut Printer<'_>, place: Place)
+fn print_statement_in_loops<N: PrintNode>(
+    node: &Statement<N>,
+    p: &mut Printer<'_>,
+    place: Place,
+)
     requires { nat_le 2 (statement_part node.now) ≡ true }
     ensures { Lays p.old p.new (spell (statement_plain N.plain node.now) place) }
 {
@@ -206,7 +223,11 @@ fn print_statement_in_loops<N: PrintNode>(node: &Statement<N>, p: &mut Printer<'
     }
 }
 
-fn print_statement_in_choices<N: PrintNode>(node: &Statement<N>, p: &mut Printer<'_>, place: Place)
+fn print_statement_in_choices<N: PrintNode>(
+    node: &Statement<N>,
+    p: &mut Printer<'_>,
+    place: Place,
+)
     requires { nat_le 3 (statement_part node.now) ≡ true }
     ensures { Lays p.old p.new (spell (statement_plain N.plain node.now) place) }
 {
@@ -217,11 +238,29 @@ fn print_statement_in_choices<N: PrintNode>(node: &Statement<N>, p: &mut Printer
     }
 }
 
-pub fn print_binding_pattern(node: &BindingPattern, p: &mut Printer<'_>, place: Place)
+pub fn print_binding_pattern(
+    node: &BindingPattern,
+    p: &mut Printer<'_>,
+    place: Place,
+)
     ensures { Lays p.old p.new (spell (binding_pattern_plain node.now) place) }
 {
     match node {
         BindingPattern::BindingIdentifier(node) => print_binding_identifier(node, p, place),
+    }
+}
+
+pub fn print_class_element<N: PrintNode>(
+    node: &ClassElement<N>,
+    p: &mut Printer<'_>,
+    place: Place,
+)
+    ensures { Lays p.old p.new (spell (class_element_plain N.plain node.now) place) }
+{
+    match node {
+        ClassElement::StaticBlock(node) => print_static_block(node, p, place),
+        ClassElement::MethodDefinition(node) => print_method_definition(node, p, place),
+        ClassElement::PropertyDefinition(node) => print_property_definition(node, p, place),
     }
 }
 
@@ -233,15 +272,10 @@ pub fn print_simple_assignment_target<N: PrintNode>(
     ensures { Lays p.old p.new (spell (in_simple_assignment_target N.plain node.now) place) }
 {
     match node {
-        SimpleAssignmentTarget::IdentifierReference(node) => print_identifier_reference(
-            node, p, place,
-        ),
-        SimpleAssignmentTarget::StaticMemberExpression(node) => print_static_member_expression(
-            node, p, place,
-        ),
-        SimpleAssignmentTarget::ComputedMemberExpression(node) => print_computed_member_expression(
-            node, p, place,
-        ),
+        SimpleAssignmentTarget::IdentifierReference(node) => print_identifier_reference(node, p, place),
+        SimpleAssignmentTarget::StaticMemberExpression(node) => print_static_member_expression(node, p, place),
+        SimpleAssignmentTarget::ComputedMemberExpression(node) => print_computed_member_expression(node, p, place),
+        SimpleAssignmentTarget::PrivateFieldExpression(node) => print_private_field_expression(node, p, place),
     }
 }
 
@@ -254,11 +288,8 @@ pub fn print_assignment_target<N: PrintNode>(
 {
     match node {
         AssignmentTarget::IdentifierReference(node) => print_identifier_reference(node, p, place),
-        AssignmentTarget::StaticMemberExpression(node) => print_static_member_expression(
-            node, p, place,
-        ),
-        AssignmentTarget::ComputedMemberExpression(node) => print_computed_member_expression(
-            node, p, place,
-        ),
+        AssignmentTarget::StaticMemberExpression(node) => print_static_member_expression(node, p, place),
+        AssignmentTarget::ComputedMemberExpression(node) => print_computed_member_expression(node, p, place),
+        AssignmentTarget::PrivateFieldExpression(node) => print_private_field_expression(node, p, place),
     }
 }

@@ -73,6 +73,7 @@ pub fn is_member(node: &Node, object: &str, name: &str) -> bool
         },
         Node::Declaration(_) => false,
         Node::BindingPattern(_) => false,
+        Node::ClassElement(_) => false,
     }
 }
 
@@ -89,5 +90,6 @@ pub fn is_binding_name(node: &Node) -> bool
         },
         Node::Declaration(_) => false,
         Node::BindingPattern(BindingPattern::BindingIdentifier(_)) => true,
+        Node::ClassElement(_) => false,
     }
 }

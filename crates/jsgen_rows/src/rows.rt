@@ -4,8 +4,9 @@ ghost use Rattle.std.specs.Prelude.{◌≡◌};
 ghost use Rattle.serde_json.specs.View.{view};
 ghost use Rattle.jsgen_fields.specs.Reads.{Gives, read_typed};
 ghost use Rattle.jsgen_pool.specs.Pool.{entries};
-ghost use Rattle.jsgen_fields.specs.Parts.{is_in_statements, is_in_expressions, is_in_collections, is_in_operations, is_in_assignments, is_in_functions, is_in_loops};
+ghost use Rattle.jsgen_fields.specs.Parts.{is_in_statements, is_in_expressions, is_in_collections, is_in_operations, is_in_assignments, is_in_functions, is_in_loops, is_in_choices};
 
+use jsgen_class_rows::classes::read_in_classes;
 use jsgen_expression_rows::assignments::read_in_assignments;
 use jsgen_expression_rows::collections::read_in_collections;
 use jsgen_expression_rows::expressions::read_in_expressions;
@@ -134,6 +135,18 @@ fn is_in_loops(node_type: NodeType) -> bool
     )
 }
 
+fn is_in_choices(node_type: NodeType) -> bool
+    ensures { result ≡ is_in_choices node_type }
+{
+    matches!(
+        &node_type,
+        NodeType::SwitchStatement
+            | NodeType::SwitchCase
+            | NodeType::TryStatement
+            | NodeType::CatchClause
+    )
+}
+
 /// The row of a type.
 pub fn read_typed<N: ReadNode + Drop, R: RowOf<N> + Drop>(
     alloc: Global,
@@ -167,5 +180,8 @@ pub fn read_typed<N: ReadNode + Drop, R: RowOf<N> + Drop>(
     if is_in_loops(node_type) {
         return read_in_loops::<N, R>(alloc, kept, node_type, number, span, row);
     }
-    read_in_choices::<N, R>(alloc, kept, node_type, number, span, row)
+    if is_in_choices(node_type) {
+        return read_in_choices::<N, R>(alloc, kept, node_type, number, span, row);
+    }
+    read_in_classes::<N, R>(alloc, kept, node_type, number, span, row)
 }

@@ -34,6 +34,9 @@ is_expression types.SequenceExpression = true
 is_expression types.AssignmentExpression = true
 is_expression types.Function = true
 is_expression types.ArrowFunctionExpression = true
+is_expression types.Class = true
+is_expression types.PrivateFieldExpression = true
+is_expression types.PrivateInExpression = true
 is_expression type = false
 
 abbrev pub is_argument : NodeType → Bool
@@ -47,6 +50,7 @@ is_array_expression_element type = is_expression type
 abbrev pub is_chain_element : NodeType → Bool
 is_chain_element types.StaticMemberExpression = true
 is_chain_element types.ComputedMemberExpression = true
+is_chain_element types.PrivateFieldExpression = true
 is_chain_element types.CallExpression = true
 is_chain_element type = false
 
@@ -54,12 +58,14 @@ abbrev pub is_simple_assignment_target : NodeType → Bool
 is_simple_assignment_target types.IdentifierReference = true
 is_simple_assignment_target types.StaticMemberExpression = true
 is_simple_assignment_target types.ComputedMemberExpression = true
+is_simple_assignment_target types.PrivateFieldExpression = true
 is_simple_assignment_target type = false
 
 abbrev pub is_assignment_target : NodeType → Bool
 is_assignment_target types.IdentifierReference = true
 is_assignment_target types.StaticMemberExpression = true
 is_assignment_target types.ComputedMemberExpression = true
+is_assignment_target types.PrivateFieldExpression = true
 is_assignment_target type = false
 
 abbrev pub is_arrow_function_body : NodeType → Bool
@@ -75,6 +81,7 @@ is_for_statement_left types.VariableDeclaration = true
 is_for_statement_left types.IdentifierReference = true
 is_for_statement_left types.StaticMemberExpression = true
 is_for_statement_left types.ComputedMemberExpression = true
+is_for_statement_left types.PrivateFieldExpression = true
 is_for_statement_left type = false
 
 abbrev pub is_object_property_kind : NodeType → Bool
@@ -84,11 +91,13 @@ is_object_property_kind type = false
 
 abbrev pub is_property_key : NodeType → Bool
 is_property_key types.IdentifierName = true
+is_property_key types.PrivateIdentifier = true
 is_property_key type = is_expression type
 
 abbrev pub is_declaration : NodeType → Bool
 is_declaration types.VariableDeclaration = true
 is_declaration types.Function = true
+is_declaration types.Class = true
 is_declaration type = false
 
 abbrev pub is_statement : NodeType → Bool
@@ -114,6 +123,12 @@ is_statement type = is_declaration type
 abbrev pub is_binding_pattern : NodeType → Bool
 is_binding_pattern types.BindingIdentifier = true
 is_binding_pattern type = false
+
+abbrev pub is_class_element : NodeType → Bool
+is_class_element types.StaticBlock = true
+is_class_element types.MethodDefinition = true
+is_class_element types.PropertyDefinition = true
+is_class_element type = false
 
 abbrev pub is_comment : NodeType → Bool
 is_comment types.Comment = true
@@ -167,6 +182,18 @@ abbrev pub is_catch_clause : NodeType → Bool
 is_catch_clause types.CatchClause = true
 is_catch_clause type = false
 
+abbrev pub is_private_identifier : NodeType → Bool
+is_private_identifier types.PrivateIdentifier = true
+is_private_identifier type = false
+
+abbrev pub is_class_body : NodeType → Bool
+is_class_body types.ClassBody = true
+is_class_body type = false
+
+abbrev pub is_function : NodeType → Bool
+is_function types.Function = true
+is_function type = false
+
 abbrev pub in_set : NodeSet → NodeType → Bool
 in_set sets.Comment t = is_comment t
 in_set sets.Directive t = is_directive t
@@ -194,4 +221,8 @@ in_set sets.LabelIdentifier t = is_label_identifier t
 in_set sets.SwitchCase t = is_switch_case t
 in_set sets.BlockStatement t = is_block_statement t
 in_set sets.CatchClause t = is_catch_clause t
+in_set sets.PrivateIdentifier t = is_private_identifier t
+in_set sets.ClassBody t = is_class_body t
+in_set sets.ClassElement t = is_class_element t
+in_set sets.Function t = is_function t
 in_set sets.Link t = is_expression t

@@ -3,6 +3,10 @@
 
 use crate::assignments::{AssignmentExpression, ConditionalExpression, SequenceExpression};
 use crate::choices::{SwitchStatement, TryStatement};
+use crate::classes::{
+    Class, MethodDefinition, PrivateFieldExpression, PrivateIdentifier, PrivateInExpression,
+    PropertyDefinition, StaticBlock,
+};
 use crate::collections::{ArrayExpression, ObjectExpression, ObjectProperty, SpreadElement};
 use crate::expressions::{
     BigIntLiteral, BinaryExpression, BooleanLiteral, CallExpression, ChainExpression,
@@ -53,6 +57,9 @@ pub enum Expression<N = Node> {
     AssignmentExpression(Box<AssignmentExpression<N>>),
     Function(Box<Function<N>>),
     ArrowFunctionExpression(Box<ArrowFunctionExpression<N>>),
+    Class(Box<Class<N>>),
+    PrivateFieldExpression(Box<PrivateFieldExpression<N>>),
+    PrivateInExpression(Box<PrivateInExpression<N>>),
 }
 
 /// What a call is given.
@@ -74,6 +81,7 @@ pub enum ArrayExpressionElement<N = Node> {
 pub enum ChainElement<N = Node> {
     StaticMemberExpression(Box<StaticMemberExpression<N>>),
     ComputedMemberExpression(Box<ComputedMemberExpression<N>>),
+    PrivateFieldExpression(Box<PrivateFieldExpression<N>>),
     CallExpression(Box<CallExpression<N>>),
 }
 
@@ -83,6 +91,7 @@ pub enum SimpleAssignmentTarget<N = Node> {
     IdentifierReference(Box<IdentifierReference>),
     StaticMemberExpression(Box<StaticMemberExpression<N>>),
     ComputedMemberExpression(Box<ComputedMemberExpression<N>>),
+    PrivateFieldExpression(Box<PrivateFieldExpression<N>>),
 }
 
 /// What may be given a value: so far what may be changed as it stands.
@@ -91,6 +100,7 @@ pub enum AssignmentTarget<N = Node> {
     IdentifierReference(Box<IdentifierReference>),
     StaticMemberExpression(Box<StaticMemberExpression<N>>),
     ComputedMemberExpression(Box<ComputedMemberExpression<N>>),
+    PrivateFieldExpression(Box<PrivateFieldExpression<N>>),
 }
 
 /// What an arrow function does: its statements, or an expression whose value is the result.
@@ -114,6 +124,7 @@ pub enum ForStatementLeft<N = Node> {
     IdentifierReference(Box<IdentifierReference>),
     StaticMemberExpression(Box<StaticMemberExpression<N>>),
     ComputedMemberExpression(Box<ComputedMemberExpression<N>>),
+    PrivateFieldExpression(Box<PrivateFieldExpression<N>>),
 }
 
 /// What may stand in an object.
@@ -127,6 +138,7 @@ pub enum ObjectPropertyKind<N = Node> {
 #[derive(Drop)]
 pub enum PropertyKey<N = Node> {
     IdentifierName(Box<IdentifierName>),
+    PrivateIdentifier(Box<PrivateIdentifier>),
     Expression(Box<ExpressionNode<N>>),
 }
 
@@ -134,6 +146,7 @@ pub enum PropertyKey<N = Node> {
 pub enum Declaration<N = Node> {
     VariableDeclaration(Box<VariableDeclaration<N>>),
     Function(Box<Function<N>>),
+    Class(Box<Class<N>>),
 }
 
 #[derive(Drop)]
@@ -161,4 +174,11 @@ pub enum Statement<N = Node> {
 #[derive(Drop)]
 pub enum BindingPattern {
     BindingIdentifier(Box<BindingIdentifier>),
+}
+
+#[derive(Drop)]
+pub enum ClassElement<N = Node> {
+    StaticBlock(Box<StaticBlock<N>>),
+    MethodDefinition(Box<MethodDefinition<N>>),
+    PropertyDefinition(Box<PropertyDefinition<N>>),
 }

@@ -1,7 +1,7 @@
 // Generated from tools/nodes/table.txt; edit that and run tools/nodes/generate.
 // The types of nodes, and the sets that a field's child may be of.
 ghost use Rattle.std.specs.Prelude.{◌≡◌};
-ghost use Rattle.jsgen_tree.specs.Sets.{in_set, is_expression, is_argument, is_array_expression_element, is_chain_element, is_simple_assignment_target, is_assignment_target, is_arrow_function_body, is_for_statement_init, is_for_statement_left, is_object_property_kind, is_property_key, is_declaration, is_statement};
+ghost use Rattle.jsgen_tree.specs.Sets.{in_set, is_expression, is_argument, is_array_expression_element, is_chain_element, is_simple_assignment_target, is_assignment_target, is_arrow_function_body, is_for_statement_init, is_for_statement_left, is_object_property_kind, is_property_key, is_declaration, is_statement, is_class_element};
 
 /// The type of a node.
 #[derive(Clone, Copy, Debug, PartialEq, Eq)]
@@ -66,6 +66,14 @@ pub enum NodeType {
     SwitchCase,
     TryStatement,
     CatchClause,
+    PrivateIdentifier,
+    PrivateFieldExpression,
+    PrivateInExpression,
+    Class,
+    ClassBody,
+    StaticBlock,
+    MethodDefinition,
+    PropertyDefinition,
 }
 
 /// What the child of a field may be: a member of a set, or a node of one type.
@@ -97,6 +105,10 @@ pub enum NodeSet {
     SwitchCase,
     BlockStatement,
     CatchClause,
+    PrivateIdentifier,
+    ClassBody,
+    ClassElement,
+    Function,
     Link,
 }
 
@@ -132,6 +144,10 @@ impl NodeType {
             NodeSet::SwitchCase => matches!(&self, NodeType::SwitchCase),
             NodeSet::BlockStatement => matches!(&self, NodeType::BlockStatement),
             NodeSet::CatchClause => matches!(&self, NodeType::CatchClause),
+            NodeSet::PrivateIdentifier => matches!(&self, NodeType::PrivateIdentifier),
+            NodeSet::ClassBody => matches!(&self, NodeType::ClassBody),
+            NodeSet::ClassElement => self.is_class_element(),
+            NodeSet::Function => matches!(&self, NodeType::Function),
             NodeSet::Link => self.is_expression(),
         }
     }
@@ -169,6 +185,9 @@ impl NodeType {
                 | NodeType::AssignmentExpression
                 | NodeType::Function
                 | NodeType::ArrowFunctionExpression
+                | NodeType::Class
+                | NodeType::PrivateFieldExpression
+                | NodeType::PrivateInExpression
         )
     }
 
@@ -206,6 +225,9 @@ impl NodeType {
                 | NodeType::AssignmentExpression
                 | NodeType::Function
                 | NodeType::ArrowFunctionExpression
+                | NodeType::Class
+                | NodeType::PrivateFieldExpression
+                | NodeType::PrivateInExpression
         )
     }
 
@@ -243,6 +265,9 @@ impl NodeType {
                 | NodeType::AssignmentExpression
                 | NodeType::Function
                 | NodeType::ArrowFunctionExpression
+                | NodeType::Class
+                | NodeType::PrivateFieldExpression
+                | NodeType::PrivateInExpression
         )
     }
 
@@ -254,6 +279,7 @@ impl NodeType {
             &self,
             NodeType::StaticMemberExpression
                 | NodeType::ComputedMemberExpression
+                | NodeType::PrivateFieldExpression
                 | NodeType::CallExpression
         )
     }
@@ -267,6 +293,7 @@ impl NodeType {
             NodeType::IdentifierReference
                 | NodeType::StaticMemberExpression
                 | NodeType::ComputedMemberExpression
+                | NodeType::PrivateFieldExpression
         )
     }
 
@@ -279,6 +306,7 @@ impl NodeType {
             NodeType::IdentifierReference
                 | NodeType::StaticMemberExpression
                 | NodeType::ComputedMemberExpression
+                | NodeType::PrivateFieldExpression
         )
     }
 
@@ -316,6 +344,9 @@ impl NodeType {
                 | NodeType::AssignmentExpression
                 | NodeType::Function
                 | NodeType::ArrowFunctionExpression
+                | NodeType::Class
+                | NodeType::PrivateFieldExpression
+                | NodeType::PrivateInExpression
         )
     }
 
@@ -353,6 +384,9 @@ impl NodeType {
                 | NodeType::AssignmentExpression
                 | NodeType::Function
                 | NodeType::ArrowFunctionExpression
+                | NodeType::Class
+                | NodeType::PrivateFieldExpression
+                | NodeType::PrivateInExpression
         )
     }
 
@@ -366,6 +400,7 @@ impl NodeType {
                 | NodeType::IdentifierReference
                 | NodeType::StaticMemberExpression
                 | NodeType::ComputedMemberExpression
+                | NodeType::PrivateFieldExpression
         )
     }
 
@@ -383,6 +418,7 @@ impl NodeType {
         matches!(
             &self,
             NodeType::IdentifierName
+                | NodeType::PrivateIdentifier
                 | NodeType::IdentifierReference
                 | NodeType::ThisExpression
                 | NodeType::NullLiteral
@@ -410,6 +446,9 @@ impl NodeType {
                 | NodeType::AssignmentExpression
                 | NodeType::Function
                 | NodeType::ArrowFunctionExpression
+                | NodeType::Class
+                | NodeType::PrivateFieldExpression
+                | NodeType::PrivateInExpression
         )
     }
 
@@ -417,7 +456,10 @@ impl NodeType {
     pub fn is_declaration(self) -> bool
         ensures { result ≡ is_declaration self }
     {
-        matches!(&self, NodeType::VariableDeclaration | NodeType::Function)
+        matches!(
+            &self,
+            NodeType::VariableDeclaration | NodeType::Function | NodeType::Class
+        )
     }
 
     /// Whether nodes of this type are in `Statement`.
@@ -428,6 +470,7 @@ impl NodeType {
             &self,
             NodeType::VariableDeclaration
                 | NodeType::Function
+                | NodeType::Class
                 | NodeType::ExpressionStatement
                 | NodeType::BlockStatement
                 | NodeType::IfStatement
@@ -445,6 +488,16 @@ impl NodeType {
                 | NodeType::DebuggerStatement
                 | NodeType::SwitchStatement
                 | NodeType::TryStatement
+        )
+    }
+
+    /// Whether nodes of this type are in `ClassElement`.
+    pub fn is_class_element(self) -> bool
+        ensures { result ≡ is_class_element self }
+    {
+        matches!(
+            &self,
+            NodeType::StaticBlock | NodeType::MethodDefinition | NodeType::PropertyDefinition
         )
     }
 }

@@ -1,5 +1,5 @@
 use Rattle.std.proofs.Common.{rules}
-use Rattle.jsgen_tree.proofs.Knot.{plain_expression, plain_declaration, plain_binding_pattern, plain_statement}
+use Rattle.jsgen_tree.proofs.Knot.{plain_expression, plain_declaration, plain_binding_pattern, plain_class_element, plain_statement}
 use Rattle.jsgen_questions.proofs.names.+is_binding_name.Goals as goal
 
 pub returns-in-Expression : goal.returns-in-Expression
@@ -16,3 +16,6 @@ returns-in-Declaration t c = search (rules, plain_declaration)
 
 pub returns-in-BindingPattern-BindingIdentifier : goal.returns-in-BindingPattern-BindingIdentifier
 returns-in-BindingPattern-BindingIdentifier t c = search (rules, plain_binding_pattern)
+
+pub returns-in-ClassElement : goal.returns-in-ClassElement
+returns-in-ClassElement t c = search (rules, plain_class_element)
