@@ -24,6 +24,8 @@ pub data Items : Type 0 where
   word : List ℕ → Items
   -- a name as it is printed, apart from a word before it, with the mark of its span
   name : Span → Named → Items
+  -- a private name behind its `#`, which needs no space before it, as it is printed, with the mark of its span
+  private_name : Span → List ℕ → Items
   -- a number, apart from a word before it; the test holds where a dot behind it would be its own
   number : Bool → List ℕ → Items
   -- a literal that begins and ends with a mark of its own, as a regular expression
@@ -48,6 +50,8 @@ pub data Items : Type 0 where
   -- one space is to stand in place of the next indentation
   body_space : Items
   deeper : Items → Items
+  -- the body of a class, which has the next number
+  in_class : Items → Items
   brackets : Bracket → Items → Items
   -- in parentheses where the test holds
   wrapped : Bool → Items → Items

@@ -14,7 +14,8 @@ use Rattle.jsgen_tree.specs.Options.{Options}
 use Rattle.jsgen_tree.specs.Job.{Tables}
 use Rattle.jsgen_tree.specs.Named.{Named, printed_name}
 use Rattle.jsgen_model.specs.Punctuator.{Punctuator, plus, plus_plus, minus, minus_minus, bang, equal_equal, equal_equal_equal, punctuator_text, Round, opening, closing}
-use Rattle.jsgen_model.specs.Items.{Items, nothing, ◌⊕◌, word, name, number, literal, string, first_string, directive, punctuator, operator, member_dot, soft_space, soft_line, hard_space, indentation, body_space, deeper, brackets, wrapped, wrapped_at_start, Opener, a_brace, a_declaration, parentheses_unless_minified, where_same, statement_end, due_semicolon, drop_semicolon, statement_begins, arrow_body_begins, default_export_begins, mark, end_mark, link_mark, marked_word, comments, orphans, annotation}
+use Rattle.jsgen_model.specs.Items.{Items, nothing, ◌⊕◌, word, name, private_name, number, literal, string, first_string, directive, punctuator, operator, member_dot, soft_space, soft_line, hard_space, indentation, body_space, deeper, in_class, brackets, wrapped, wrapped_at_start, Opener, a_brace, a_declaration, parentheses_unless_minified, where_same, statement_end, due_semicolon, drop_semicolon, statement_begins, arrow_body_begins, default_export_begins, mark, end_mark, link_mark, marked_word, comments, orphans, annotation}
+use Rattle.jsgen_model.specs.Private.{classes_within, printed_private}
 
 -- what never changes: whether the text is minified and whether it is ASCII, the quote of pretty text and of directives, what a level of indentation is made of, and the tables by which names are printed
 pub record Style : Type 0 where
@@ -51,6 +52,10 @@ pub record Pen : Type 0 where
   pub pending_semicolon : Bool
   pub ending : Ending
   pub start : Start
+  -- the numbers of the classes round here that have a table of private names, the innermost first
+  pub classes : List ℕ
+  -- the number of the next class whose body begins
+  pub next_class : ℕ
 
 -- the code goes on with this text, which ends so
 abbrev pub written : List ℕ → Ending → Pen → Pen
@@ -171,6 +176,14 @@ deeper_level false depth = suc depth
 abbrev pub with_name : List ℕ → Pen → Pen
 with_name w pen = written (space_if (is_apart pen.ending pen.code) ++ name_text pen.style.ascii w) (name_ending (has_escapes pen.style.ascii w)) pen
 
+-- a private name: no word goes on with `#`
+abbrev pub with_private_name : List ℕ → Pen → Pen
+with_private_name w pen = written (35 ∷ name_text pen.style.ascii w) (name_ending (has_escapes pen.style.ascii w)) pen
+
+-- within the body of the next class
+abbrev pub entered : Pen → Pen
+entered pen = record pen { classes = classes_within pen.style.tables pen.next_class pen.classes; next_class = suc pen.next_class }
+
 -- two names are printed the same
 abbrev pub are_same : Tables → Named → Named → Bool
 are_same tables m n = bytes_eq (printed_name tables m) (printed_name tables n)
@@ -202,6 +215,7 @@ layout nothing pen = pen
 layout (a ⊕ b) pen = layout b (layout a pen)
 layout (word w) pen = written (space_if (is_apart pen.ending pen.code) ++ w) other_end pen
 layout (name span n) pen = with_name (printed_name pen.style.tables n) pen
+layout (private_name span w) pen = with_private_name (printed_private pen.style.tables pen.classes w) pen
 layout (number dot_is_its_own w) pen = written (space_if (is_apart pen.ending pen.code) ++ w) (number_ending dot_is_its_own) pen
 layout (literal w) pen = written w other_end pen
 layout (string backticks units) pen = written (quoted (chosen_quote pen.style backticks units) pen.style.ascii units) other_end pen
@@ -216,6 +230,7 @@ layout hard_space pen = written (codes " ") other_end pen
 layout indentation pen = at_indentation pen.style.minified pen
 layout body_space pen = record pen { pending_space = true }
 layout (deeper items) pen = record (layout items (record pen { depth = deeper_level pen.style.minified pen.depth })) { depth = pen.depth }
+layout (in_class items) pen = record (layout items (entered pen)) { classes = pen.classes }
 layout (brackets b items) pen = written (closing b) other_end (layout items (written (opening b) other_end pen))
 layout (wrapped test items) pen = written_if test (closing Round) (layout items (written_if test (opening Round) pen))
 layout (wrapped_at_start test opener items) pen = written_if (test || is_barred opener pen.start) (closing Round) (layout items (written_if (test || is_barred opener pen.start) (opening Round) pen))
@@ -238,7 +253,7 @@ layout (annotation test kind offset) pen = pen
 
 -- before anything is printed
 abbrev pub empty_pen : Style → ℕ → Pen
-empty_pen style depth = record { style = style; code = []; depth = depth; pending_space = false; pending_semicolon = false; ending = other_end; start = statement }
+empty_pen style depth = record { style = style; code = []; depth = depth; pending_space = false; pending_semicolon = false; ending = other_end; start = statement; classes = []; next_class = 0 }
 
 -- the style of these options and tables
 abbrev pub style_of : Options → Tables → Style

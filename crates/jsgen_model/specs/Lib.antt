@@ -1,5 +1,6 @@
 pub mod Punctuator
 pub mod Items
+pub mod Private
 pub mod Layout
 pub mod Printing
 pub mod Quotes
