@@ -6,7 +6,8 @@ ghost use Rattle.jsgen_place.specs.Place.{at_level};
 ghost use Rattle.jsgen_model.specs.Spell.{spell};
 
 use crate::{PrintAlone, PrintAtLevel};
-use jsgen_nodes::PrintNode;
+use jsgen_classes::{print_class, print_class_body, print_method_definition, print_private_field_expression, print_private_identifier, print_private_in_expression, print_property_definition, print_static_block};
+use jsgen_nodes::{Inside, PrintNode};
 use jsgen_place::{Context, Place};
 use jsgen_printer::Printer;
 use jsgen_syntax::Precedence;
@@ -28,7 +29,7 @@ impl<N: PrintNode> PrintAtLevel for PrivateFieldExpression<N> {
     ghost plain = { private_field_expression_row N.plain };
 
     fn print_at(&self, p: &mut Printer<'_>, place: Place) {
-        print_private_field_expression(self, p, place);
+        print_private_field_expression::<_, Inside>(self, p, place);
     }
 }
 
@@ -36,7 +37,7 @@ impl<N: PrintNode> PrintAtLevel for PrivateInExpression<N> {
     ghost plain = { private_in_expression_row N.plain };
 
     fn print_at(&self, p: &mut Printer<'_>, place: Place) {
-        print_private_in_expression(self, p, place);
+        print_private_in_expression::<_, Inside>(self, p, place);
     }
 }
 
@@ -48,7 +49,7 @@ impl<N: PrintNode> PrintAlone for Class<N> {
         p: &mut Printer<'_>,
         context: Context,
     ) {
-        print_class(self, p, Place::at_level(Precedence::Lowest, context));
+        print_class::<_, Inside>(self, p, Place::at_level(Precedence::Lowest, context));
     }
 }
 
@@ -60,7 +61,7 @@ impl<N: PrintNode> PrintAlone for ClassBody<N> {
         p: &mut Printer<'_>,
         context: Context,
     ) {
-        print_class_body(self, p, Place::at_level(Precedence::Lowest, context));
+        print_class_body::<_, Inside>(self, p, Place::at_level(Precedence::Lowest, context));
     }
 }
 
@@ -72,7 +73,7 @@ impl<N: PrintNode> PrintAlone for StaticBlock<N> {
         p: &mut Printer<'_>,
         context: Context,
     ) {
-        print_static_block(self, p, Place::at_level(Precedence::Lowest, context));
+        print_static_block::<_, Inside>(self, p, Place::at_level(Precedence::Lowest, context));
     }
 }
 
@@ -84,7 +85,7 @@ impl<N: PrintNode> PrintAlone for MethodDefinition<N> {
         p: &mut Printer<'_>,
         context: Context,
     ) {
-        print_method_definition(self, p, Place::at_level(Precedence::Lowest, context));
+        print_method_definition::<_, Inside>(self, p, Place::at_level(Precedence::Lowest, context));
     }
 }
 
@@ -96,6 +97,6 @@ impl<N: PrintNode> PrintAlone for PropertyDefinition<N> {
         p: &mut Printer<'_>,
         context: Context,
     ) {
-        print_property_definition(self, p, Place::at_level(Precedence::Lowest, context));
+        print_property_definition::<_, Inside>(self, p, Place::at_level(Precedence::Lowest, context));
     }
 }

@@ -4,12 +4,13 @@ ghost use Rattle.jsgen_tree.specs.Tree.{type_of};
 ghost use Rattle.jsgen_tree.specs.Rows.{in_argument, in_array_expression_element, in_simple_assignment_target, in_assignment_target, in_for_statement_init, in_for_statement_left, in_object_property_kind, in_property_key, expression_plain, statement_plain, binding_pattern_plain, class_element_plain};
 ghost use Rattle.jsgen_syntax.specs.declared.precedence.Precedence.TheVariants.{Lowest, Comma};
 ghost use Rattle.jsgen_place.specs.Place.{at_level, in_brackets, among_statements, loop_head};
-ghost use Rattle.jsgen_model.specs.Spell.{spell, key_text, left_place};
+ghost use Rattle.jsgen_model.specs.Items.{◌⊕◌};
+ghost use Rattle.jsgen_model.specs.Spell.{spell, key_text, left_place, element_end};
 
 use crate::{PrintAlone, PrintAtLevel};
 use jsgen_nodes::collections::{print_key_text, print_object_property};
 use jsgen_nodes::loops::print_left;
-use jsgen_nodes::sets::{print_assignment_target, print_binding_pattern, print_class_element, print_expression, print_simple_assignment_target, print_statement};
+use jsgen_nodes::sets::{print_assignment_target, print_binding_pattern, print_expression, print_simple_assignment_target, print_statement};
 use jsgen_nodes::{Inside, PrintNode};
 use jsgen_place::{Context, Place};
 use jsgen_printer::Printer;
@@ -166,13 +167,14 @@ impl PrintAlone for BindingPattern {
 }
 
 impl<N: PrintNode> PrintAlone for ClassElement<N> {
-    ghost alone = { λ n context. spell (class_element_plain N.plain n) (at_level Lowest context) };
+    ghost alone = { λ n context. spell (class_element_plain N.plain n) (at_level Lowest context) ⊕ element_end (type_of (class_element_plain N.plain n)) };
 
     fn print_alone(
         &self,
         p: &mut Printer<'_>,
         context: Context,
     ) {
-        print_class_element(self, p, Place::at_level(Precedence::Lowest, context));
+        let _ = context;
+        print_ended_element(self, p, Place::at_level(Precedence::Lowest, context));
     }
 }

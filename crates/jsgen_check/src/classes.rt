@@ -5,9 +5,9 @@ ghost use Rattle.jsgen_tree.specs.Rows.{private_identifier_row, private_field_ex
 ghost use Rattle.jsgen_check.specs.Verdict.{tree_verdict};
 
 use crate::children::{check_class_elements, check_optional_binding_identifier, check_optional_expression, check_property_key, check_statements};
-use crate::functions::check_function;
 use crate::heights::{check_node, higher};
-use crate::rules::{check_class_rules, check_method_definition_rules, check_private_identifier_rules, check_property_definition_rules};
+use crate::kinds::check_function_expression;
+use crate::rules::{check_class_rules, check_method_definition_rules, check_private_field_expression_rules, check_private_identifier_rules, check_property_definition_rules};
 use crate::{CheckNode, Surroundings, check_child};
 use jsgen_model::TreeFault;
 use jsgen_tree::{Class, ClassBody, MethodDefinition, NodeSet, PrivateFieldExpression, PrivateIdentifier, PrivateInExpression, PropertyDefinition, StaticBlock};
@@ -23,9 +23,10 @@ pub fn check_private_identifier(node: &PrivateIdentifier, around: &Surroundings<
 pub fn check_private_field_expression<N: CheckNode>(node: &PrivateFieldExpression<N>, around: &Surroundings<'_>) -> Result<u64, TreeFault>
     ensures { result ≡ tree_verdict around.now (private_field_expression_row N.plain node.now) }
 {
+    let rules = check_private_field_expression_rules(node, around);
     let object = check_child(node.object.get(), NodeSet::Link, around);
     let field = check_private_identifier(&node.field, around);
-    check_node(around, node.span, Ok(()), higher(object, field))
+    check_node(around, node.span, rules, higher(object, field))
 }
 
 #[inline(never)]
@@ -60,7 +61,8 @@ pub fn check_class_body<N: CheckNode>(node: &ClassBody<N>, around: &Surroundings
 pub fn check_static_block<N: CheckNode>(node: &StaticBlock<N>, around: &Surroundings<'_>) -> Result<u64, TreeFault>
     ensures { result ≡ tree_verdict around.now (static_block_row N.plain node.now) }
 {
-    let body = check_statements(&node.body, around);
+    let within = around.within_static_block();
+    let body = check_statements(&node.body, &within);
     check_node(around, node.span, Ok(()), body)
 }
 
@@ -70,7 +72,7 @@ pub fn check_method_definition<N: CheckNode>(node: &MethodDefinition<N>, around:
 {
     let rules = check_method_definition_rules(node, around);
     let key = check_property_key(&node.key, around);
-    let value = check_function(&node.value, around);
+    let value = check_function_expression(&node.value, around);
     check_node(around, node.span, rules, higher(key, value))
 }
 

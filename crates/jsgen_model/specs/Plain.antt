@@ -11,7 +11,7 @@ use Rattle.jsgen_tree.specs.declared.types.NodeType.{NodeType}
 use Rattle.jsgen_tree.specs.declared.types.NodeType.TheVariants as types
 use Rattle.jsgen_tree.specs.Table.{value_named}
 use Rattle.jsgen_tree.specs.Fields.{fields}
-use Rattle.jsgen_tree.specs.Values.{as_flag, program_kind, directive_directive, numeric_literal_kind, numeric_literal_digits, string_literal_value, variable_declaration_declare, variable_declarator_definite, for_of_statement_is_await, function_is_async, function_generator, function_declare, formal_parameter_is_override, formal_parameter_readonly, formal_parameter_optional, arrow_function_expression_is_async}
+use Rattle.jsgen_tree.specs.Values.{as_flag, program_kind, directive_directive, numeric_literal_kind, numeric_literal_digits, string_literal_value, variable_declaration_declare, variable_declarator_definite, for_of_statement_is_await, function_is_async, function_generator, function_declare, formal_parameter_is_override, formal_parameter_readonly, formal_parameter_optional, arrow_function_expression_is_async, class_declare, class_is_abstract, method_definition_is_override, method_definition_is_abstract, method_definition_optional, property_definition_declare, property_definition_is_abstract, property_definition_is_override, property_definition_readonly, property_definition_optional, property_definition_definite}
 use Rattle.jsgen_tree.specs.Everywhere.{Everywhere}
 use Rattle.jsgen_tree.specs.Options.{Comments, is_none}
 use Rattle.jsgen_tree.specs.Job.{JobData}

@@ -15,6 +15,7 @@ use crate::loops::{print_do_while_statement, print_for_in_statement, print_for_o
 use crate::operations::{print_new_expression, print_update_expression};
 use crate::statements::{print_block_statement, print_if_statement};
 use crate::{Inside, PrintNode};
+use jsgen_classes::{print_class, print_method_definition, print_private_field_expression, print_private_in_expression, print_property_definition, print_static_block};
 use jsgen_inside::{print_binding_identifier, print_identifier_reference};
 use jsgen_place::Place;
 use jsgen_printer::Printer;
@@ -121,9 +122,9 @@ fn print_expression_in_classes<N: PrintNode>(
     ensures { Lays p.old p.new (spell (expression_plain N.plain node.now) place) }
 {
     match node {
-        Expression::PrivateFieldExpression(node) => print_private_field_expression(node, p, place),
-        Expression::PrivateInExpression(node) => print_private_in_expression(node, p, place),
-        Expression::Class(node) => print_class(node, p, place),
+        Expression::PrivateFieldExpression(node) => print_private_field_expression::<_, Inside>(node, p, place),
+        Expression::PrivateInExpression(node) => print_private_in_expression::<_, Inside>(node, p, place),
+        Expression::Class(node) => print_class::<_, Inside>(node, p, place),
         _ => unreachable!(),
     }
 }
@@ -164,7 +165,7 @@ fn print_declaration_in_classes<N: PrintNode>(
     ensures { Lays p.old p.new (spell (declaration_plain N.plain node.now) place) }
 {
     match node {
-        Declaration::Class(node) => print_class(node, p, place),
+        Declaration::Class(node) => print_class::<_, Inside>(node, p, place),
         _ => unreachable!(),
     }
 }
@@ -258,9 +259,9 @@ pub fn print_class_element<N: PrintNode>(
     ensures { Lays p.old p.new (spell (class_element_plain N.plain node.now) place) }
 {
     match node {
-        ClassElement::StaticBlock(node) => print_static_block(node, p, place),
-        ClassElement::MethodDefinition(node) => print_method_definition(node, p, place),
-        ClassElement::PropertyDefinition(node) => print_property_definition(node, p, place),
+        ClassElement::StaticBlock(node) => print_static_block::<_, Inside>(node, p, place),
+        ClassElement::MethodDefinition(node) => print_method_definition::<_, Inside>(node, p, place),
+        ClassElement::PropertyDefinition(node) => print_property_definition::<_, Inside>(node, p, place),
     }
 }
 
@@ -275,7 +276,7 @@ pub fn print_simple_assignment_target<N: PrintNode>(
         SimpleAssignmentTarget::IdentifierReference(node) => print_identifier_reference(node, p, place),
         SimpleAssignmentTarget::StaticMemberExpression(node) => print_static_member_expression(node, p, place),
         SimpleAssignmentTarget::ComputedMemberExpression(node) => print_computed_member_expression(node, p, place),
-        SimpleAssignmentTarget::PrivateFieldExpression(node) => print_private_field_expression(node, p, place),
+        SimpleAssignmentTarget::PrivateFieldExpression(node) => print_private_field_expression::<_, Inside>(node, p, place),
     }
 }
 
@@ -290,6 +291,6 @@ pub fn print_assignment_target<N: PrintNode>(
         AssignmentTarget::IdentifierReference(node) => print_identifier_reference(node, p, place),
         AssignmentTarget::StaticMemberExpression(node) => print_static_member_expression(node, p, place),
         AssignmentTarget::ComputedMemberExpression(node) => print_computed_member_expression(node, p, place),
-        AssignmentTarget::PrivateFieldExpression(node) => print_private_field_expression(node, p, place),
+        AssignmentTarget::PrivateFieldExpression(node) => print_private_field_expression::<_, Inside>(node, p, place),
     }
 }

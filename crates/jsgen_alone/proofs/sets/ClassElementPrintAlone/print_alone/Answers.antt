@@ -1,8 +1,0 @@
--- Generated from tools/nodes/table.txt; edit that and run tools/nodes/generate.
--- It is printed by itself as it is at its place.
-use Rattle.jsgen_tree.specs.Rows.{class_element_plain}
-use Rattle.jsgen_alone.proofs.Placed.{placed_as}
-use Rattle.jsgen_alone.proofs.sets.ClassElementPrintAlone.print_alone.Goals as goal
-
-pub returns : goal.returns
-returns g c = placed_as (class_element_plain g.N.PrintNode.plain c.args.self.now) c.at_level.ensures c.print_class_element.ensures
