@@ -10,7 +10,10 @@ ghost use Rattle.jsgen_tree.specs.declared.types.NodeType.TheVariants as types;
 
 use crate::kept::Row;
 use jsgen_pool::Typed;
-use jsgen_tree::{BindingPattern, BindingPatternNode, ClassElement, ClassElementNode, Declaration, DeclarationNode, Expression, ExpressionNode, Node, NodeSet, NodeType, Statement, StatementNode};
+use jsgen_tree::{
+    BindingPattern, BindingPatternNode, ClassElement, ClassElementNode, Declaration,
+    DeclarationNode, Expression, ExpressionNode, Node, NodeSet, NodeType, Statement, StatementNode,
+};
 use std::alloc::{AllocError, Global};
 
 /// A node where trees nest, with what it is as plain data.
@@ -100,7 +103,11 @@ impl HoldsClassElement for Node {
 }
 
 /// What the reader asks of a node where trees nest. Only `Node` implements it.
-pub trait ReadNode: HoldsExpression + HoldsDeclaration + HoldsStatement + HoldsBindingPattern + HoldsClassElement {
+pub trait ReadNode: HoldsExpression
+    + HoldsDeclaration
+    + HoldsStatement
+    + HoldsBindingPattern
+    + HoldsClassElement {
     fn expression_type(expression: &Expression<Self>) -> NodeType
         ensures { result ≡ type_of (expression_plain Self.plain expression.now) };
 

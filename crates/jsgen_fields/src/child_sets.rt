@@ -7,10 +7,28 @@ ghost use Rattle.jsgen_tree.specs.Rows.{in_expression, in_argument, in_array_exp
 ghost use Rattle.jsgen_fields.specs.Kept.{row_plain};
 ghost use Rattle.jsgen_tree.specs.declared.types.NodeSet.TheVariants as sets;
 
-use crate::asked::{Child, HoldsBindingPattern, HoldsClassElement, HoldsDeclaration, HoldsExpression, HoldsStatement, PlainNode};
+use crate::asked::{
+    Child, HoldsBindingPattern, HoldsClassElement, HoldsDeclaration, HoldsExpression,
+    HoldsStatement, PlainNode,
+};
 use crate::kept::Row;
-use crate::members::{argument_of_expression, array_expression_element_of_expression, arrow_function_body_of_expression, assignment_target_of_expression, binding_identifier_of_binding_pattern_in_box, block_statement_of_statement_in_box, chain_element_of_expression, for_statement_init_of_declaration, for_statement_init_of_expression, for_statement_left_of_declaration, for_statement_left_of_expression, property_key_of_expression, simple_assignment_target_of_expression, statement_of_declaration};
-use jsgen_tree::{Argument, ArrayExpressionElement, ArrowFunctionBody, AssignmentTarget, BindingIdentifier, BindingPatternNode, BlockStatement, CatchClause, ChainElement, ClassBody, ClassElementNode, Comment, Declaration, Directive, Expression, ExpressionNode, ForStatementInit, ForStatementLeft, FormalParameter, FormalParameterRest, FormalParameters, Function, FunctionBody, IdentifierName, LabelIdentifier, NodeSet, ObjectPropertyKind, PrivateIdentifier, PropertyKey, SimpleAssignmentTarget, StatementNode, SwitchCase, VariableDeclarator};
+use crate::members::{
+    argument_of_expression, array_expression_element_of_expression,
+    arrow_function_body_of_expression, assignment_target_of_expression,
+    binding_identifier_of_binding_pattern_in_box, block_statement_of_statement_in_box,
+    chain_element_of_expression, for_statement_init_of_declaration,
+    for_statement_init_of_expression, for_statement_left_of_declaration,
+    for_statement_left_of_expression, property_key_of_expression,
+    simple_assignment_target_of_expression, statement_of_declaration,
+};
+use jsgen_tree::{
+    Argument, ArrayExpressionElement, ArrowFunctionBody, AssignmentTarget, BindingIdentifier,
+    BindingPatternNode, BlockStatement, CatchClause, ChainElement, ClassBody, ClassElementNode,
+    Comment, Declaration, Directive, Expression, ExpressionNode, ForStatementInit,
+    ForStatementLeft, FormalParameter, FormalParameterRest, FormalParameters, Function,
+    FunctionBody, IdentifierName, LabelIdentifier, NodeSet, ObjectPropertyKind, PrivateIdentifier,
+    PropertyKey, SimpleAssignmentTarget, StatementNode, SwitchCase, VariableDeclarator,
+};
 use std::alloc::{AllocError, Global};
 
 impl<N: PlainNode + Drop> Child<N> for Comment {
@@ -78,10 +96,19 @@ impl<N: HoldsDeclaration + HoldsStatement + Drop> Child<N> for StatementNode<N> 
             ≡ (if in_set sets.Statement (type_of (row_plain N.plain row)) then Some (row_plain N.plain row) else None)) }
     {
         match row {
-            Row::Declaration(row) => statement_of_declaration(alloc, N::declaration_node(Box::into_inner(row).declaration)),
+            Row::Declaration(row) => statement_of_declaration(
+                alloc,
+                N::declaration_node(Box::into_inner(row).declaration),
+            ),
             Row::Statement(row) => Ok(Some(N::statement_node(Box::into_inner(row).statement))),
-            Row::Function(row) => statement_of_declaration(alloc, N::declaration_node(Declaration::Function(row))),
-            Row::Class(row) => statement_of_declaration(alloc, N::declaration_node(Declaration::Class(row))),
+            Row::Function(row) => statement_of_declaration(
+                alloc,
+                N::declaration_node(Declaration::Function(row)),
+            ),
+            Row::Class(row) => statement_of_declaration(
+                alloc,
+                N::declaration_node(Declaration::Class(row)),
+            ),
             rest => {
                 rest.let_go();
                 Ok(None)
@@ -207,10 +234,19 @@ impl<N: HoldsExpression + Drop> Child<N> for Argument<N> {
             ≡ (if in_set sets.Argument (type_of (row_plain N.plain row)) then Some (row_plain N.plain row) else None)) }
     {
         match row {
-            Row::Expression(row) => argument_of_expression(alloc, N::expression_node(Box::into_inner(row).expression)),
+            Row::Expression(row) => argument_of_expression(
+                alloc,
+                N::expression_node(Box::into_inner(row).expression),
+            ),
             Row::SpreadElement(row) => Ok(Some(Argument::SpreadElement(row))),
-            Row::Function(row) => argument_of_expression(alloc, N::expression_node(Expression::Function(row))),
-            Row::Class(row) => argument_of_expression(alloc, N::expression_node(Expression::Class(row))),
+            Row::Function(row) => argument_of_expression(
+                alloc,
+                N::expression_node(Expression::Function(row)),
+            ),
+            Row::Class(row) => argument_of_expression(
+                alloc,
+                N::expression_node(Expression::Class(row)),
+            ),
             rest => {
                 rest.let_go();
                 Ok(None)
@@ -259,10 +295,19 @@ impl<N: HoldsExpression + Drop> Child<N> for ArrayExpressionElement<N> {
             ≡ (if in_set sets.ArrayExpressionElement (type_of (row_plain N.plain row)) then Some (row_plain N.plain row) else None)) }
     {
         match row {
-            Row::Expression(row) => array_expression_element_of_expression(alloc, N::expression_node(Box::into_inner(row).expression)),
+            Row::Expression(row) => array_expression_element_of_expression(
+                alloc,
+                N::expression_node(Box::into_inner(row).expression),
+            ),
             Row::SpreadElement(row) => Ok(Some(ArrayExpressionElement::SpreadElement(row))),
-            Row::Function(row) => array_expression_element_of_expression(alloc, N::expression_node(Expression::Function(row))),
-            Row::Class(row) => array_expression_element_of_expression(alloc, N::expression_node(Expression::Class(row))),
+            Row::Function(row) => array_expression_element_of_expression(
+                alloc,
+                N::expression_node(Expression::Function(row)),
+            ),
+            Row::Class(row) => array_expression_element_of_expression(
+                alloc,
+                N::expression_node(Expression::Class(row)),
+            ),
             rest => {
                 rest.let_go();
                 Ok(None)
@@ -286,11 +331,20 @@ impl<N: HoldsExpression + Drop> Child<N> for PropertyKey<N> {
             ≡ (if in_set sets.PropertyKey (type_of (row_plain N.plain row)) then Some (row_plain N.plain row) else None)) }
     {
         match row {
-            Row::Expression(row) => property_key_of_expression(alloc, N::expression_node(Box::into_inner(row).expression)),
+            Row::Expression(row) => property_key_of_expression(
+                alloc,
+                N::expression_node(Box::into_inner(row).expression),
+            ),
             Row::IdentifierName(row) => Ok(Some(PropertyKey::IdentifierName(row))),
-            Row::Function(row) => property_key_of_expression(alloc, N::expression_node(Expression::Function(row))),
+            Row::Function(row) => property_key_of_expression(
+                alloc,
+                N::expression_node(Expression::Function(row)),
+            ),
             Row::PrivateIdentifier(row) => Ok(Some(PropertyKey::PrivateIdentifier(row))),
-            Row::Class(row) => property_key_of_expression(alloc, N::expression_node(Expression::Class(row))),
+            Row::Class(row) => property_key_of_expression(
+                alloc,
+                N::expression_node(Expression::Class(row)),
+            ),
             rest => {
                 rest.let_go();
                 Ok(None)
@@ -341,7 +395,9 @@ impl<N: PlainNode + Drop> Child<N> for SimpleAssignmentTarget<N> {
     {
         let _ = alloc;
         match row {
-            Row::Expression(row) => Ok(simple_assignment_target_of_expression(Box::into_inner(row))),
+            Row::Expression(row) => Ok(simple_assignment_target_of_expression(Box::into_inner(
+                row,
+            ))),
             rest => {
                 rest.let_go();
                 Ok(None)
@@ -410,7 +466,10 @@ impl<N: PlainNode + Drop> Child<N> for Box<FormalParameterRest<N>> {
     }
 
     #[tactic(auto, using(crate::proofs::Sets::takes_formal_parameter_rests))]
-    fn from_row(alloc: Global, row: Row<N>) -> Result<Option<Box<FormalParameterRest<N>>>, AllocError>
+    fn from_row(
+        alloc: Global,
+        row: Row<N>,
+    ) -> Result<Option<Box<FormalParameterRest<N>>>, AllocError>
         ensures { IfOk result (λ child. option_map (λ b. formal_parameter_rest_row N.plain b.value) child
             ≡ (if in_set sets.FormalParameterRest (type_of (row_plain N.plain row)) then Some (row_plain N.plain row) else None)) }
     {
@@ -441,7 +500,9 @@ impl<N: PlainNode + Drop> Child<N> for Box<BindingIdentifier> {
     {
         let _ = alloc;
         match row {
-            Row::BindingPattern(row) => Ok(binding_identifier_of_binding_pattern_in_box(Box::into_inner(row))),
+            Row::BindingPattern(row) => Ok(binding_identifier_of_binding_pattern_in_box(
+                Box::into_inner(row),
+            )),
             rest => {
                 rest.let_go();
                 Ok(None)
@@ -515,10 +576,19 @@ impl<N: HoldsExpression + Drop> Child<N> for ArrowFunctionBody<N> {
             ≡ (if in_set sets.ArrowFunctionBody (type_of (row_plain N.plain row)) then Some (row_plain N.plain row) else None)) }
     {
         match row {
-            Row::Expression(row) => arrow_function_body_of_expression(alloc, N::expression_node(Box::into_inner(row).expression)),
-            Row::Function(row) => arrow_function_body_of_expression(alloc, N::expression_node(Expression::Function(row))),
+            Row::Expression(row) => arrow_function_body_of_expression(
+                alloc,
+                N::expression_node(Box::into_inner(row).expression),
+            ),
+            Row::Function(row) => arrow_function_body_of_expression(
+                alloc,
+                N::expression_node(Expression::Function(row)),
+            ),
             Row::FunctionBody(row) => Ok(Some(ArrowFunctionBody::FunctionBody(row))),
-            Row::Class(row) => arrow_function_body_of_expression(alloc, N::expression_node(Expression::Class(row))),
+            Row::Class(row) => arrow_function_body_of_expression(
+                alloc,
+                N::expression_node(Expression::Class(row)),
+            ),
             rest => {
                 rest.let_go();
                 Ok(None)
@@ -543,9 +613,18 @@ impl<N: HoldsExpression + Drop> Child<N> for ForStatementInit<N> {
     {
         match row {
             Row::Declaration(row) => Ok(for_statement_init_of_declaration(Box::into_inner(row))),
-            Row::Expression(row) => for_statement_init_of_expression(alloc, N::expression_node(Box::into_inner(row).expression)),
-            Row::Function(row) => for_statement_init_of_expression(alloc, N::expression_node(Expression::Function(row))),
-            Row::Class(row) => for_statement_init_of_expression(alloc, N::expression_node(Expression::Class(row))),
+            Row::Expression(row) => for_statement_init_of_expression(
+                alloc,
+                N::expression_node(Box::into_inner(row).expression),
+            ),
+            Row::Function(row) => for_statement_init_of_expression(
+                alloc,
+                N::expression_node(Expression::Function(row)),
+            ),
+            Row::Class(row) => for_statement_init_of_expression(
+                alloc,
+                N::expression_node(Expression::Class(row)),
+            ),
             rest => {
                 rest.let_go();
                 Ok(None)

@@ -12,7 +12,12 @@ use crate::InputFault;
 use crate::asked::{Child, PlainNode, ReadNode, RowOf};
 use crate::others::{OtherDeclaration, OtherExpression, OtherStatement};
 use jsgen_pool::Typed;
-use jsgen_tree::{BindingPattern, CatchClause, Class, ClassBody, ClassElement, Comment, Declaration, Directive, Expression, FormalParameter, FormalParameterRest, FormalParameters, Function, FunctionBody, IdentifierName, LabelIdentifier, Node, NodeType, ObjectProperty, PrivateIdentifier, Program, SpreadElement, Statement, SwitchCase, VariableDeclarator};
+use jsgen_tree::{
+    BindingPattern, CatchClause, Class, ClassBody, ClassElement, Comment, Declaration, Directive,
+    Expression, FormalParameter, FormalParameterRest, FormalParameters, Function, FunctionBody,
+    IdentifierName, LabelIdentifier, Node, NodeType, ObjectProperty, PrivateIdentifier, Program,
+    SpreadElement, Statement, SwitchCase, VariableDeclarator,
+};
 use std::alloc::{AllocError, Global};
 
 /// A row that was read, by the set that it is a child of. Sets are in boxes, so that a row is small whatever
@@ -149,71 +154,97 @@ pub fn row_of_directive<N: PlainNode + Drop, R: RowOf<N>>(directive: Box<Directi
     R::of_row(Row::Directive(directive))
 }
 
-pub fn row_of_declaration<N: PlainNode + Drop, R: RowOf<N>>(alloc: Global, other: OtherDeclaration<N>) -> Result<R, InputFault>
+pub fn row_of_declaration<N: PlainNode + Drop, R: RowOf<N>>(
+    alloc: Global,
+    other: OtherDeclaration<N>,
+) -> Result<R, InputFault>
     ensures { Same R.plain result (Ok (declaration_plain N.plain other.declaration)) }
 {
     let other = Box::new(alloc, other)?;
     Ok(R::of_row(Row::Declaration(other)))
 }
 
-pub fn row_of_variable_declarator<N: PlainNode + Drop, R: RowOf<N>>(variable_declarator: Box<VariableDeclarator<N>>) -> R
+pub fn row_of_variable_declarator<N: PlainNode + Drop, R: RowOf<N>>(
+    variable_declarator: Box<VariableDeclarator<N>>,
+) -> R
     ensures { R.plain result ≡ variable_declarator_row N.plain variable_declarator.value }
 {
     R::of_row(Row::VariableDeclarator(variable_declarator))
 }
 
-pub fn row_of_binding_pattern<N: PlainNode + Drop, R: RowOf<N>>(alloc: Global, binding_pattern: BindingPattern) -> Result<R, InputFault>
+pub fn row_of_binding_pattern<N: PlainNode + Drop, R: RowOf<N>>(
+    alloc: Global,
+    binding_pattern: BindingPattern,
+) -> Result<R, InputFault>
     ensures { Same R.plain result (Ok (binding_pattern_plain binding_pattern)) }
 {
     let binding_pattern = Box::new(alloc, binding_pattern)?;
     Ok(R::of_row(Row::BindingPattern(binding_pattern)))
 }
 
-pub fn row_of_statement<N: PlainNode + Drop, R: RowOf<N>>(alloc: Global, other: OtherStatement<N>) -> Result<R, InputFault>
+pub fn row_of_statement<N: PlainNode + Drop, R: RowOf<N>>(
+    alloc: Global,
+    other: OtherStatement<N>,
+) -> Result<R, InputFault>
     ensures { Same R.plain result (Ok (statement_plain N.plain other.statement)) }
 {
     let other = Box::new(alloc, other)?;
     Ok(R::of_row(Row::Statement(other)))
 }
 
-pub fn row_of_expression<N: PlainNode + Drop, R: RowOf<N>>(alloc: Global, other: OtherExpression<N>) -> Result<R, InputFault>
+pub fn row_of_expression<N: PlainNode + Drop, R: RowOf<N>>(
+    alloc: Global,
+    other: OtherExpression<N>,
+) -> Result<R, InputFault>
     ensures { Same R.plain result (Ok (expression_plain N.plain other.expression)) }
 {
     let other = Box::new(alloc, other)?;
     Ok(R::of_row(Row::Expression(other)))
 }
 
-pub fn row_of_identifier_name<N: PlainNode + Drop, R: RowOf<N>>(identifier_name: Box<IdentifierName>) -> R
+pub fn row_of_identifier_name<N: PlainNode + Drop, R: RowOf<N>>(
+    identifier_name: Box<IdentifierName>,
+) -> R
     ensures { R.plain result ≡ identifier_name_row identifier_name.value }
 {
     R::of_row(Row::IdentifierName(identifier_name))
 }
 
-pub fn row_of_spread_element<N: PlainNode + Drop, R: RowOf<N>>(spread_element: Box<SpreadElement<N>>) -> R
+pub fn row_of_spread_element<N: PlainNode + Drop, R: RowOf<N>>(
+    spread_element: Box<SpreadElement<N>>,
+) -> R
     ensures { R.plain result ≡ spread_element_row N.plain spread_element.value }
 {
     R::of_row(Row::SpreadElement(spread_element))
 }
 
-pub fn row_of_object_property<N: PlainNode + Drop, R: RowOf<N>>(object_property: Box<ObjectProperty<N>>) -> R
+pub fn row_of_object_property<N: PlainNode + Drop, R: RowOf<N>>(
+    object_property: Box<ObjectProperty<N>>,
+) -> R
     ensures { R.plain result ≡ object_property_row N.plain object_property.value }
 {
     R::of_row(Row::ObjectProperty(object_property))
 }
 
-pub fn row_of_formal_parameter<N: PlainNode + Drop, R: RowOf<N>>(formal_parameter: Box<FormalParameter<N>>) -> R
+pub fn row_of_formal_parameter<N: PlainNode + Drop, R: RowOf<N>>(
+    formal_parameter: Box<FormalParameter<N>>,
+) -> R
     ensures { R.plain result ≡ formal_parameter_row N.plain formal_parameter.value }
 {
     R::of_row(Row::FormalParameter(formal_parameter))
 }
 
-pub fn row_of_formal_parameter_rest<N: PlainNode + Drop, R: RowOf<N>>(formal_parameter_rest: Box<FormalParameterRest<N>>) -> R
+pub fn row_of_formal_parameter_rest<N: PlainNode + Drop, R: RowOf<N>>(
+    formal_parameter_rest: Box<FormalParameterRest<N>>,
+) -> R
     ensures { R.plain result ≡ formal_parameter_rest_row N.plain formal_parameter_rest.value }
 {
     R::of_row(Row::FormalParameterRest(formal_parameter_rest))
 }
 
-pub fn row_of_formal_parameters<N: PlainNode + Drop, R: RowOf<N>>(formal_parameters: Box<FormalParameters<N>>) -> R
+pub fn row_of_formal_parameters<N: PlainNode + Drop, R: RowOf<N>>(
+    formal_parameters: Box<FormalParameters<N>>,
+) -> R
     ensures { R.plain result ≡ formal_parameters_row N.plain formal_parameters.value }
 {
     R::of_row(Row::FormalParameters(formal_parameters))
@@ -225,13 +256,17 @@ pub fn row_of_function<N: PlainNode + Drop, R: RowOf<N>>(function: Box<Function<
     R::of_row(Row::Function(function))
 }
 
-pub fn row_of_function_body<N: PlainNode + Drop, R: RowOf<N>>(function_body: Box<FunctionBody<N>>) -> R
+pub fn row_of_function_body<N: PlainNode + Drop, R: RowOf<N>>(
+    function_body: Box<FunctionBody<N>>,
+) -> R
     ensures { R.plain result ≡ function_body_row N.plain function_body.value }
 {
     R::of_row(Row::FunctionBody(function_body))
 }
 
-pub fn row_of_label_identifier<N: PlainNode + Drop, R: RowOf<N>>(label_identifier: Box<LabelIdentifier>) -> R
+pub fn row_of_label_identifier<N: PlainNode + Drop, R: RowOf<N>>(
+    label_identifier: Box<LabelIdentifier>,
+) -> R
     ensures { R.plain result ≡ label_identifier_row label_identifier.value }
 {
     R::of_row(Row::LabelIdentifier(label_identifier))
@@ -249,7 +284,9 @@ pub fn row_of_catch_clause<N: PlainNode + Drop, R: RowOf<N>>(catch_clause: Box<C
     R::of_row(Row::CatchClause(catch_clause))
 }
 
-pub fn row_of_private_identifier<N: PlainNode + Drop, R: RowOf<N>>(private_identifier: Box<PrivateIdentifier>) -> R
+pub fn row_of_private_identifier<N: PlainNode + Drop, R: RowOf<N>>(
+    private_identifier: Box<PrivateIdentifier>,
+) -> R
     ensures { R.plain result ≡ private_identifier_row private_identifier.value }
 {
     R::of_row(Row::PrivateIdentifier(private_identifier))
@@ -267,7 +304,10 @@ pub fn row_of_class_body<N: PlainNode + Drop, R: RowOf<N>>(class_body: Box<Class
     R::of_row(Row::ClassBody(class_body))
 }
 
-pub fn row_of_class_element<N: PlainNode + Drop, R: RowOf<N>>(alloc: Global, class_element: ClassElement<N>) -> Result<R, InputFault>
+pub fn row_of_class_element<N: PlainNode + Drop, R: RowOf<N>>(
+    alloc: Global,
+    class_element: ClassElement<N>,
+) -> Result<R, InputFault>
     ensures { Same R.plain result (Ok (class_element_plain N.plain class_element)) }
 {
     let class_element = Box::new(alloc, class_element)?;

@@ -8,7 +8,12 @@ ghost use Rattle.jsgen_tree.specs.declared.types.NodeSet.TheVariants as sets;
 
 use crate::asked::{HoldsStatement, PlainNode};
 use crate::others::{OtherDeclaration, OtherExpression, OtherStatement};
-use jsgen_tree::{Argument, ArrayExpressionElement, ArrowFunctionBody, AssignmentTarget, BindingIdentifier, BindingPattern, BlockStatement, ChainElement, Declaration, DeclarationNode, Expression, ExpressionNode, ForStatementInit, ForStatementLeft, PropertyKey, SimpleAssignmentTarget, Statement, StatementNode};
+use jsgen_tree::{
+    Argument, ArrayExpressionElement, ArrowFunctionBody, AssignmentTarget, BindingIdentifier,
+    BindingPattern, BlockStatement, ChainElement, Declaration, DeclarationNode, Expression,
+    ExpressionNode, ForStatementInit, ForStatementLeft, PropertyKey, SimpleAssignmentTarget,
+    Statement, StatementNode,
+};
 use std::alloc::{AllocError, Global};
 
 // ---- a member of a set within the set, which stands in a box of its own
@@ -75,14 +80,18 @@ pub fn for_statement_init_of_expression<N: PlainNode + Drop>(
 
 // ---- a place that takes some types of a set
 
-pub fn chain_element_of_expression<N: PlainNode + Drop>(row: OtherExpression<N>) -> Option<ChainElement<N>>
+pub fn chain_element_of_expression<N: PlainNode + Drop>(
+    row: OtherExpression<N>,
+) -> Option<ChainElement<N>>
     ensures { option_map (in_chain_element N.plain) result
         ≡ (if in_set sets.ChainElement (type_of (expression_plain N.plain row.expression)) then Some (expression_plain N.plain row.expression) else None) }
 {
     let expression = row.expression;
     match expression {
         Expression::StaticMemberExpression(row) => Some(ChainElement::StaticMemberExpression(row)),
-        Expression::ComputedMemberExpression(row) => Some(ChainElement::ComputedMemberExpression(row)),
+        Expression::ComputedMemberExpression(row) => Some(ChainElement::ComputedMemberExpression(
+            row,
+        )),
         Expression::CallExpression(row) => Some(ChainElement::CallExpression(row)),
         Expression::PrivateFieldExpression(row) => Some(ChainElement::PrivateFieldExpression(row)),
         rest => {
@@ -92,16 +101,26 @@ pub fn chain_element_of_expression<N: PlainNode + Drop>(row: OtherExpression<N>)
     }
 }
 
-pub fn simple_assignment_target_of_expression<N: PlainNode + Drop>(row: OtherExpression<N>) -> Option<SimpleAssignmentTarget<N>>
+pub fn simple_assignment_target_of_expression<N: PlainNode + Drop>(
+    row: OtherExpression<N>,
+) -> Option<SimpleAssignmentTarget<N>>
     ensures { option_map (in_simple_assignment_target N.plain) result
         ≡ (if in_set sets.SimpleAssignmentTarget (type_of (expression_plain N.plain row.expression)) then Some (expression_plain N.plain row.expression) else None) }
 {
     let expression = row.expression;
     match expression {
-        Expression::IdentifierReference(row) => Some(SimpleAssignmentTarget::IdentifierReference(row)),
-        Expression::StaticMemberExpression(row) => Some(SimpleAssignmentTarget::StaticMemberExpression(row)),
-        Expression::ComputedMemberExpression(row) => Some(SimpleAssignmentTarget::ComputedMemberExpression(row)),
-        Expression::PrivateFieldExpression(row) => Some(SimpleAssignmentTarget::PrivateFieldExpression(row)),
+        Expression::IdentifierReference(row) => Some(SimpleAssignmentTarget::IdentifierReference(
+            row,
+        )),
+        Expression::StaticMemberExpression(row) => Some(
+            SimpleAssignmentTarget::StaticMemberExpression(row),
+        ),
+        Expression::ComputedMemberExpression(row) => Some(
+            SimpleAssignmentTarget::ComputedMemberExpression(row),
+        ),
+        Expression::PrivateFieldExpression(row) => Some(
+            SimpleAssignmentTarget::PrivateFieldExpression(row),
+        ),
         rest => {
             drop(rest);
             None
@@ -109,16 +128,24 @@ pub fn simple_assignment_target_of_expression<N: PlainNode + Drop>(row: OtherExp
     }
 }
 
-pub fn assignment_target_of_expression<N: PlainNode + Drop>(row: OtherExpression<N>) -> Option<AssignmentTarget<N>>
+pub fn assignment_target_of_expression<N: PlainNode + Drop>(
+    row: OtherExpression<N>,
+) -> Option<AssignmentTarget<N>>
     ensures { option_map (in_assignment_target N.plain) result
         ≡ (if in_set sets.AssignmentTarget (type_of (expression_plain N.plain row.expression)) then Some (expression_plain N.plain row.expression) else None) }
 {
     let expression = row.expression;
     match expression {
         Expression::IdentifierReference(row) => Some(AssignmentTarget::IdentifierReference(row)),
-        Expression::StaticMemberExpression(row) => Some(AssignmentTarget::StaticMemberExpression(row)),
-        Expression::ComputedMemberExpression(row) => Some(AssignmentTarget::ComputedMemberExpression(row)),
-        Expression::PrivateFieldExpression(row) => Some(AssignmentTarget::PrivateFieldExpression(row)),
+        Expression::StaticMemberExpression(row) => Some(AssignmentTarget::StaticMemberExpression(
+            row,
+        )),
+        Expression::ComputedMemberExpression(row) => Some(
+            AssignmentTarget::ComputedMemberExpression(row),
+        ),
+        Expression::PrivateFieldExpression(row) => Some(AssignmentTarget::PrivateFieldExpression(
+            row,
+        )),
         rest => {
             drop(rest);
             None
@@ -126,7 +153,9 @@ pub fn assignment_target_of_expression<N: PlainNode + Drop>(row: OtherExpression
     }
 }
 
-pub fn binding_identifier_of_binding_pattern_in_box(row: BindingPattern) -> Option<Box<BindingIdentifier>>
+pub fn binding_identifier_of_binding_pattern_in_box(
+    row: BindingPattern,
+) -> Option<Box<BindingIdentifier>>
     ensures { option_map (λ b. binding_identifier_row b.value) result
         ≡ (if in_set sets.BindingIdentifier (type_of (binding_pattern_plain row)) then Some (binding_pattern_plain row) else None) }
 {
@@ -135,7 +164,9 @@ pub fn binding_identifier_of_binding_pattern_in_box(row: BindingPattern) -> Opti
     }
 }
 
-pub fn for_statement_init_of_declaration<N: PlainNode + Drop>(row: OtherDeclaration<N>) -> Option<ForStatementInit<N>>
+pub fn for_statement_init_of_declaration<N: PlainNode + Drop>(
+    row: OtherDeclaration<N>,
+) -> Option<ForStatementInit<N>>
     ensures { option_map (in_for_statement_init N.plain) result
         ≡ (if in_set sets.ForStatementInit (type_of (declaration_plain N.plain row.declaration)) then Some (declaration_plain N.plain row.declaration) else None) }
 {
@@ -149,7 +180,9 @@ pub fn for_statement_init_of_declaration<N: PlainNode + Drop>(row: OtherDeclarat
     }
 }
 
-pub fn for_statement_left_of_declaration<N: PlainNode + Drop>(row: OtherDeclaration<N>) -> Option<ForStatementLeft<N>>
+pub fn for_statement_left_of_declaration<N: PlainNode + Drop>(
+    row: OtherDeclaration<N>,
+) -> Option<ForStatementLeft<N>>
     ensures { option_map (in_for_statement_left N.plain) result
         ≡ (if in_set sets.ForStatementLeft (type_of (declaration_plain N.plain row.declaration)) then Some (declaration_plain N.plain row.declaration) else None) }
 {
@@ -163,16 +196,24 @@ pub fn for_statement_left_of_declaration<N: PlainNode + Drop>(row: OtherDeclarat
     }
 }
 
-pub fn for_statement_left_of_expression<N: PlainNode + Drop>(row: OtherExpression<N>) -> Option<ForStatementLeft<N>>
+pub fn for_statement_left_of_expression<N: PlainNode + Drop>(
+    row: OtherExpression<N>,
+) -> Option<ForStatementLeft<N>>
     ensures { option_map (in_for_statement_left N.plain) result
         ≡ (if in_set sets.ForStatementLeft (type_of (expression_plain N.plain row.expression)) then Some (expression_plain N.plain row.expression) else None) }
 {
     let expression = row.expression;
     match expression {
         Expression::IdentifierReference(row) => Some(ForStatementLeft::IdentifierReference(row)),
-        Expression::StaticMemberExpression(row) => Some(ForStatementLeft::StaticMemberExpression(row)),
-        Expression::ComputedMemberExpression(row) => Some(ForStatementLeft::ComputedMemberExpression(row)),
-        Expression::PrivateFieldExpression(row) => Some(ForStatementLeft::PrivateFieldExpression(row)),
+        Expression::StaticMemberExpression(row) => Some(ForStatementLeft::StaticMemberExpression(
+            row,
+        )),
+        Expression::ComputedMemberExpression(row) => Some(
+            ForStatementLeft::ComputedMemberExpression(row),
+        ),
+        Expression::PrivateFieldExpression(row) => Some(ForStatementLeft::PrivateFieldExpression(
+            row,
+        )),
         rest => {
             drop(rest);
             None
@@ -180,7 +221,9 @@ pub fn for_statement_left_of_expression<N: PlainNode + Drop>(row: OtherExpressio
     }
 }
 
-pub fn block_statement_of_statement_in_box<N: PlainNode + Drop>(row: OtherStatement<N>) -> Option<Box<BlockStatement<N>>>
+pub fn block_statement_of_statement_in_box<N: PlainNode + Drop>(
+    row: OtherStatement<N>,
+) -> Option<Box<BlockStatement<N>>>
     ensures { option_map (λ b. block_statement_row N.plain b.value) result
         ≡ (if in_set sets.BlockStatement (type_of (statement_plain N.plain row.statement)) then Some (statement_plain N.plain row.statement) else None) }
 {

@@ -28,7 +28,10 @@ const TYPE_NAMES: [(&str, NodeType); 50] = [
     ("LogicalExpression", NodeType::LogicalExpression),
     ("IdentifierName", NodeType::IdentifierName),
     ("StaticMemberExpression", NodeType::StaticMemberExpression),
-    ("ComputedMemberExpression", NodeType::ComputedMemberExpression),
+    (
+        "ComputedMemberExpression",
+        NodeType::ComputedMemberExpression,
+    ),
     ("CallExpression", NodeType::CallExpression),
     ("ChainExpression", NodeType::ChainExpression),
     ("SpreadElement", NodeType::SpreadElement),

@@ -12,10 +12,20 @@ ghost use Rattle.jsgen_pool.specs.Pool.{entries};
 ghost use Rattle.jsgen_tree.specs.declared.types.NodeSet.TheVariants as sets;
 
 use crate::InputFault;
-use crate::asked::{HoldsBindingPattern, HoldsClassElement, HoldsDeclaration, HoldsExpression, HoldsStatement, PlainNode, RowOf};
+use crate::asked::{
+    HoldsBindingPattern, HoldsClassElement, HoldsDeclaration, HoldsExpression, HoldsStatement,
+    PlainNode, RowOf,
+};
 use crate::fields::{children, children_or_holes, needed_child, optional_child};
 use jsgen_pool::Kept;
-use jsgen_tree::{Argument, ArrayExpressionElement, ArrowFunctionBody, AssignmentTarget, BindingIdentifier, BindingPatternNode, BlockStatement, CatchClause, ChainElement, ClassBody, ClassElementNode, Comment, Directive, ExpressionNode, ForStatementInit, ForStatementLeft, FormalParameter, FormalParameterRest, FormalParameters, Function, FunctionBody, IdentifierName, LabelIdentifier, ObjectPropertyKind, PrivateIdentifier, PropertyKey, SimpleAssignmentTarget, StatementNode, SwitchCase, VariableDeclarator};
+use jsgen_tree::{
+    Argument, ArrayExpressionElement, ArrowFunctionBody, AssignmentTarget, BindingIdentifier,
+    BindingPatternNode, BlockStatement, CatchClause, ChainElement, ClassBody, ClassElementNode,
+    Comment, Directive, ExpressionNode, ForStatementInit, ForStatementLeft, FormalParameter,
+    FormalParameterRest, FormalParameters, Function, FunctionBody, IdentifierName, LabelIdentifier,
+    ObjectPropertyKind, PrivateIdentifier, PropertyKey, SimpleAssignmentTarget, StatementNode,
+    SwitchCase, VariableDeclarator,
+};
 use serde_json::Value;
 use std::alloc::Global;
 

@@ -10,8 +10,13 @@ ghost use Rattle.jsgen_fields.specs.Values.{Same, at, field as value_under, word
 
 use crate::values::needed_word;
 use crate::{At, InputFault};
-use jsgen_syntax::{AssignmentOperator, BinaryOperator, LogicalOperator, SourceKind, UnaryOperator, UpdateOperator};
-use jsgen_tree::{ClassKind, CommentContent, CommentKind, FunctionKind, MethodDefinitionKind, PropertyKind, VariableDeclarationKind};
+use jsgen_syntax::{
+    AssignmentOperator, BinaryOperator, LogicalOperator, SourceKind, UnaryOperator, UpdateOperator,
+};
+use jsgen_tree::{
+    ClassKind, CommentContent, CommentKind, FunctionKind, MethodDefinitionKind, PropertyKind,
+    VariableDeclarationKind,
+};
 use serde_json::Value;
 
 fn kind_of_comment_by_word(word: &str) -> Option<CommentKind>
@@ -27,7 +32,12 @@ fn kind_of_comment_by_word(word: &str) -> Option<CommentKind>
     }
 }
 
-pub fn needed_kind_of_comment(number: usize, field: usize, row: &Value, name: &str) -> Result<CommentKind, InputFault>
+pub fn needed_kind_of_comment(
+    number: usize,
+    field: usize,
+    row: &Value,
+    name: &str,
+) -> Result<CommentKind, InputFault>
     ensures { Same (λ o. kind_of_comment o) result
         (read_value (at number field) true no_value (word kind_of_comment_words) (value_under name.now (view row.now))) }
 {
@@ -140,7 +150,12 @@ fn content_of_comment_by_word(word: &str) -> Option<CommentContent>
     }
 }
 
-pub fn needed_content_of_comment(number: usize, field: usize, row: &Value, name: &str) -> Result<CommentContent, InputFault>
+pub fn needed_content_of_comment(
+    number: usize,
+    field: usize,
+    row: &Value,
+    name: &str,
+) -> Result<CommentContent, InputFault>
     ensures { Same (λ o. content_of_comment o) result
         (read_value (at number field) true no_value (word content_of_comment_words) (value_under name.now (view row.now))) }
 {
@@ -162,7 +177,12 @@ fn source_kind_by_word(word: &str) -> Option<SourceKind>
     }
 }
 
-pub fn needed_source_kind(number: usize, field: usize, row: &Value, name: &str) -> Result<SourceKind, InputFault>
+pub fn needed_source_kind(
+    number: usize,
+    field: usize,
+    row: &Value,
+    name: &str,
+) -> Result<SourceKind, InputFault>
     ensures { Same (λ o. source_kind o) result
         (read_value (at number field) true no_value (word source_kind_words) (value_under name.now (view row.now))) }
 {
@@ -186,7 +206,12 @@ fn declaration_kind_by_word(word: &str) -> Option<VariableDeclarationKind>
     }
 }
 
-pub fn needed_declaration_kind(number: usize, field: usize, row: &Value, name: &str) -> Result<VariableDeclarationKind, InputFault>
+pub fn needed_declaration_kind(
+    number: usize,
+    field: usize,
+    row: &Value,
+    name: &str,
+) -> Result<VariableDeclarationKind, InputFault>
     ensures { Same (λ o. declaration_kind o) result
         (read_value (at number field) true no_value (word declaration_kind_words) (value_under name.now (view row.now))) }
 {
@@ -265,7 +290,12 @@ fn binary_operator_by_word(word: &str) -> Option<BinaryOperator>
     }
 }
 
-pub fn needed_binary_operator(number: usize, field: usize, row: &Value, name: &str) -> Result<BinaryOperator, InputFault>
+pub fn needed_binary_operator(
+    number: usize,
+    field: usize,
+    row: &Value,
+    name: &str,
+) -> Result<BinaryOperator, InputFault>
     ensures { Same (λ o. binary_operator o) result
         (read_value (at number field) true no_value (word binary_operator_words) (value_under name.now (view row.now))) }
 {
@@ -289,7 +319,12 @@ fn logical_operator_by_word(word: &str) -> Option<LogicalOperator>
     }
 }
 
-pub fn needed_logical_operator(number: usize, field: usize, row: &Value, name: &str) -> Result<LogicalOperator, InputFault>
+pub fn needed_logical_operator(
+    number: usize,
+    field: usize,
+    row: &Value,
+    name: &str,
+) -> Result<LogicalOperator, InputFault>
     ensures { Same (λ o. logical_operator o) result
         (read_value (at number field) true no_value (word logical_operator_words) (value_under name.now (view row.now))) }
 {
@@ -313,7 +348,12 @@ fn property_kind_by_word(word: &str) -> Option<PropertyKind>
     }
 }
 
-pub fn needed_property_kind(number: usize, field: usize, row: &Value, name: &str) -> Result<PropertyKind, InputFault>
+pub fn needed_property_kind(
+    number: usize,
+    field: usize,
+    row: &Value,
+    name: &str,
+) -> Result<PropertyKind, InputFault>
     ensures { Same (λ o. property_kind o) result
         (read_value (at number field) true no_value (word property_kind_words) (value_under name.now (view row.now))) }
 {
@@ -368,7 +408,12 @@ fn unary_operator_by_word(word: &str) -> Option<UnaryOperator>
     }
 }
 
-pub fn needed_unary_operator(number: usize, field: usize, row: &Value, name: &str) -> Result<UnaryOperator, InputFault>
+pub fn needed_unary_operator(
+    number: usize,
+    field: usize,
+    row: &Value,
+    name: &str,
+) -> Result<UnaryOperator, InputFault>
     ensures { Same (λ o. unary_operator o) result
         (read_value (at number field) true no_value (word unary_operator_words) (value_under name.now (view row.now))) }
 {
@@ -391,7 +436,12 @@ fn update_operator_by_word(word: &str) -> Option<UpdateOperator>
     }
 }
 
-pub fn needed_update_operator(number: usize, field: usize, row: &Value, name: &str) -> Result<UpdateOperator, InputFault>
+pub fn needed_update_operator(
+    number: usize,
+    field: usize,
+    row: &Value,
+    name: &str,
+) -> Result<UpdateOperator, InputFault>
     ensures { Same (λ o. update_operator o) result
         (read_value (at number field) true no_value (word update_operator_words) (value_under name.now (view row.now))) }
 {
@@ -464,7 +514,12 @@ fn assignment_operator_by_word(word: &str) -> Option<AssignmentOperator>
     }
 }
 
-pub fn needed_assignment_operator(number: usize, field: usize, row: &Value, name: &str) -> Result<AssignmentOperator, InputFault>
+pub fn needed_assignment_operator(
+    number: usize,
+    field: usize,
+    row: &Value,
+    name: &str,
+) -> Result<AssignmentOperator, InputFault>
     ensures { Same (λ o. assignment_operator o) result
         (read_value (at number field) true no_value (word assignment_operator_words) (value_under name.now (view row.now))) }
 {
@@ -487,7 +542,12 @@ fn kind_of_function_by_word(word: &str) -> Option<FunctionKind>
     }
 }
 
-pub fn needed_kind_of_function(number: usize, field: usize, row: &Value, name: &str) -> Result<FunctionKind, InputFault>
+pub fn needed_kind_of_function(
+    number: usize,
+    field: usize,
+    row: &Value,
+    name: &str,
+) -> Result<FunctionKind, InputFault>
     ensures { Same (λ o. kind_of_function o) result
         (read_value (at number field) true no_value (word kind_of_function_words) (value_under name.now (view row.now))) }
 {
@@ -510,7 +570,12 @@ fn class_form_by_word(word: &str) -> Option<ClassKind>
     }
 }
 
-pub fn needed_class_form(number: usize, field: usize, row: &Value, name: &str) -> Result<ClassKind, InputFault>
+pub fn needed_class_form(
+    number: usize,
+    field: usize,
+    row: &Value,
+    name: &str,
+) -> Result<ClassKind, InputFault>
     ensures { Same (λ o. class_form o) result
         (read_value (at number field) true no_value (word class_form_words) (value_under name.now (view row.now))) }
 {
@@ -535,7 +600,12 @@ fn kind_of_method_by_word(word: &str) -> Option<MethodDefinitionKind>
     }
 }
 
-pub fn needed_kind_of_method(number: usize, field: usize, row: &Value, name: &str) -> Result<MethodDefinitionKind, InputFault>
+pub fn needed_kind_of_method(
+    number: usize,
+    field: usize,
+    row: &Value,
+    name: &str,
+) -> Result<MethodDefinitionKind, InputFault>
     ensures { Same (λ o. kind_of_method o) result
         (read_value (at number field) true no_value (word kind_of_method_words) (value_under name.now (view row.now))) }
 {
