@@ -1,8 +1,8 @@
 -- What a step adds stands behind the code before.
 use Rattle.std.proofs.Common.{ℕ, Bool, true, false, ◌||◌, List, [], ◌∷◌, if◌then◌else◌}
 use Rattle.jsgen_model.specs.Punctuator.{Round, opening, closing}
-use Rattle.jsgen_model.specs.Items.{Items, ◌⊕◌, indentation, deeper, brackets, wrapped, wrapped_at_start, parentheses_unless_minified, where_same, statement_end}
-use Rattle.jsgen_model.specs.Layout.{Pen, layout, written, written_if, text_if, other_end, indented, indent_or_space, at_indentation, end_statement, deeper_level, are_same, is_barred, not}
+use Rattle.jsgen_model.specs.Items.{Items, ◌⊕◌, indentation, deeper, brackets, wrapped, wrapped_at_start, parentheses_unless_minified, where_same, statement_end, in_class}
+use Rattle.jsgen_model.specs.Layout.{Pen, layout, written, written_if, text_if, other_end, indented, indent_or_space, at_indentation, end_statement, deeper_level, entered, are_same, is_barred, not}
 use Rattle.jsgen_model.specs.Printing.{IsPrefix}
 use Rattle.jsgen_printer.proofs.Prefixes.{whole_prefix, prefix_append, more_prefix, prefix_of_prefix}
 
@@ -32,6 +32,7 @@ wrapped_appends test items pen inside = more_prefix (text_if test (closing Round
 pub layout_appends : (items : Items) (pen : Pen) → IsPrefix pen.code (layout items pen).code
 layout_appends (a ⊕ b) pen = prefix_of_prefix (layout_appends a pen) (layout_appends b (layout a pen))
 layout_appends (deeper a) pen = layout_appends a (record pen { depth = deeper_level pen.style.minified pen.depth })
+layout_appends (in_class a) pen = layout_appends a (entered pen)
 layout_appends (brackets b a) pen = more_prefix (closing b) (prefix_of_prefix (prefix_append pen.code (opening b)) (layout_appends a (written (opening b) other_end pen)))
 layout_appends (wrapped test a) pen = wrapped_appends test a pen (λ at. layout_appends a at)
 layout_appends (wrapped_at_start test opener a) pen = wrapped_appends (test || is_barred opener pen.start) a pen (λ at. layout_appends a at)

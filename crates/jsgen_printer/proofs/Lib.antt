@@ -2,6 +2,7 @@ mod Flags
 pub mod Appends
 pub mod Attempts
 pub mod Bangs
+pub mod Classes
 pub mod Handed
 pub mod Numbers
 pub mod Operators

@@ -1,5 +1,5 @@
 -- What a printer stands for: a pen of the layout.
-use Rattle.std.specs.Prelude.{ℕ, List, [], ◌∷◌, Bool, false, nat_lt}
+use Rattle.std.specs.Prelude.{ℕ, List, [], ◌∷◌, Bool, false, nat_lt, take, reverse}
 use Rattle.std.specs.List.{list_all}
 use Rattle.std.specs.Str.{chars}
 use Rattle.jsgen_syntax.specs.Buffer.{buffer_bytes, indent_byte, indent_width}
@@ -64,6 +64,8 @@ pen_of p = record {
   pending_semicolon = p.pending_semicolon;
   ending = ending_of p.ending;
   start = start_of p.start;
+  classes = reverse p.classes.items;
+  next_class = p.next_class;
 }
 
 -- the same pen, by whose tables names are printed from here on
@@ -85,6 +87,10 @@ deepened pen = record pen { depth = deeper_level pen.style.minified pen.depth }
 
 abbrev pub at_depth : ℕ → Pen → Pen
 at_depth depth pen = record pen { depth = depth }
+
+-- of the classes round here these many stay, the outermost ones
+abbrev pub within_outer : ℕ → Pen → Pen
+within_outer n pen = record pen { classes = reverse (take n (reverse pen.classes)) }
 
 -- each byte of the text is ASCII
 abbrev pub is_ascii : List ℕ → Bool

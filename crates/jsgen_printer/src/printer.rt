@@ -8,6 +8,7 @@ ghost use Rattle.jsgen_model.specs.Layout.{but_backticks};
 
 use crate::operator::Operator;
 
+mod classes;
 mod handed;
 mod marks;
 mod names;
@@ -65,6 +66,9 @@ pub struct Printer<'a> {
     pending_semicolon: bool,
     ending: Ending,
     start: Start,
+    // the numbers of the classes round here that have a table of private names, the outermost first
+    classes: Vec<usize>,
+    next_class: usize,
     has_failed: bool,
     ghost indents: { width ≡ indent_width code },
 }
@@ -105,6 +109,8 @@ impl<'a> Printer<'a> {
             pending_semicolon: false,
             ending: Ending::Other,
             start: Start::Statement,
+            classes: Vec::new(alloc),
+            next_class: 0,
             has_failed: false,
         }
     }

@@ -1,4 +1,4 @@
-use Rattle.std.proofs.Common.{◌≡◌, [], ap, ◌∙◌}
+use Rattle.std.proofs.Common.{◌≡◌, [], reverse, refl, ap, ◌∙◌}
 use Rattle.std.specs.Str.{chars}
 use Rattle.std.proofs.lemmas.Str.{chars-nil}
 use Rattle.jsgen_syntax.specs.Buffer.{buffer_bytes}
@@ -9,4 +9,5 @@ pub returns-clause-pen : goal.returns-clause-pen
 unfolding pen_of
 returns-clause-pen c =
     let empty : chars (buffer_bytes c.with_indent.result) ≡ [] = ap chars c.with_indent.ensures.empty ∙ chars-nil in
-    cc
+    let outermost : reverse c.new.result.items ≡ [] = ap reverse c.new.ensures.items in
+    rw (empty, outermost, c.with_indent.ensures.byte, c.with_indent.ensures.width, c.none.ensures, c.wanted_quote.ensures) refl

@@ -1,5 +1,5 @@
 use Rattle.std.proofs.Common.{refl}
-use Rattle.jsgen_model.specs.Items.{mark, end_mark, link_mark, comments, orphans, all_of_them, with_key_annotation}
+use Rattle.jsgen_model.specs.Items.{comments, with_key_annotation}
 use Rattle.jsgen_printer.proofs.Sequence.{passed_over}
 use Rattle.jsgen_printer.proofs.printer.Printer.print_key_comments.Goals as goal
 
