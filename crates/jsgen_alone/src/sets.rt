@@ -8,6 +8,7 @@ ghost use Rattle.jsgen_model.specs.Items.{◌⊕◌};
 ghost use Rattle.jsgen_model.specs.Spell.{spell, key_text, left_place, element_end};
 
 use crate::{PrintAlone, PrintAtLevel};
+use jsgen_nodes::classes::print_ended_element;
 use jsgen_nodes::collections::{print_key_text, print_object_property};
 use jsgen_nodes::loops::print_left;
 use jsgen_nodes::sets::{print_assignment_target, print_binding_pattern, print_expression, print_simple_assignment_target, print_statement};

@@ -8,12 +8,17 @@ ghost use Rattle.jsgen_model.specs.Valid.{own_faults, declaration_faults, sequen
 ghost use Rattle.jsgen_rules.specs.Verdict.{verdict};
 ghost use Rattle.jsgen_check.specs.Verdict.{surroundings_plain};
 
+mod classes;
 mod functions;
 mod keys;
 mod links;
 mod statements;
 
 use crate::{CheckNode, Surroundings};
+pub use classes::{
+    check_class_rules, check_method_definition_rules, check_private_identifier_rules,
+    check_property_definition_rules,
+};
 pub use functions::{check_function_rules, check_return_statement_rules};
 use jsgen_model::TreeFault;
 use jsgen_rules::{
@@ -29,7 +34,7 @@ use jsgen_tree::{
 pub use keys::check_object_property_rules;
 pub use links::{
     check_assignment_expression_rules, check_call_expression_rules, check_chain_expression_rules,
-    check_computed_member_expression_rules, check_static_member_expression_rules,
+    check_computed_member_expression_rules, check_private_field_expression_rules, check_static_member_expression_rules,
     check_update_expression_rules,
 };
 pub use statements::{

@@ -1,5 +1,5 @@
 // Classes and their bodies, one function for each row.
-ghost use Rattle.std.specs.Prelude.{option_map};
+ghost use Rattle.std.specs.Prelude.{codes, option_map};
 ghost use Rattle.jsgen_syntax.specs.declared.precedence.Precedence.TheVariants.{Postfix};
 ghost use Rattle.jsgen_tree.specs.Tree.{optional};
 ghost use Rattle.jsgen_tree.specs.Rows.{class_row, class_body_row, binding_identifier_row, in_expression};
@@ -84,7 +84,7 @@ fn print_heritage<N, L: PrintInside<N>>(heritage: &Option<ExpressionNode<N>>, p:
 }
 
 fn print_extends<N, L: PrintInside<N>>(heritage: &ExpressionNode<N>, p: &mut Printer<'_>)
-    ensures { Lays p.old p.new (soft_space ⊕ (word "extends" ⊕ (hard_space ⊕ spell (in_expression L.plain heritage.now) (in_brackets Postfix)))) }
+    ensures { Lays p.old p.new (soft_space ⊕ (word (codes "extends") ⊕ (hard_space ⊕ spell (in_expression L.plain heritage.now) (in_brackets Postfix)))) }
 {
     p.print_soft_space();
     p.print_word("extends");

@@ -32,8 +32,8 @@ pub trait PrintInside<N> {
         ensures { Lays p.old p.new (spell (plain node.now) place) };
 
     /// A key, in brackets where the test holds.
-    fn print_key(key: &PropertyKey<N>, in_brackets: bool, p: &mut Printer<'_>)
-        ensures { Lays p.old p.new (key_items in_brackets (in_property_key plain key.now) (spell (in_property_key plain key.now) (in_brackets Comma))) };
+    fn print_key(key: &PropertyKey<N>, bracketed: bool, p: &mut Printer<'_>)
+        ensures { Lays p.old p.new (key_items bracketed (in_property_key plain key.now) (spell (in_property_key plain key.now) (in_brackets Comma))) };
 
     /// The function of a method, behind its key.
     fn print_method(function: &Function<N>, p: &mut Printer<'_>, place: Place)

@@ -30,11 +30,7 @@ fn print_filled_class<E, L: PrintMember<E>>(members: &[E], p: &mut Printer<'_>, 
 }
 
 // Each after the semicolon that the one before may have left.
-fn print_elements_of_class<E, L: PrintMember<E>>(
-    members: &[E],
-    p: &mut Printer<'_>,
-    place: Place,
-)
+fn print_elements_of_class<E, L: PrintMember<E>>(members: &[E], p: &mut Printer<'_>, place: Place)
     ensures { Lays p.old p.new (spell_elements_of_class (trees (map L.plain members.now)) place) }
 {
     for member in members {

@@ -1,7 +1,7 @@
 -- Validity: the rules that a tree breaks, each with the start of the node at which it is broken.
 use Rattle.std.specs.Prelude.{◌≡◌, ◌==◌, ℕ, suc, ◌+◌, ◌-◌, ◌*◌, max, List, [], ◌∷◌, ◌++◌, map, length, take, drop, slice_get, codes, Bool, true, false, not, ◌&&◌, ◌||◌, nat_lt, nat_le, Contains, is_some, Result, Ok, Err, if◌then◌else◌, Option, Some, None}
 use Rattle.std.specs.Option.{option_map_or}
-use Rattle.std.specs.Str.{bytes_eq, chars, encode_utf8_all}
+use Rattle.std.specs.Str.{chars, encode_utf8_all}
 use Rattle.jsgen_syntax.specs.Name.{spells_name, is_free_name}
 use Rattle.jsgen_syntax.specs.Raw.{directive_value}
 use Rattle.jsgen_syntax.specs.declared.span.Span.{Span}
@@ -34,6 +34,7 @@ use Rattle.jsgen_tree.specs.Nodes as tree
 use Rattle.jsgen_tree.specs.Values.{as_text, program_source, comment_kind, directive_directive, identifier_name_name, label_identifier_name, numeric_literal_kind, numeric_literal_text, big_int_literal_value, object_property_kind, object_property_method, object_property_shorthand, object_property_computed, function_kind, static_member_expression_optional, computed_member_expression_optional, call_expression_optional, private_identifier_name, class_kind, method_definition_kind, method_definition_computed, property_definition_computed}
 use Rattle.jsgen_model.specs.Numbers.{is_raw_number, is_big_integer}
 use Rattle.jsgen_model.specs.Tokens.{has_line_end}
+use Rattle.jsgen_model.specs.Private.{name_in}
 use Rattle.jsgen_model.specs.declared.fault.TreeFault.{TreeFault}
 use Rattle.jsgen_model.specs.declared.fault.TreeFault.TheVariants as faults
 
@@ -249,10 +250,9 @@ abbrev pub class_faults : Span → ClassKind → Maybe → List TreeFault
 class_faults s class_kinds.Declaration absent = faults.Place s.start ∷ []
 class_faults s kind id = []
 
--- each new name that this table gives the name is one
+-- the new name that a class's table gives the name, if it gives one, is a name
 abbrev pub renames_well : List ℕ → List (List ℕ × List ℕ) → Bool
-renames_well w [] = true
-renames_well w (e ∷ es) = (not (bytes_eq e.0 w) || spells_name e.1) && renames_well w es
+renames_well w table = option_map_or spells_name (name_in table w) true
 
 abbrev pub all_rename_well : List ℕ → List (List (List ℕ × List ℕ)) → Bool
 all_rename_well w [] = true

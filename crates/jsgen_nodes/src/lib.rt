@@ -3,6 +3,7 @@
 
 pub mod assignments;
 pub mod choices;
+pub mod classes;
 pub mod collections;
 pub mod expressions;
 pub mod functions;
@@ -34,7 +35,7 @@ use jsgen_questions::{
 };
 use jsgen_syntax::JsStr;
 use jsgen_tree::{Declaration, Expression, IdentifierReference, Node, NodeType, Statement};
-use sets::{print_binding_pattern, print_declaration, print_expression, print_statement};
+use sets::{print_binding_pattern, print_class_element, print_declaration, print_expression, print_statement};
 
 /// Where trees nest: what the print functions ask of a child. Only `Node` implements it.
 pub trait PrintNode {
