@@ -4,6 +4,8 @@ import re
 from dataclasses import dataclass, field
 from pathlib import Path
 
+SPELLED = "jsgen_spelled"  # where rows with a spelling are printed, if the table says nothing else of their file
+
 VALUES = {"text": "String", "units": "JsStr", "digits": "u128", "number": "u32", "flag": "bool"}
 
 
@@ -117,7 +119,7 @@ class Table:
                         of_file, _, printed_in = of_file.partition(" by ")
                         file, crate = of_file.split(" in ")
                         self.files[file], self.row_crates[file] = text, crate
-                        self.print_crates[file] = printed_in or "jsgen_spelled"
+                        self.print_crates[file] = printed_in or SPELLED
                     elif head in ("node", "words", "set") and rest[0] in {**self.nodes, **self.words, **self.sets}:
                         raise ValueError("the name comes twice")
                     elif head == "node":

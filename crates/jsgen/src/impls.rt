@@ -6,18 +6,20 @@ use jsgen_tree::{
     Argument, ArrayExpression, ArrayExpressionElement, ArrayPattern, ArrowFunctionExpression,
     AssignmentExpression, AssignmentPattern, AssignmentTarget, BigIntLiteral, BinaryExpression,
     BindingIdentifier, BindingPattern, BindingProperty, BindingRestElement, BlockStatement,
-    BooleanLiteral, BreakStatement, CallExpression, CatchClause, ChainExpression,
-    ComputedMemberExpression, ConditionalExpression, ContinueStatement, DebuggerStatement,
-    Directive, DoWhileStatement, EmptyStatement, Expression, ExpressionStatement, ForInStatement,
-    ForOfStatement, ForStatement, ForStatementInit, ForStatementLeft, FormalParameter,
-    FormalParameterRest, FormalParameters, Function, FunctionBody, IdentifierName,
-    IdentifierReference, IfStatement, ImportMeta, LabelIdentifier, LabeledStatement,
-    LogicalExpression, NewExpression, NewTarget, NullLiteral, NumericLiteral, ObjectExpression,
-    ObjectPattern, ObjectProperty, ObjectPropertyKind, ParenthesizedExpression, Program,
-    PropertyKey, RegExpLiteral, ReturnStatement, SequenceExpression, SimpleAssignmentTarget,
-    SpreadElement, Statement, StaticMemberExpression, StringLiteral, Super, SwitchCase,
-    SwitchStatement, ThisExpression, ThrowStatement, TryStatement, UnaryExpression,
-    UpdateExpression, VariableDeclaration, VariableDeclarator, WhileStatement,
+    BooleanLiteral, BreakStatement, CallExpression, CatchClause, ChainExpression, Class, ClassBody,
+    ClassElement, ComputedMemberExpression, ConditionalExpression, ContinueStatement,
+    DebuggerStatement, Directive, DoWhileStatement, EmptyStatement, Expression,
+    ExpressionStatement, ForInStatement, ForOfStatement, ForStatement, ForStatementInit,
+    ForStatementLeft, FormalParameter, FormalParameterRest, FormalParameters, Function,
+    FunctionBody, IdentifierName, IdentifierReference, IfStatement, ImportMeta, LabelIdentifier,
+    LabeledStatement, LogicalExpression, MethodDefinition, NewExpression, NewTarget, NullLiteral,
+    NumericLiteral, ObjectExpression, ObjectPattern, ObjectProperty, ObjectPropertyKind,
+    ParenthesizedExpression, PrivateFieldExpression, PrivateIdentifier, PrivateInExpression,
+    Program, PropertyDefinition, PropertyKey, RegExpLiteral, ReturnStatement, SequenceExpression,
+    SimpleAssignmentTarget, SpreadElement, Statement, StaticBlock, StaticMemberExpression,
+    StringLiteral, Super, SwitchCase, SwitchStatement, ThisExpression, ThrowStatement,
+    TryStatement, UnaryExpression, UpdateExpression, VariableDeclaration, VariableDeclarator,
+    WhileStatement,
 };
 
 impl Gen for Program {}
@@ -150,6 +152,22 @@ impl Gen for ArrayPattern {}
 
 impl Gen for AssignmentPattern {}
 
+impl Gen for PrivateIdentifier {}
+
+impl GenExpr for PrivateFieldExpression {}
+
+impl GenExpr for PrivateInExpression {}
+
+impl Gen for Class {}
+
+impl Gen for ClassBody {}
+
+impl Gen for StaticBlock {}
+
+impl Gen for MethodDefinition {}
+
+impl Gen for PropertyDefinition {}
+
 impl GenExpr for Expression {}
 
 impl Gen for Argument {}
@@ -171,3 +189,5 @@ impl Gen for PropertyKey {}
 impl Gen for Statement {}
 
 impl Gen for BindingPattern {}
+
+impl Gen for ClassElement {}

@@ -1,12 +1,14 @@
 // Generated from tools/nodes/table.txt; edit that and run tools/nodes/generate.
 // What is printed by itself, or at a level.
 ghost use Rattle.jsgen_tree.specs.Tree.{type_of};
-ghost use Rattle.jsgen_tree.specs.Rows.{in_argument, in_array_expression_element, in_simple_assignment_target, in_assignment_target, in_for_statement_init, in_for_statement_left, in_object_property_kind, in_property_key, expression_plain, statement_plain, binding_pattern_plain};
+ghost use Rattle.jsgen_tree.specs.Rows.{in_argument, in_array_expression_element, in_simple_assignment_target, in_assignment_target, in_for_statement_init, in_for_statement_left, in_object_property_kind, in_property_key, expression_plain, statement_plain, binding_pattern_plain, class_element_plain};
 ghost use Rattle.jsgen_syntax.specs.declared.precedence.Precedence.TheVariants.{Lowest, Comma};
 ghost use Rattle.jsgen_place.specs.Place.{at_level, in_brackets, among_statements, loop_head};
-ghost use Rattle.jsgen_model.specs.Spell.{spell, key_text, left_place};
+ghost use Rattle.jsgen_model.specs.Items.{◌⊕◌};
+ghost use Rattle.jsgen_model.specs.Spell.{spell, key_text, left_place, element_end};
 
 use crate::{PrintAlone, PrintAtLevel};
+use jsgen_nodes::classes::print_ended_element;
 use jsgen_nodes::collections::{print_key_text, print_object_property};
 use jsgen_nodes::loops::print_left;
 use jsgen_nodes::sets::{
@@ -19,7 +21,7 @@ use jsgen_printer::Printer;
 use jsgen_spelled::{print_spread_element, print_variable_declaration};
 use jsgen_syntax::Precedence;
 use jsgen_tree::{
-    Argument, ArrayExpressionElement, AssignmentTarget, BindingPattern, Expression,
+    Argument, ArrayExpressionElement, AssignmentTarget, BindingPattern, ClassElement, Expression,
     ForStatementInit, ForStatementLeft, ObjectPropertyKind, PropertyKey, SimpleAssignmentTarget,
     Statement,
 };
@@ -139,5 +141,14 @@ impl<N: PrintNode> PrintAlone for BindingPattern<N> {
 
     fn print_alone(&self, p: &mut Printer<'_>, context: Context) {
         print_binding_pattern(self, p, Place::at_level(Precedence::Lowest, context));
+    }
+}
+
+impl<N: PrintNode> PrintAlone for ClassElement<N> {
+    ghost alone = { λ n context. spell (class_element_plain N.plain n) (at_level Lowest context) ⊕ element_end (type_of (class_element_plain N.plain n)) };
+
+    fn print_alone(&self, p: &mut Printer<'_>, context: Context) {
+        let _ = context;
+        print_ended_element(self, p, Place::at_level(Precedence::Lowest, context));
     }
 }

@@ -2,11 +2,12 @@
 // Lists, children that may be absent, and sets that don't nest.
 ghost use Rattle.std.specs.Prelude.{◌≡◌, map, option_map};
 ghost use Rattle.jsgen_tree.specs.Tree.{optional, trees, holed};
-ghost use Rattle.jsgen_tree.specs.Rows.{in_expression, in_argument, in_array_expression_element, in_chain_element, in_simple_assignment_target, in_assignment_target, in_arrow_function_body, in_for_statement_init, in_for_statement_left, in_object_property_kind, in_property_key, in_statement, in_binding_pattern, comment_row, directive_row, variable_declarator_row, binding_identifier_row, block_statement_row, formal_parameter_row, formal_parameter_rest_row, function_body_row, label_identifier_row, switch_case_row, catch_clause_row, binding_property_row, binding_rest_element_row};
+ghost use Rattle.jsgen_tree.specs.Rows.{in_expression, in_argument, in_array_expression_element, in_chain_element, in_simple_assignment_target, in_assignment_target, in_arrow_function_body, in_for_statement_init, in_for_statement_left, in_object_property_kind, in_property_key, in_statement, in_binding_pattern, in_class_element, comment_row, directive_row, variable_declarator_row, binding_identifier_row, block_statement_row, formal_parameter_row, formal_parameter_rest_row, function_body_row, label_identifier_row, switch_case_row, catch_clause_row, binding_property_row, binding_rest_element_row};
 ghost use Rattle.jsgen_check.specs.Verdict.{child_verdict, maybe_verdict, children_verdict};
 ghost use Rattle.jsgen_tree.specs.declared.types.NodeSet.TheVariants as sets;
 
 use crate::choices::{check_catch_clause, check_switch_case};
+use crate::classes::{check_private_field_expression, check_private_identifier};
 use crate::collections::{check_object_property, check_spread_element};
 use crate::expressions::{
     check_call_expression, check_computed_member_expression, check_identifier_name,
@@ -25,8 +26,8 @@ use jsgen_model::TreeFault;
 use jsgen_tree::{
     Argument, ArrayExpressionElement, ArrowFunctionBody, AssignmentTarget, BindingIdentifier,
     BindingPatternNode, BindingProperty, BindingRestElement, BlockStatement, CatchClause,
-    ChainElement, Comment, Directive, ExpressionNode, ForStatementInit, ForStatementLeft,
-    FormalParameter, FormalParameterRest, FunctionBody, LabelIdentifier, NodeSet,
+    ChainElement, ClassElementNode, Comment, Directive, ExpressionNode, ForStatementInit,
+    ForStatementLeft, FormalParameter, FormalParameterRest, FunctionBody, LabelIdentifier, NodeSet,
     ObjectPropertyKind, PropertyKey, SimpleAssignmentTarget, StatementNode, SwitchCase,
     VariableDeclarator,
 };
@@ -160,6 +161,20 @@ pub fn check_binding_properties<N: CheckNode>(
     let mut below = Ok(0);
     for node in nodes {
         let found = check_binding_property(node, around);
+        below = higher(below, found);
+    }
+    below
+}
+
+pub fn check_class_elements<N: CheckNode>(
+    nodes: &[ClassElementNode<N>],
+    around: &Surroundings<'_>,
+) -> Result<u64, TreeFault>
+    ensures { result ≡ children_verdict around.now sets.ClassElement (trees (map (in_class_element N.plain) nodes.now)) }
+{
+    let mut below = Ok(0);
+    for node in nodes {
+        let found = check_child(node.get(), NodeSet::ClassElement, around);
         below = higher(below, found);
     }
     below
@@ -388,6 +403,7 @@ pub fn check_chain_element<N: CheckNode>(
         ChainElement::ComputedMemberExpression(node) => check_computed_member_expression(
             node, around,
         ),
+        ChainElement::PrivateFieldExpression(node) => check_private_field_expression(node, around),
         ChainElement::CallExpression(node) => check_call_expression(node, around),
     }
 }
@@ -408,6 +424,9 @@ pub fn check_simple_assignment_target<N: CheckNode>(
         SimpleAssignmentTarget::ComputedMemberExpression(node) => check_computed_member_expression(
             node, around,
         ),
+        SimpleAssignmentTarget::PrivateFieldExpression(node) => check_private_field_expression(
+            node, around,
+        ),
     }
 }
 
@@ -423,6 +442,9 @@ pub fn check_assignment_target<N: CheckNode>(
             node, around,
         ),
         AssignmentTarget::ComputedMemberExpression(node) => check_computed_member_expression(
+            node, around,
+        ),
+        AssignmentTarget::PrivateFieldExpression(node) => check_private_field_expression(
             node, around,
         ),
     }
@@ -475,6 +497,9 @@ pub fn check_for_statement_left<N: CheckNode>(
         ForStatementLeft::ComputedMemberExpression(node) => check_computed_member_expression(
             node, around,
         ),
+        ForStatementLeft::PrivateFieldExpression(node) => check_private_field_expression(
+            node, around,
+        ),
     }
 }
 
@@ -498,6 +523,7 @@ pub fn check_property_key<N: CheckNode>(
 {
     match node {
         PropertyKey::IdentifierName(node) => check_identifier_name(node, around),
+        PropertyKey::PrivateIdentifier(node) => check_private_identifier(node, around),
         PropertyKey::Expression(node) => check_child(node.get(), NodeSet::PropertyKey, around),
     }
 }

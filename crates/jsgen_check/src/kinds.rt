@@ -1,19 +1,25 @@
-// What places and methods ask of functions.
+// What places and methods ask of functions and classes.
 ghost use Rattle.std.specs.Prelude.{◌≡◌};
+ghost use Rattle.jsgen_tree.specs.declared.types.NodeSet.TheVariants as sets;
 ghost use Rattle.jsgen_tree.specs.Rows.{expression_plain, function_row};
 ghost use Rattle.jsgen_tree.specs.Plain.{node_plain};
-ghost use Rattle.jsgen_model.specs.Valid.{fits_kind, fits_method};
+ghost use Rattle.jsgen_model.specs.Valid.{fits_kind, fits_method, set_faults};
+ghost use Rattle.jsgen_rules.specs.Verdict.{verdict};
+ghost use Rattle.jsgen_check.specs.Verdict.{child_verdict};
 
-use crate::CheckNode;
-use jsgen_rules::{fits_accessor, function_fits};
-use jsgen_tree::{Expression, Function, NodeSet, PropertyKind};
+use crate::functions::check_function;
+use crate::{CheckNode, Surroundings};
+use jsgen_model::TreeFault;
+use jsgen_rules::{check_set, class_fits, fits_accessor, function_fits};
+use jsgen_tree::{Expression, Function, NodeSet, NodeType, PropertyKind};
 
-/// Whether an expression may stand at a place that asks for this set, as far as it is a function.
+/// Whether an expression may stand at a place that asks for this set, as far as it is a function or a class.
 pub fn expression_fits_kind<N: CheckNode>(node: &Expression<N>, set: NodeSet) -> bool
     ensures { result ≡ fits_kind set (expression_plain N.plain node.now) }
 {
     match node {
         Expression::Function(node) => function_fits(node.kind, set),
+        Expression::Class(node) => class_fits(node.kind, set),
         _ => true,
     }
 }
@@ -23,4 +29,27 @@ pub fn method_fits(node: &Function, kind: PropertyKind) -> bool
     ensures { result ≡ fits_method kind (function_row node_plain node.now) }
 {
     node.id.is_none() && fits_accessor(kind, &node.params)
+}
+
+/// A function that stands at a place of its own, where it is an expression.
+pub fn check_function_expression<N: CheckNode>(
+    node: &Function<N>,
+    around: &Surroundings<'_>,
+) -> Result<u64, TreeFault>
+    ensures { result ≡ child_verdict around.now sets.Function (function_row N.plain node.now) }
+{
+    check_function_place(node)?;
+    check_function(node, around)
+}
+
+fn check_function_place<N: CheckNode>(node: &Function<N>) -> Result<(), TreeFault>
+    ensures { result ≡ verdict (set_faults sets.Function (function_row N.plain node.now)) }
+{
+    let fits_kind = function_fits(node.kind, NodeSet::Function);
+    check_set(
+        NodeType::Function,
+        NodeSet::Function,
+        fits_kind,
+        node.span.start,
+    )
 }

@@ -15,6 +15,7 @@ ghost use Rattle.jsgen_check.specs.Verdict.{tables_of, tree_verdict, child_verdi
 mod assignments;
 mod children;
 mod choices;
+mod classes;
 mod collections;
 mod expressions;
 mod functions;
@@ -36,13 +37,14 @@ use crate::links::{expression_has_optional_link, has_optional_link};
 use crate::program::check_program_row;
 use crate::rules::binds_nothing;
 use crate::sets::{
-    check_binding_pattern_set, check_declaration_set, check_expression_set, check_statement_set,
+    check_binding_pattern_set, check_class_element_set, check_declaration_set,
+    check_expression_set, check_statement_set,
 };
 pub use crate::surroundings::Surroundings;
 use jsgen_model::TreeFault;
 use jsgen_rules::{
-    check_no_optional_link, check_set, function_fits, is_among_statements, is_declaration,
-    takes_optional_link,
+    check_no_optional_link, check_set, class_fits, function_fits, is_among_statements,
+    is_declaration, takes_optional_link,
 };
 use jsgen_tree::{
     CodegenOptions, Expression, GetSpan, IdentifierReference, Node, NodeSet, NodeType,
@@ -69,7 +71,7 @@ pub trait CheckNode {
     fn is_declaration(&self) -> bool
         ensures { result ≡ is_declaration (plain self.now) };
 
-    /// Whether it may stand at a place that asks for this set, as far as it is a function or a declaration.
+    /// Whether it may stand at a place that asks for this set, as far as it is a function, a class or a declaration.
     fn fits_kind(&self, set: NodeSet) -> bool
         ensures { result ≡ fits_kind set (plain self.now) };
 
@@ -218,13 +220,19 @@ impl CheckNode for Node {
     }
 
     fn is_declaration(&self) -> bool {
-        is_declaration(self.declared_kind(), self.as_function().is_some())
+        is_declaration(
+            self.declared_kind(),
+            self.as_function().is_some() || self.class_kind().is_some(),
+        )
     }
 
     fn fits_kind(&self, set: NodeSet) -> bool {
         match self.as_function() {
             Some(function) => function_fits(function.kind, set),
-            None => is_bound(self, set),
+            None => match self.class_kind() {
+                Some(kind) => class_fits(kind, set),
+                None => is_bound(self, set),
+            },
         }
     }
 
@@ -258,6 +266,7 @@ impl CheckNode for Node {
             Node::Statement(statement) => check_statement_set(statement, around),
             Node::Declaration(declaration) => check_declaration_set(declaration, around),
             Node::BindingPattern(pattern) => check_binding_pattern_set(pattern, around),
+            Node::ClassElement(element) => check_class_element_set(element, around),
         }
     }
 }

@@ -1,13 +1,13 @@
 // Where optional links may stand (ECMA-262, 13.3).
 ghost use Rattle.std.specs.Prelude.{◌≡◌};
 ghost use Rattle.jsgen_tree.specs.Inside.{has_optional_link};
-ghost use Rattle.jsgen_tree.specs.Rows.{static_member_expression_row, computed_member_expression_row, call_expression_row, in_simple_assignment_target, in_assignment_target, in_chain_element, expression_plain};
+ghost use Rattle.jsgen_tree.specs.Rows.{static_member_expression_row, computed_member_expression_row, private_field_expression_row, call_expression_row, in_simple_assignment_target, in_assignment_target, in_chain_element, expression_plain};
 ghost use Rattle.jsgen_tree.specs.Plain.{node_plain};
 
 use crate::CheckNode;
 use jsgen_tree::{
     AssignmentTarget, CallExpression, ChainElement, ComputedMemberExpression, Expression, Node,
-    SimpleAssignmentTarget, Statement, StaticMemberExpression,
+    PrivateFieldExpression, SimpleAssignmentTarget, Statement, StaticMemberExpression,
 };
 
 pub fn static_member_has_optional_link<N: CheckNode>(node: &StaticMemberExpression<N>) -> bool
@@ -18,6 +18,12 @@ pub fn static_member_has_optional_link<N: CheckNode>(node: &StaticMemberExpressi
 
 pub fn computed_member_has_optional_link<N: CheckNode>(node: &ComputedMemberExpression<N>) -> bool
     ensures { result ≡ has_optional_link (computed_member_expression_row N.plain node.now) }
+{
+    node.optional || node.object.get().has_optional_link()
+}
+
+pub fn private_member_has_optional_link<N: CheckNode>(node: &PrivateFieldExpression<N>) -> bool
+    ensures { result ≡ has_optional_link (private_field_expression_row N.plain node.now) }
 {
     node.optional || node.object.get().has_optional_link()
 }
@@ -34,6 +40,7 @@ pub fn element_has_optional_link<N: CheckNode>(node: &ChainElement<N>) -> bool
     match node {
         ChainElement::StaticMemberExpression(node) => static_member_has_optional_link(node),
         ChainElement::ComputedMemberExpression(node) => computed_member_has_optional_link(node),
+        ChainElement::PrivateFieldExpression(node) => private_member_has_optional_link(node),
         ChainElement::CallExpression(node) => call_has_optional_link(node),
     }
 }
@@ -49,6 +56,9 @@ pub fn target_has_optional_link<N: CheckNode>(node: &SimpleAssignmentTarget<N>) 
         SimpleAssignmentTarget::ComputedMemberExpression(node) => computed_member_has_optional_link(
             node,
         ),
+        SimpleAssignmentTarget::PrivateFieldExpression(node) => private_member_has_optional_link(
+            node,
+        ),
     }
 }
 
@@ -59,6 +69,7 @@ pub fn assigned_has_optional_link<N: CheckNode>(node: &AssignmentTarget<N>) -> b
         AssignmentTarget::IdentifierReference(_) => false,
         AssignmentTarget::StaticMemberExpression(node) => static_member_has_optional_link(node),
         AssignmentTarget::ComputedMemberExpression(node) => computed_member_has_optional_link(node),
+        AssignmentTarget::PrivateFieldExpression(node) => private_member_has_optional_link(node),
     }
 }
 
@@ -75,6 +86,7 @@ pub fn has_optional_link(node: &Node) -> bool
         },
         Node::Declaration(_) => false,
         Node::BindingPattern(_) => false,
+        Node::ClassElement(_) => false,
     }
 }
 
@@ -88,6 +100,9 @@ pub fn expression_has_optional_link(expression: &Expression) -> bool
             node.optional || has_optional_link(node.object.get())
         }
         Expression::ComputedMemberExpression(node) => {
+            node.optional || has_optional_link(node.object.get())
+        }
+        Expression::PrivateFieldExpression(node) => {
             node.optional || has_optional_link(node.object.get())
         }
         Expression::CallExpression(node) => node.optional || has_optional_link(node.callee.get()),

@@ -8,6 +8,7 @@ ghost use Rattle.jsgen_model.specs.Valid.{own_faults, declaration_faults, sequen
 ghost use Rattle.jsgen_rules.specs.Verdict.{verdict};
 ghost use Rattle.jsgen_check.specs.Verdict.{surroundings_plain};
 
+mod classes;
 mod functions;
 mod keys;
 mod links;
@@ -15,6 +16,10 @@ mod patterns;
 mod statements;
 
 use crate::{CheckNode, Surroundings};
+pub use classes::{
+    check_class_rules, check_method_definition_rules, check_private_identifier_rules,
+    check_property_definition_rules,
+};
 pub use functions::{check_function_rules, check_return_statement_rules};
 use jsgen_model::TreeFault;
 use jsgen_rules::{
@@ -24,17 +29,18 @@ use jsgen_rules::{
 use jsgen_syntax::Span;
 use jsgen_tree::{
     BigIntLiteral, BindingIdentifier, Comment, Directive, ExpressionNode, IdentifierName,
-    IdentifierReference, LabelIdentifier, NumericLiteral, NumericValue, RegExpLiteral, SequenceExpression,
-    VariableDeclaration, VariableDeclarator,
+    IdentifierReference, LabelIdentifier, NumericLiteral, NumericValue, RegExpLiteral,
+    SequenceExpression, VariableDeclaration, VariableDeclarator,
 };
 pub use keys::check_object_property_rules;
 pub use links::{
     check_assignment_expression_rules, check_call_expression_rules, check_chain_expression_rules,
-    check_computed_member_expression_rules, check_static_member_expression_rules,
-    check_update_expression_rules,
+    check_computed_member_expression_rules, check_private_field_expression_rules,
+    check_static_member_expression_rules, check_update_expression_rules,
 };
 pub use patterns::{
-    binds_nothing, check_binding_property_rules, check_object_pattern_rules, declaration_binds_nothing,
+    binds_nothing, check_binding_property_rules, check_object_pattern_rules,
+    declaration_binds_nothing,
 };
 pub use statements::{
     check_do_while_statement_rules, check_for_in_statement_rules, check_for_of_statement_rules,

@@ -1,13 +1,17 @@
 // Generated from tools/nodes/table.txt; edit that and run tools/nodes/generate.
 // A member of a set is checked as its own type is.
 ghost use Rattle.std.specs.Prelude.{◌≡◌};
-ghost use Rattle.jsgen_tree.specs.Rows.{expression_plain, declaration_plain, statement_plain, binding_pattern_plain};
+ghost use Rattle.jsgen_tree.specs.Rows.{expression_plain, declaration_plain, statement_plain, binding_pattern_plain, class_element_plain};
 ghost use Rattle.jsgen_check.specs.Verdict.{tree_verdict};
 
 use crate::assignments::{
     check_assignment_expression, check_conditional_expression, check_sequence_expression,
 };
 use crate::choices::{check_switch_statement, check_try_statement};
+use crate::classes::{
+    check_class, check_method_definition, check_private_field_expression,
+    check_private_in_expression, check_property_definition, check_static_block,
+};
 use crate::collections::{check_array_expression, check_object_expression};
 use crate::expressions::{
     check_big_int_literal, check_binary_expression, check_boolean_literal, check_call_expression,
@@ -33,7 +37,7 @@ use crate::statements::{
 };
 use crate::{CheckNode, Surroundings};
 use jsgen_model::TreeFault;
-use jsgen_tree::{BindingPattern, Declaration, Expression, Statement};
+use jsgen_tree::{BindingPattern, ClassElement, Declaration, Expression, Statement};
 
 #[inline(never)]
 pub fn check_expression_set<N: CheckNode>(
@@ -73,6 +77,9 @@ pub fn check_expression_set<N: CheckNode>(
         Expression::AssignmentExpression(node) => check_assignment_expression(node, around),
         Expression::Function(node) => check_function(node, around),
         Expression::ArrowFunctionExpression(node) => check_arrow_function_expression(node, around),
+        Expression::Class(node) => check_class(node, around),
+        Expression::PrivateFieldExpression(node) => check_private_field_expression(node, around),
+        Expression::PrivateInExpression(node) => check_private_in_expression(node, around),
     }
 }
 
@@ -86,6 +93,7 @@ pub fn check_declaration_set<N: CheckNode>(
     match node {
         Declaration::VariableDeclaration(node) => check_variable_declaration(node, around),
         Declaration::Function(node) => check_function(node, around),
+        Declaration::Class(node) => check_class(node, around),
     }
 }
 
@@ -130,5 +138,19 @@ pub fn check_binding_pattern_set<N: CheckNode>(
         BindingPattern::ObjectPattern(node) => check_object_pattern(node, around),
         BindingPattern::ArrayPattern(node) => check_array_pattern(node, around),
         BindingPattern::AssignmentPattern(node) => check_assignment_pattern(node, around),
+    }
+}
+
+#[inline(never)]
+pub fn check_class_element_set<N: CheckNode>(
+    node: &ClassElement<N>,
+    around: &Surroundings<'_>,
+) -> Result<u64, TreeFault>
+    ensures { result ≡ tree_verdict around.now (class_element_plain N.plain node.now) }
+{
+    match node {
+        ClassElement::StaticBlock(node) => check_static_block(node, around),
+        ClassElement::MethodDefinition(node) => check_method_definition(node, around),
+        ClassElement::PropertyDefinition(node) => check_property_definition(node, around),
     }
 }

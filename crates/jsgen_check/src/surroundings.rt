@@ -32,4 +32,15 @@ impl<'a> Surroundings<'a> {
             ..*self
         }
     }
+
+    /// What surrounds the statements of a static block that this surrounds.
+    #[tactic(auto, unfolding(crate::specs::Verdict::surroundings_plain))]
+    pub fn within_static_block(&self) -> Surroundings<'a>
+        ensures { surroundings_plain result ≡ around_children (surroundings_plain self.now) types.StaticBlock }
+    {
+        Surroundings {
+            in_function: false,
+            ..*self
+        }
+    }
 }

@@ -3,13 +3,14 @@
 use Rattle.std.proofs.Common.{◌≡◌, Bool, true, false, refl}
 use Rattle.jsgen_tree.specs.Tree.{Tree, type_of}
 use Rattle.jsgen_tree.specs.declared.types.NodeType.{NodeType}
-use Rattle.jsgen_tree.specs.Sets.{is_comment, is_directive, is_statement, is_variable_declarator, is_binding_pattern, is_expression, is_identifier_name, is_argument, is_chain_element, is_array_expression_element, is_property_key, is_object_property_kind, is_simple_assignment_target, is_assignment_target, is_formal_parameter, is_formal_parameter_rest, is_binding_identifier, is_formal_parameters, is_function_body, is_arrow_function_body, is_for_statement_init, is_for_statement_left, is_label_identifier, is_switch_case, is_block_statement, is_catch_clause, is_binding_property, is_binding_rest_element}
-use Rattle.jsgen_tree.specs.Rows.{expression_plain, declaration_plain, statement_plain, binding_pattern_plain}
+use Rattle.jsgen_tree.specs.Sets.{is_comment, is_directive, is_statement, is_variable_declarator, is_binding_pattern, is_expression, is_identifier_name, is_argument, is_chain_element, is_array_expression_element, is_property_key, is_object_property_kind, is_simple_assignment_target, is_assignment_target, is_formal_parameter, is_formal_parameter_rest, is_binding_identifier, is_formal_parameters, is_function_body, is_arrow_function_body, is_for_statement_init, is_for_statement_left, is_label_identifier, is_switch_case, is_block_statement, is_catch_clause, is_binding_property, is_binding_rest_element, is_private_identifier, is_class_body, is_class_element, is_function}
+use Rattle.jsgen_tree.specs.Rows.{expression_plain, declaration_plain, statement_plain, binding_pattern_plain, class_element_plain}
 use Rattle.jsgen_fields.specs.Meaning.{is_program}
 use Rattle.jsgen_tree.specs.declared.sets.Expression.{Expression}
 use Rattle.jsgen_tree.specs.declared.sets.Declaration.{Declaration}
 use Rattle.jsgen_tree.specs.declared.sets.Statement.{Statement}
 use Rattle.jsgen_tree.specs.declared.sets.BindingPattern.{BindingPattern}
+use Rattle.jsgen_tree.specs.declared.sets.ClassElement.{ClassElement}
 use Rattle.jsgen_fields.specs.Others.{is_other_declaration, is_other_statement, is_other_expression}
 use Rattle.jsgen_fields.specs.declared.others.OtherDeclaration.{OtherDeclaration}
 use Rattle.jsgen_fields.specs.declared.others.OtherStatement.{OtherStatement}
@@ -19,11 +20,13 @@ use Rattle.jsgen_tree.specs.declared.sets.Declaration.TheVariants as declaration
 use Rattle.jsgen_tree.specs.declared.sets.BindingPattern.TheVariants as binding_patterns
 use Rattle.jsgen_tree.specs.declared.sets.Statement.TheVariants as statements
 use Rattle.jsgen_tree.specs.declared.sets.Expression.TheVariants as expressions
+use Rattle.jsgen_tree.specs.declared.sets.ClassElement.TheVariants as class_elements
 
 -- ---- what is so of each type of a set is so of each row of it
 
 of_declaration : {N : Type 0} (plain : N → Tree) (f : NodeType → Bool) (b : Bool) → f types.VariableDeclaration ≡ b → (r : Declaration N) → is_other_declaration r ≡ true → f (type_of (declaration_plain plain r)) ≡ b
 of_declaration plain f b h0 (declarations.Function r) o = cc
+of_declaration plain f b h0 (declarations.Class r) o = cc
 of_declaration plain f b h0 (declarations.VariableDeclaration r) o = h0
 
 of_binding_pattern : {N : Type 0} (plain : N → Tree) (f : NodeType → Bool) (b : Bool) → f types.BindingIdentifier ≡ b → f types.ObjectPattern ≡ b → f types.ArrayPattern ≡ b → f types.AssignmentPattern ≡ b → (r : BindingPattern N) → f (type_of (binding_pattern_plain plain r)) ≡ b
@@ -52,35 +55,43 @@ of_statement plain f b h0 h1 h2 h3 h4 h5 h6 h7 h8 h9 h10 h11 h12 h13 h14 h15 h16
 of_statement plain f b h0 h1 h2 h3 h4 h5 h6 h7 h8 h9 h10 h11 h12 h13 h14 h15 h16 (statements.SwitchStatement r) o = h15
 of_statement plain f b h0 h1 h2 h3 h4 h5 h6 h7 h8 h9 h10 h11 h12 h13 h14 h15 h16 (statements.TryStatement r) o = h16
 
-of_expression : {N : Type 0} (plain : N → Tree) (f : NodeType → Bool) (b : Bool) → f types.IdentifierReference ≡ b → f types.ThisExpression ≡ b → f types.NullLiteral ≡ b → f types.BooleanLiteral ≡ b → f types.NumericLiteral ≡ b → f types.BigIntLiteral ≡ b → f types.StringLiteral ≡ b → f types.RegExpLiteral ≡ b → f types.BinaryExpression ≡ b → f types.LogicalExpression ≡ b → f types.ParenthesizedExpression ≡ b → f types.StaticMemberExpression ≡ b → f types.ComputedMemberExpression ≡ b → f types.CallExpression ≡ b → f types.ChainExpression ≡ b → f types.ArrayExpression ≡ b → f types.ObjectExpression ≡ b → f types.UnaryExpression ≡ b → f types.UpdateExpression ≡ b → f types.NewExpression ≡ b → f types.NewTarget ≡ b → f types.Super ≡ b → f types.ImportMeta ≡ b → f types.ConditionalExpression ≡ b → f types.SequenceExpression ≡ b → f types.AssignmentExpression ≡ b → f types.ArrowFunctionExpression ≡ b → (r : Expression N) → is_other_expression r ≡ true → f (type_of (expression_plain plain r)) ≡ b
-of_expression plain f b h0 h1 h2 h3 h4 h5 h6 h7 h8 h9 h10 h11 h12 h13 h14 h15 h16 h17 h18 h19 h20 h21 h22 h23 h24 h25 h26 (expressions.Function r) o = cc
-of_expression plain f b h0 h1 h2 h3 h4 h5 h6 h7 h8 h9 h10 h11 h12 h13 h14 h15 h16 h17 h18 h19 h20 h21 h22 h23 h24 h25 h26 (expressions.IdentifierReference r) o = h0
-of_expression plain f b h0 h1 h2 h3 h4 h5 h6 h7 h8 h9 h10 h11 h12 h13 h14 h15 h16 h17 h18 h19 h20 h21 h22 h23 h24 h25 h26 (expressions.ThisExpression r) o = h1
-of_expression plain f b h0 h1 h2 h3 h4 h5 h6 h7 h8 h9 h10 h11 h12 h13 h14 h15 h16 h17 h18 h19 h20 h21 h22 h23 h24 h25 h26 (expressions.NullLiteral r) o = h2
-of_expression plain f b h0 h1 h2 h3 h4 h5 h6 h7 h8 h9 h10 h11 h12 h13 h14 h15 h16 h17 h18 h19 h20 h21 h22 h23 h24 h25 h26 (expressions.BooleanLiteral r) o = h3
-of_expression plain f b h0 h1 h2 h3 h4 h5 h6 h7 h8 h9 h10 h11 h12 h13 h14 h15 h16 h17 h18 h19 h20 h21 h22 h23 h24 h25 h26 (expressions.NumericLiteral r) o = h4
-of_expression plain f b h0 h1 h2 h3 h4 h5 h6 h7 h8 h9 h10 h11 h12 h13 h14 h15 h16 h17 h18 h19 h20 h21 h22 h23 h24 h25 h26 (expressions.BigIntLiteral r) o = h5
-of_expression plain f b h0 h1 h2 h3 h4 h5 h6 h7 h8 h9 h10 h11 h12 h13 h14 h15 h16 h17 h18 h19 h20 h21 h22 h23 h24 h25 h26 (expressions.StringLiteral r) o = h6
-of_expression plain f b h0 h1 h2 h3 h4 h5 h6 h7 h8 h9 h10 h11 h12 h13 h14 h15 h16 h17 h18 h19 h20 h21 h22 h23 h24 h25 h26 (expressions.RegExpLiteral r) o = h7
-of_expression plain f b h0 h1 h2 h3 h4 h5 h6 h7 h8 h9 h10 h11 h12 h13 h14 h15 h16 h17 h18 h19 h20 h21 h22 h23 h24 h25 h26 (expressions.BinaryExpression r) o = h8
-of_expression plain f b h0 h1 h2 h3 h4 h5 h6 h7 h8 h9 h10 h11 h12 h13 h14 h15 h16 h17 h18 h19 h20 h21 h22 h23 h24 h25 h26 (expressions.LogicalExpression r) o = h9
-of_expression plain f b h0 h1 h2 h3 h4 h5 h6 h7 h8 h9 h10 h11 h12 h13 h14 h15 h16 h17 h18 h19 h20 h21 h22 h23 h24 h25 h26 (expressions.ParenthesizedExpression r) o = h10
-of_expression plain f b h0 h1 h2 h3 h4 h5 h6 h7 h8 h9 h10 h11 h12 h13 h14 h15 h16 h17 h18 h19 h20 h21 h22 h23 h24 h25 h26 (expressions.StaticMemberExpression r) o = h11
-of_expression plain f b h0 h1 h2 h3 h4 h5 h6 h7 h8 h9 h10 h11 h12 h13 h14 h15 h16 h17 h18 h19 h20 h21 h22 h23 h24 h25 h26 (expressions.ComputedMemberExpression r) o = h12
-of_expression plain f b h0 h1 h2 h3 h4 h5 h6 h7 h8 h9 h10 h11 h12 h13 h14 h15 h16 h17 h18 h19 h20 h21 h22 h23 h24 h25 h26 (expressions.CallExpression r) o = h13
-of_expression plain f b h0 h1 h2 h3 h4 h5 h6 h7 h8 h9 h10 h11 h12 h13 h14 h15 h16 h17 h18 h19 h20 h21 h22 h23 h24 h25 h26 (expressions.ChainExpression r) o = h14
-of_expression plain f b h0 h1 h2 h3 h4 h5 h6 h7 h8 h9 h10 h11 h12 h13 h14 h15 h16 h17 h18 h19 h20 h21 h22 h23 h24 h25 h26 (expressions.ArrayExpression r) o = h15
-of_expression plain f b h0 h1 h2 h3 h4 h5 h6 h7 h8 h9 h10 h11 h12 h13 h14 h15 h16 h17 h18 h19 h20 h21 h22 h23 h24 h25 h26 (expressions.ObjectExpression r) o = h16
-of_expression plain f b h0 h1 h2 h3 h4 h5 h6 h7 h8 h9 h10 h11 h12 h13 h14 h15 h16 h17 h18 h19 h20 h21 h22 h23 h24 h25 h26 (expressions.UnaryExpression r) o = h17
-of_expression plain f b h0 h1 h2 h3 h4 h5 h6 h7 h8 h9 h10 h11 h12 h13 h14 h15 h16 h17 h18 h19 h20 h21 h22 h23 h24 h25 h26 (expressions.UpdateExpression r) o = h18
-of_expression plain f b h0 h1 h2 h3 h4 h5 h6 h7 h8 h9 h10 h11 h12 h13 h14 h15 h16 h17 h18 h19 h20 h21 h22 h23 h24 h25 h26 (expressions.NewExpression r) o = h19
-of_expression plain f b h0 h1 h2 h3 h4 h5 h6 h7 h8 h9 h10 h11 h12 h13 h14 h15 h16 h17 h18 h19 h20 h21 h22 h23 h24 h25 h26 (expressions.NewTarget r) o = h20
-of_expression plain f b h0 h1 h2 h3 h4 h5 h6 h7 h8 h9 h10 h11 h12 h13 h14 h15 h16 h17 h18 h19 h20 h21 h22 h23 h24 h25 h26 (expressions.Super r) o = h21
-of_expression plain f b h0 h1 h2 h3 h4 h5 h6 h7 h8 h9 h10 h11 h12 h13 h14 h15 h16 h17 h18 h19 h20 h21 h22 h23 h24 h25 h26 (expressions.ImportMeta r) o = h22
-of_expression plain f b h0 h1 h2 h3 h4 h5 h6 h7 h8 h9 h10 h11 h12 h13 h14 h15 h16 h17 h18 h19 h20 h21 h22 h23 h24 h25 h26 (expressions.ConditionalExpression r) o = h23
-of_expression plain f b h0 h1 h2 h3 h4 h5 h6 h7 h8 h9 h10 h11 h12 h13 h14 h15 h16 h17 h18 h19 h20 h21 h22 h23 h24 h25 h26 (expressions.SequenceExpression r) o = h24
-of_expression plain f b h0 h1 h2 h3 h4 h5 h6 h7 h8 h9 h10 h11 h12 h13 h14 h15 h16 h17 h18 h19 h20 h21 h22 h23 h24 h25 h26 (expressions.AssignmentExpression r) o = h25
-of_expression plain f b h0 h1 h2 h3 h4 h5 h6 h7 h8 h9 h10 h11 h12 h13 h14 h15 h16 h17 h18 h19 h20 h21 h22 h23 h24 h25 h26 (expressions.ArrowFunctionExpression r) o = h26
+of_expression : {N : Type 0} (plain : N → Tree) (f : NodeType → Bool) (b : Bool) → f types.IdentifierReference ≡ b → f types.ThisExpression ≡ b → f types.NullLiteral ≡ b → f types.BooleanLiteral ≡ b → f types.NumericLiteral ≡ b → f types.BigIntLiteral ≡ b → f types.StringLiteral ≡ b → f types.RegExpLiteral ≡ b → f types.BinaryExpression ≡ b → f types.LogicalExpression ≡ b → f types.ParenthesizedExpression ≡ b → f types.StaticMemberExpression ≡ b → f types.ComputedMemberExpression ≡ b → f types.CallExpression ≡ b → f types.ChainExpression ≡ b → f types.ArrayExpression ≡ b → f types.ObjectExpression ≡ b → f types.UnaryExpression ≡ b → f types.UpdateExpression ≡ b → f types.NewExpression ≡ b → f types.NewTarget ≡ b → f types.Super ≡ b → f types.ImportMeta ≡ b → f types.ConditionalExpression ≡ b → f types.SequenceExpression ≡ b → f types.AssignmentExpression ≡ b → f types.ArrowFunctionExpression ≡ b → f types.PrivateFieldExpression ≡ b → f types.PrivateInExpression ≡ b → (r : Expression N) → is_other_expression r ≡ true → f (type_of (expression_plain plain r)) ≡ b
+of_expression plain f b h0 h1 h2 h3 h4 h5 h6 h7 h8 h9 h10 h11 h12 h13 h14 h15 h16 h17 h18 h19 h20 h21 h22 h23 h24 h25 h26 h27 h28 (expressions.Function r) o = cc
+of_expression plain f b h0 h1 h2 h3 h4 h5 h6 h7 h8 h9 h10 h11 h12 h13 h14 h15 h16 h17 h18 h19 h20 h21 h22 h23 h24 h25 h26 h27 h28 (expressions.Class r) o = cc
+of_expression plain f b h0 h1 h2 h3 h4 h5 h6 h7 h8 h9 h10 h11 h12 h13 h14 h15 h16 h17 h18 h19 h20 h21 h22 h23 h24 h25 h26 h27 h28 (expressions.IdentifierReference r) o = h0
+of_expression plain f b h0 h1 h2 h3 h4 h5 h6 h7 h8 h9 h10 h11 h12 h13 h14 h15 h16 h17 h18 h19 h20 h21 h22 h23 h24 h25 h26 h27 h28 (expressions.ThisExpression r) o = h1
+of_expression plain f b h0 h1 h2 h3 h4 h5 h6 h7 h8 h9 h10 h11 h12 h13 h14 h15 h16 h17 h18 h19 h20 h21 h22 h23 h24 h25 h26 h27 h28 (expressions.NullLiteral r) o = h2
+of_expression plain f b h0 h1 h2 h3 h4 h5 h6 h7 h8 h9 h10 h11 h12 h13 h14 h15 h16 h17 h18 h19 h20 h21 h22 h23 h24 h25 h26 h27 h28 (expressions.BooleanLiteral r) o = h3
+of_expression plain f b h0 h1 h2 h3 h4 h5 h6 h7 h8 h9 h10 h11 h12 h13 h14 h15 h16 h17 h18 h19 h20 h21 h22 h23 h24 h25 h26 h27 h28 (expressions.NumericLiteral r) o = h4
+of_expression plain f b h0 h1 h2 h3 h4 h5 h6 h7 h8 h9 h10 h11 h12 h13 h14 h15 h16 h17 h18 h19 h20 h21 h22 h23 h24 h25 h26 h27 h28 (expressions.BigIntLiteral r) o = h5
+of_expression plain f b h0 h1 h2 h3 h4 h5 h6 h7 h8 h9 h10 h11 h12 h13 h14 h15 h16 h17 h18 h19 h20 h21 h22 h23 h24 h25 h26 h27 h28 (expressions.StringLiteral r) o = h6
+of_expression plain f b h0 h1 h2 h3 h4 h5 h6 h7 h8 h9 h10 h11 h12 h13 h14 h15 h16 h17 h18 h19 h20 h21 h22 h23 h24 h25 h26 h27 h28 (expressions.RegExpLiteral r) o = h7
+of_expression plain f b h0 h1 h2 h3 h4 h5 h6 h7 h8 h9 h10 h11 h12 h13 h14 h15 h16 h17 h18 h19 h20 h21 h22 h23 h24 h25 h26 h27 h28 (expressions.BinaryExpression r) o = h8
+of_expression plain f b h0 h1 h2 h3 h4 h5 h6 h7 h8 h9 h10 h11 h12 h13 h14 h15 h16 h17 h18 h19 h20 h21 h22 h23 h24 h25 h26 h27 h28 (expressions.LogicalExpression r) o = h9
+of_expression plain f b h0 h1 h2 h3 h4 h5 h6 h7 h8 h9 h10 h11 h12 h13 h14 h15 h16 h17 h18 h19 h20 h21 h22 h23 h24 h25 h26 h27 h28 (expressions.ParenthesizedExpression r) o = h10
+of_expression plain f b h0 h1 h2 h3 h4 h5 h6 h7 h8 h9 h10 h11 h12 h13 h14 h15 h16 h17 h18 h19 h20 h21 h22 h23 h24 h25 h26 h27 h28 (expressions.StaticMemberExpression r) o = h11
+of_expression plain f b h0 h1 h2 h3 h4 h5 h6 h7 h8 h9 h10 h11 h12 h13 h14 h15 h16 h17 h18 h19 h20 h21 h22 h23 h24 h25 h26 h27 h28 (expressions.ComputedMemberExpression r) o = h12
+of_expression plain f b h0 h1 h2 h3 h4 h5 h6 h7 h8 h9 h10 h11 h12 h13 h14 h15 h16 h17 h18 h19 h20 h21 h22 h23 h24 h25 h26 h27 h28 (expressions.CallExpression r) o = h13
+of_expression plain f b h0 h1 h2 h3 h4 h5 h6 h7 h8 h9 h10 h11 h12 h13 h14 h15 h16 h17 h18 h19 h20 h21 h22 h23 h24 h25 h26 h27 h28 (expressions.ChainExpression r) o = h14
+of_expression plain f b h0 h1 h2 h3 h4 h5 h6 h7 h8 h9 h10 h11 h12 h13 h14 h15 h16 h17 h18 h19 h20 h21 h22 h23 h24 h25 h26 h27 h28 (expressions.ArrayExpression r) o = h15
+of_expression plain f b h0 h1 h2 h3 h4 h5 h6 h7 h8 h9 h10 h11 h12 h13 h14 h15 h16 h17 h18 h19 h20 h21 h22 h23 h24 h25 h26 h27 h28 (expressions.ObjectExpression r) o = h16
+of_expression plain f b h0 h1 h2 h3 h4 h5 h6 h7 h8 h9 h10 h11 h12 h13 h14 h15 h16 h17 h18 h19 h20 h21 h22 h23 h24 h25 h26 h27 h28 (expressions.UnaryExpression r) o = h17
+of_expression plain f b h0 h1 h2 h3 h4 h5 h6 h7 h8 h9 h10 h11 h12 h13 h14 h15 h16 h17 h18 h19 h20 h21 h22 h23 h24 h25 h26 h27 h28 (expressions.UpdateExpression r) o = h18
+of_expression plain f b h0 h1 h2 h3 h4 h5 h6 h7 h8 h9 h10 h11 h12 h13 h14 h15 h16 h17 h18 h19 h20 h21 h22 h23 h24 h25 h26 h27 h28 (expressions.NewExpression r) o = h19
+of_expression plain f b h0 h1 h2 h3 h4 h5 h6 h7 h8 h9 h10 h11 h12 h13 h14 h15 h16 h17 h18 h19 h20 h21 h22 h23 h24 h25 h26 h27 h28 (expressions.NewTarget r) o = h20
+of_expression plain f b h0 h1 h2 h3 h4 h5 h6 h7 h8 h9 h10 h11 h12 h13 h14 h15 h16 h17 h18 h19 h20 h21 h22 h23 h24 h25 h26 h27 h28 (expressions.Super r) o = h21
+of_expression plain f b h0 h1 h2 h3 h4 h5 h6 h7 h8 h9 h10 h11 h12 h13 h14 h15 h16 h17 h18 h19 h20 h21 h22 h23 h24 h25 h26 h27 h28 (expressions.ImportMeta r) o = h22
+of_expression plain f b h0 h1 h2 h3 h4 h5 h6 h7 h8 h9 h10 h11 h12 h13 h14 h15 h16 h17 h18 h19 h20 h21 h22 h23 h24 h25 h26 h27 h28 (expressions.ConditionalExpression r) o = h23
+of_expression plain f b h0 h1 h2 h3 h4 h5 h6 h7 h8 h9 h10 h11 h12 h13 h14 h15 h16 h17 h18 h19 h20 h21 h22 h23 h24 h25 h26 h27 h28 (expressions.SequenceExpression r) o = h24
+of_expression plain f b h0 h1 h2 h3 h4 h5 h6 h7 h8 h9 h10 h11 h12 h13 h14 h15 h16 h17 h18 h19 h20 h21 h22 h23 h24 h25 h26 h27 h28 (expressions.AssignmentExpression r) o = h25
+of_expression plain f b h0 h1 h2 h3 h4 h5 h6 h7 h8 h9 h10 h11 h12 h13 h14 h15 h16 h17 h18 h19 h20 h21 h22 h23 h24 h25 h26 h27 h28 (expressions.ArrowFunctionExpression r) o = h26
+of_expression plain f b h0 h1 h2 h3 h4 h5 h6 h7 h8 h9 h10 h11 h12 h13 h14 h15 h16 h17 h18 h19 h20 h21 h22 h23 h24 h25 h26 h27 h28 (expressions.PrivateFieldExpression r) o = h27
+of_expression plain f b h0 h1 h2 h3 h4 h5 h6 h7 h8 h9 h10 h11 h12 h13 h14 h15 h16 h17 h18 h19 h20 h21 h22 h23 h24 h25 h26 h27 h28 (expressions.PrivateInExpression r) o = h28
+
+of_class_element : {N : Type 0} (plain : N → Tree) (f : NodeType → Bool) (b : Bool) → f types.StaticBlock ≡ b → f types.MethodDefinition ≡ b → f types.PropertyDefinition ≡ b → (r : ClassElement N) → f (type_of (class_element_plain plain r)) ≡ b
+of_class_element plain f b h0 h1 h2 (class_elements.StaticBlock r) = h0
+of_class_element plain f b h0 h1 h2 (class_elements.MethodDefinition r) = h1
+of_class_element plain f b h0 h1 h2 (class_elements.PropertyDefinition r) = h2
 
 -- ---- set by set
 
@@ -94,7 +105,10 @@ pub no_statement_is_a_program : {N : Type 0} (plain : N → Tree) (r : OtherStat
 no_statement_is_a_program plain r = of_statement plain is_program false refl refl refl refl refl refl refl refl refl refl refl refl refl refl refl refl refl r.statement r.other
 
 pub no_expression_is_a_program : {N : Type 0} (plain : N → Tree) (r : OtherExpression N) → is_program (type_of (expression_plain plain r.expression)) ≡ false
-no_expression_is_a_program plain r = of_expression plain is_program false refl refl refl refl refl refl refl refl refl refl refl refl refl refl refl refl refl refl refl refl refl refl refl refl refl refl refl r.expression r.other
+no_expression_is_a_program plain r = of_expression plain is_program false refl refl refl refl refl refl refl refl refl refl refl refl refl refl refl refl refl refl refl refl refl refl refl refl refl refl refl refl refl r.expression r.other
+
+pub no_class_element_is_a_program : {N : Type 0} (plain : N → Tree) (r : ClassElement N) → is_program (type_of (class_element_plain plain r)) ≡ false
+no_class_element_is_a_program plain r = of_class_element plain is_program false refl refl refl r
 
 pub no_declaration_is_a_comment : {N : Type 0} (plain : N → Tree) (r : OtherDeclaration N) → is_comment (type_of (declaration_plain plain r.declaration)) ≡ false
 no_declaration_is_a_comment plain r = of_declaration plain is_comment false refl r.declaration r.other
@@ -106,7 +120,10 @@ pub no_statement_is_a_comment : {N : Type 0} (plain : N → Tree) (r : OtherStat
 no_statement_is_a_comment plain r = of_statement plain is_comment false refl refl refl refl refl refl refl refl refl refl refl refl refl refl refl refl refl r.statement r.other
 
 pub no_expression_is_a_comment : {N : Type 0} (plain : N → Tree) (r : OtherExpression N) → is_comment (type_of (expression_plain plain r.expression)) ≡ false
-no_expression_is_a_comment plain r = of_expression plain is_comment false refl refl refl refl refl refl refl refl refl refl refl refl refl refl refl refl refl refl refl refl refl refl refl refl refl refl refl r.expression r.other
+no_expression_is_a_comment plain r = of_expression plain is_comment false refl refl refl refl refl refl refl refl refl refl refl refl refl refl refl refl refl refl refl refl refl refl refl refl refl refl refl refl refl r.expression r.other
+
+pub no_class_element_is_a_comment : {N : Type 0} (plain : N → Tree) (r : ClassElement N) → is_comment (type_of (class_element_plain plain r)) ≡ false
+no_class_element_is_a_comment plain r = of_class_element plain is_comment false refl refl refl r
 
 pub no_declaration_is_a_directive : {N : Type 0} (plain : N → Tree) (r : OtherDeclaration N) → is_directive (type_of (declaration_plain plain r.declaration)) ≡ false
 no_declaration_is_a_directive plain r = of_declaration plain is_directive false refl r.declaration r.other
@@ -118,7 +135,10 @@ pub no_statement_is_a_directive : {N : Type 0} (plain : N → Tree) (r : OtherSt
 no_statement_is_a_directive plain r = of_statement plain is_directive false refl refl refl refl refl refl refl refl refl refl refl refl refl refl refl refl refl r.statement r.other
 
 pub no_expression_is_a_directive : {N : Type 0} (plain : N → Tree) (r : OtherExpression N) → is_directive (type_of (expression_plain plain r.expression)) ≡ false
-no_expression_is_a_directive plain r = of_expression plain is_directive false refl refl refl refl refl refl refl refl refl refl refl refl refl refl refl refl refl refl refl refl refl refl refl refl refl refl refl r.expression r.other
+no_expression_is_a_directive plain r = of_expression plain is_directive false refl refl refl refl refl refl refl refl refl refl refl refl refl refl refl refl refl refl refl refl refl refl refl refl refl refl refl refl refl r.expression r.other
+
+pub no_class_element_is_a_directive : {N : Type 0} (plain : N → Tree) (r : ClassElement N) → is_directive (type_of (class_element_plain plain r)) ≡ false
+no_class_element_is_a_directive plain r = of_class_element plain is_directive false refl refl refl r
 
 pub each_declaration_is_a_statement : {N : Type 0} (plain : N → Tree) (r : OtherDeclaration N) → is_statement (type_of (declaration_plain plain r.declaration)) ≡ true
 each_declaration_is_a_statement plain r = of_declaration plain is_statement true refl r.declaration r.other
@@ -130,7 +150,10 @@ pub each_statement_is_a_statement : {N : Type 0} (plain : N → Tree) (r : Other
 each_statement_is_a_statement plain r = of_statement plain is_statement true refl refl refl refl refl refl refl refl refl refl refl refl refl refl refl refl refl r.statement r.other
 
 pub no_expression_is_a_statement : {N : Type 0} (plain : N → Tree) (r : OtherExpression N) → is_statement (type_of (expression_plain plain r.expression)) ≡ false
-no_expression_is_a_statement plain r = of_expression plain is_statement false refl refl refl refl refl refl refl refl refl refl refl refl refl refl refl refl refl refl refl refl refl refl refl refl refl refl refl r.expression r.other
+no_expression_is_a_statement plain r = of_expression plain is_statement false refl refl refl refl refl refl refl refl refl refl refl refl refl refl refl refl refl refl refl refl refl refl refl refl refl refl refl refl refl r.expression r.other
+
+pub no_class_element_is_a_statement : {N : Type 0} (plain : N → Tree) (r : ClassElement N) → is_statement (type_of (class_element_plain plain r)) ≡ false
+no_class_element_is_a_statement plain r = of_class_element plain is_statement false refl refl refl r
 
 pub no_declaration_is_a_variable_declarator : {N : Type 0} (plain : N → Tree) (r : OtherDeclaration N) → is_variable_declarator (type_of (declaration_plain plain r.declaration)) ≡ false
 no_declaration_is_a_variable_declarator plain r = of_declaration plain is_variable_declarator false refl r.declaration r.other
@@ -142,7 +165,10 @@ pub no_statement_is_a_variable_declarator : {N : Type 0} (plain : N → Tree) (r
 no_statement_is_a_variable_declarator plain r = of_statement plain is_variable_declarator false refl refl refl refl refl refl refl refl refl refl refl refl refl refl refl refl refl r.statement r.other
 
 pub no_expression_is_a_variable_declarator : {N : Type 0} (plain : N → Tree) (r : OtherExpression N) → is_variable_declarator (type_of (expression_plain plain r.expression)) ≡ false
-no_expression_is_a_variable_declarator plain r = of_expression plain is_variable_declarator false refl refl refl refl refl refl refl refl refl refl refl refl refl refl refl refl refl refl refl refl refl refl refl refl refl refl refl r.expression r.other
+no_expression_is_a_variable_declarator plain r = of_expression plain is_variable_declarator false refl refl refl refl refl refl refl refl refl refl refl refl refl refl refl refl refl refl refl refl refl refl refl refl refl refl refl refl refl r.expression r.other
+
+pub no_class_element_is_a_variable_declarator : {N : Type 0} (plain : N → Tree) (r : ClassElement N) → is_variable_declarator (type_of (class_element_plain plain r)) ≡ false
+no_class_element_is_a_variable_declarator plain r = of_class_element plain is_variable_declarator false refl refl refl r
 
 pub no_declaration_is_a_binding_pattern : {N : Type 0} (plain : N → Tree) (r : OtherDeclaration N) → is_binding_pattern (type_of (declaration_plain plain r.declaration)) ≡ false
 no_declaration_is_a_binding_pattern plain r = of_declaration plain is_binding_pattern false refl r.declaration r.other
@@ -154,7 +180,10 @@ pub no_statement_is_a_binding_pattern : {N : Type 0} (plain : N → Tree) (r : O
 no_statement_is_a_binding_pattern plain r = of_statement plain is_binding_pattern false refl refl refl refl refl refl refl refl refl refl refl refl refl refl refl refl refl r.statement r.other
 
 pub no_expression_is_a_binding_pattern : {N : Type 0} (plain : N → Tree) (r : OtherExpression N) → is_binding_pattern (type_of (expression_plain plain r.expression)) ≡ false
-no_expression_is_a_binding_pattern plain r = of_expression plain is_binding_pattern false refl refl refl refl refl refl refl refl refl refl refl refl refl refl refl refl refl refl refl refl refl refl refl refl refl refl refl r.expression r.other
+no_expression_is_a_binding_pattern plain r = of_expression plain is_binding_pattern false refl refl refl refl refl refl refl refl refl refl refl refl refl refl refl refl refl refl refl refl refl refl refl refl refl refl refl refl refl r.expression r.other
+
+pub no_class_element_is_a_binding_pattern : {N : Type 0} (plain : N → Tree) (r : ClassElement N) → is_binding_pattern (type_of (class_element_plain plain r)) ≡ false
+no_class_element_is_a_binding_pattern plain r = of_class_element plain is_binding_pattern false refl refl refl r
 
 pub no_declaration_is_an_expression : {N : Type 0} (plain : N → Tree) (r : OtherDeclaration N) → is_expression (type_of (declaration_plain plain r.declaration)) ≡ false
 no_declaration_is_an_expression plain r = of_declaration plain is_expression false refl r.declaration r.other
@@ -166,7 +195,10 @@ pub no_statement_is_an_expression : {N : Type 0} (plain : N → Tree) (r : Other
 no_statement_is_an_expression plain r = of_statement plain is_expression false refl refl refl refl refl refl refl refl refl refl refl refl refl refl refl refl refl r.statement r.other
 
 pub each_expression_is_an_expression : {N : Type 0} (plain : N → Tree) (r : OtherExpression N) → is_expression (type_of (expression_plain plain r.expression)) ≡ true
-each_expression_is_an_expression plain r = of_expression plain is_expression true refl refl refl refl refl refl refl refl refl refl refl refl refl refl refl refl refl refl refl refl refl refl refl refl refl refl refl r.expression r.other
+each_expression_is_an_expression plain r = of_expression plain is_expression true refl refl refl refl refl refl refl refl refl refl refl refl refl refl refl refl refl refl refl refl refl refl refl refl refl refl refl refl refl r.expression r.other
+
+pub no_class_element_is_an_expression : {N : Type 0} (plain : N → Tree) (r : ClassElement N) → is_expression (type_of (class_element_plain plain r)) ≡ false
+no_class_element_is_an_expression plain r = of_class_element plain is_expression false refl refl refl r
 
 pub no_declaration_is_an_identifier_name : {N : Type 0} (plain : N → Tree) (r : OtherDeclaration N) → is_identifier_name (type_of (declaration_plain plain r.declaration)) ≡ false
 no_declaration_is_an_identifier_name plain r = of_declaration plain is_identifier_name false refl r.declaration r.other
@@ -178,7 +210,10 @@ pub no_statement_is_an_identifier_name : {N : Type 0} (plain : N → Tree) (r : 
 no_statement_is_an_identifier_name plain r = of_statement plain is_identifier_name false refl refl refl refl refl refl refl refl refl refl refl refl refl refl refl refl refl r.statement r.other
 
 pub no_expression_is_an_identifier_name : {N : Type 0} (plain : N → Tree) (r : OtherExpression N) → is_identifier_name (type_of (expression_plain plain r.expression)) ≡ false
-no_expression_is_an_identifier_name plain r = of_expression plain is_identifier_name false refl refl refl refl refl refl refl refl refl refl refl refl refl refl refl refl refl refl refl refl refl refl refl refl refl refl refl r.expression r.other
+no_expression_is_an_identifier_name plain r = of_expression plain is_identifier_name false refl refl refl refl refl refl refl refl refl refl refl refl refl refl refl refl refl refl refl refl refl refl refl refl refl refl refl refl refl r.expression r.other
+
+pub no_class_element_is_an_identifier_name : {N : Type 0} (plain : N → Tree) (r : ClassElement N) → is_identifier_name (type_of (class_element_plain plain r)) ≡ false
+no_class_element_is_an_identifier_name plain r = of_class_element plain is_identifier_name false refl refl refl r
 
 pub no_declaration_is_an_argument : {N : Type 0} (plain : N → Tree) (r : OtherDeclaration N) → is_argument (type_of (declaration_plain plain r.declaration)) ≡ false
 no_declaration_is_an_argument plain r = of_declaration plain is_argument false refl r.declaration r.other
@@ -190,7 +225,10 @@ pub no_statement_is_an_argument : {N : Type 0} (plain : N → Tree) (r : OtherSt
 no_statement_is_an_argument plain r = of_statement plain is_argument false refl refl refl refl refl refl refl refl refl refl refl refl refl refl refl refl refl r.statement r.other
 
 pub each_expression_is_an_argument : {N : Type 0} (plain : N → Tree) (r : OtherExpression N) → is_argument (type_of (expression_plain plain r.expression)) ≡ true
-each_expression_is_an_argument plain r = of_expression plain is_argument true refl refl refl refl refl refl refl refl refl refl refl refl refl refl refl refl refl refl refl refl refl refl refl refl refl refl refl r.expression r.other
+each_expression_is_an_argument plain r = of_expression plain is_argument true refl refl refl refl refl refl refl refl refl refl refl refl refl refl refl refl refl refl refl refl refl refl refl refl refl refl refl refl refl r.expression r.other
+
+pub no_class_element_is_an_argument : {N : Type 0} (plain : N → Tree) (r : ClassElement N) → is_argument (type_of (class_element_plain plain r)) ≡ false
+no_class_element_is_an_argument plain r = of_class_element plain is_argument false refl refl refl r
 
 pub no_declaration_is_a_chain_element : {N : Type 0} (plain : N → Tree) (r : OtherDeclaration N) → is_chain_element (type_of (declaration_plain plain r.declaration)) ≡ false
 no_declaration_is_a_chain_element plain r = of_declaration plain is_chain_element false refl r.declaration r.other
@@ -200,6 +238,9 @@ no_binding_pattern_is_a_chain_element plain r = of_binding_pattern plain is_chai
 
 pub no_statement_is_a_chain_element : {N : Type 0} (plain : N → Tree) (r : OtherStatement N) → is_chain_element (type_of (statement_plain plain r.statement)) ≡ false
 no_statement_is_a_chain_element plain r = of_statement plain is_chain_element false refl refl refl refl refl refl refl refl refl refl refl refl refl refl refl refl refl r.statement r.other
+
+pub no_class_element_is_a_chain_element : {N : Type 0} (plain : N → Tree) (r : ClassElement N) → is_chain_element (type_of (class_element_plain plain r)) ≡ false
+no_class_element_is_a_chain_element plain r = of_class_element plain is_chain_element false refl refl refl r
 
 pub no_declaration_is_an_array_expression_element : {N : Type 0} (plain : N → Tree) (r : OtherDeclaration N) → is_array_expression_element (type_of (declaration_plain plain r.declaration)) ≡ false
 no_declaration_is_an_array_expression_element plain r = of_declaration plain is_array_expression_element false refl r.declaration r.other
@@ -211,7 +252,10 @@ pub no_statement_is_an_array_expression_element : {N : Type 0} (plain : N → Tr
 no_statement_is_an_array_expression_element plain r = of_statement plain is_array_expression_element false refl refl refl refl refl refl refl refl refl refl refl refl refl refl refl refl refl r.statement r.other
 
 pub each_expression_is_an_array_expression_element : {N : Type 0} (plain : N → Tree) (r : OtherExpression N) → is_array_expression_element (type_of (expression_plain plain r.expression)) ≡ true
-each_expression_is_an_array_expression_element plain r = of_expression plain is_array_expression_element true refl refl refl refl refl refl refl refl refl refl refl refl refl refl refl refl refl refl refl refl refl refl refl refl refl refl refl r.expression r.other
+each_expression_is_an_array_expression_element plain r = of_expression plain is_array_expression_element true refl refl refl refl refl refl refl refl refl refl refl refl refl refl refl refl refl refl refl refl refl refl refl refl refl refl refl refl refl r.expression r.other
+
+pub no_class_element_is_an_array_expression_element : {N : Type 0} (plain : N → Tree) (r : ClassElement N) → is_array_expression_element (type_of (class_element_plain plain r)) ≡ false
+no_class_element_is_an_array_expression_element plain r = of_class_element plain is_array_expression_element false refl refl refl r
 
 pub no_declaration_is_a_property_key : {N : Type 0} (plain : N → Tree) (r : OtherDeclaration N) → is_property_key (type_of (declaration_plain plain r.declaration)) ≡ false
 no_declaration_is_a_property_key plain r = of_declaration plain is_property_key false refl r.declaration r.other
@@ -223,7 +267,10 @@ pub no_statement_is_a_property_key : {N : Type 0} (plain : N → Tree) (r : Othe
 no_statement_is_a_property_key plain r = of_statement plain is_property_key false refl refl refl refl refl refl refl refl refl refl refl refl refl refl refl refl refl r.statement r.other
 
 pub each_expression_is_a_property_key : {N : Type 0} (plain : N → Tree) (r : OtherExpression N) → is_property_key (type_of (expression_plain plain r.expression)) ≡ true
-each_expression_is_a_property_key plain r = of_expression plain is_property_key true refl refl refl refl refl refl refl refl refl refl refl refl refl refl refl refl refl refl refl refl refl refl refl refl refl refl refl r.expression r.other
+each_expression_is_a_property_key plain r = of_expression plain is_property_key true refl refl refl refl refl refl refl refl refl refl refl refl refl refl refl refl refl refl refl refl refl refl refl refl refl refl refl refl refl r.expression r.other
+
+pub no_class_element_is_a_property_key : {N : Type 0} (plain : N → Tree) (r : ClassElement N) → is_property_key (type_of (class_element_plain plain r)) ≡ false
+no_class_element_is_a_property_key plain r = of_class_element plain is_property_key false refl refl refl r
 
 pub no_declaration_is_an_object_property_kind : {N : Type 0} (plain : N → Tree) (r : OtherDeclaration N) → is_object_property_kind (type_of (declaration_plain plain r.declaration)) ≡ false
 no_declaration_is_an_object_property_kind plain r = of_declaration plain is_object_property_kind false refl r.declaration r.other
@@ -235,7 +282,10 @@ pub no_statement_is_an_object_property_kind : {N : Type 0} (plain : N → Tree) 
 no_statement_is_an_object_property_kind plain r = of_statement plain is_object_property_kind false refl refl refl refl refl refl refl refl refl refl refl refl refl refl refl refl refl r.statement r.other
 
 pub no_expression_is_an_object_property_kind : {N : Type 0} (plain : N → Tree) (r : OtherExpression N) → is_object_property_kind (type_of (expression_plain plain r.expression)) ≡ false
-no_expression_is_an_object_property_kind plain r = of_expression plain is_object_property_kind false refl refl refl refl refl refl refl refl refl refl refl refl refl refl refl refl refl refl refl refl refl refl refl refl refl refl refl r.expression r.other
+no_expression_is_an_object_property_kind plain r = of_expression plain is_object_property_kind false refl refl refl refl refl refl refl refl refl refl refl refl refl refl refl refl refl refl refl refl refl refl refl refl refl refl refl refl refl r.expression r.other
+
+pub no_class_element_is_an_object_property_kind : {N : Type 0} (plain : N → Tree) (r : ClassElement N) → is_object_property_kind (type_of (class_element_plain plain r)) ≡ false
+no_class_element_is_an_object_property_kind plain r = of_class_element plain is_object_property_kind false refl refl refl r
 
 pub no_declaration_is_a_simple_assignment_target : {N : Type 0} (plain : N → Tree) (r : OtherDeclaration N) → is_simple_assignment_target (type_of (declaration_plain plain r.declaration)) ≡ false
 no_declaration_is_a_simple_assignment_target plain r = of_declaration plain is_simple_assignment_target false refl r.declaration r.other
@@ -246,6 +296,9 @@ no_binding_pattern_is_a_simple_assignment_target plain r = of_binding_pattern pl
 pub no_statement_is_a_simple_assignment_target : {N : Type 0} (plain : N → Tree) (r : OtherStatement N) → is_simple_assignment_target (type_of (statement_plain plain r.statement)) ≡ false
 no_statement_is_a_simple_assignment_target plain r = of_statement plain is_simple_assignment_target false refl refl refl refl refl refl refl refl refl refl refl refl refl refl refl refl refl r.statement r.other
 
+pub no_class_element_is_a_simple_assignment_target : {N : Type 0} (plain : N → Tree) (r : ClassElement N) → is_simple_assignment_target (type_of (class_element_plain plain r)) ≡ false
+no_class_element_is_a_simple_assignment_target plain r = of_class_element plain is_simple_assignment_target false refl refl refl r
+
 pub no_declaration_is_an_assignment_target : {N : Type 0} (plain : N → Tree) (r : OtherDeclaration N) → is_assignment_target (type_of (declaration_plain plain r.declaration)) ≡ false
 no_declaration_is_an_assignment_target plain r = of_declaration plain is_assignment_target false refl r.declaration r.other
 
@@ -254,6 +307,9 @@ no_binding_pattern_is_an_assignment_target plain r = of_binding_pattern plain is
 
 pub no_statement_is_an_assignment_target : {N : Type 0} (plain : N → Tree) (r : OtherStatement N) → is_assignment_target (type_of (statement_plain plain r.statement)) ≡ false
 no_statement_is_an_assignment_target plain r = of_statement plain is_assignment_target false refl refl refl refl refl refl refl refl refl refl refl refl refl refl refl refl refl r.statement r.other
+
+pub no_class_element_is_an_assignment_target : {N : Type 0} (plain : N → Tree) (r : ClassElement N) → is_assignment_target (type_of (class_element_plain plain r)) ≡ false
+no_class_element_is_an_assignment_target plain r = of_class_element plain is_assignment_target false refl refl refl r
 
 pub no_declaration_is_a_formal_parameter : {N : Type 0} (plain : N → Tree) (r : OtherDeclaration N) → is_formal_parameter (type_of (declaration_plain plain r.declaration)) ≡ false
 no_declaration_is_a_formal_parameter plain r = of_declaration plain is_formal_parameter false refl r.declaration r.other
@@ -265,7 +321,10 @@ pub no_statement_is_a_formal_parameter : {N : Type 0} (plain : N → Tree) (r : 
 no_statement_is_a_formal_parameter plain r = of_statement plain is_formal_parameter false refl refl refl refl refl refl refl refl refl refl refl refl refl refl refl refl refl r.statement r.other
 
 pub no_expression_is_a_formal_parameter : {N : Type 0} (plain : N → Tree) (r : OtherExpression N) → is_formal_parameter (type_of (expression_plain plain r.expression)) ≡ false
-no_expression_is_a_formal_parameter plain r = of_expression plain is_formal_parameter false refl refl refl refl refl refl refl refl refl refl refl refl refl refl refl refl refl refl refl refl refl refl refl refl refl refl refl r.expression r.other
+no_expression_is_a_formal_parameter plain r = of_expression plain is_formal_parameter false refl refl refl refl refl refl refl refl refl refl refl refl refl refl refl refl refl refl refl refl refl refl refl refl refl refl refl refl refl r.expression r.other
+
+pub no_class_element_is_a_formal_parameter : {N : Type 0} (plain : N → Tree) (r : ClassElement N) → is_formal_parameter (type_of (class_element_plain plain r)) ≡ false
+no_class_element_is_a_formal_parameter plain r = of_class_element plain is_formal_parameter false refl refl refl r
 
 pub no_declaration_is_a_formal_parameter_rest : {N : Type 0} (plain : N → Tree) (r : OtherDeclaration N) → is_formal_parameter_rest (type_of (declaration_plain plain r.declaration)) ≡ false
 no_declaration_is_a_formal_parameter_rest plain r = of_declaration plain is_formal_parameter_rest false refl r.declaration r.other
@@ -277,7 +336,10 @@ pub no_statement_is_a_formal_parameter_rest : {N : Type 0} (plain : N → Tree) 
 no_statement_is_a_formal_parameter_rest plain r = of_statement plain is_formal_parameter_rest false refl refl refl refl refl refl refl refl refl refl refl refl refl refl refl refl refl r.statement r.other
 
 pub no_expression_is_a_formal_parameter_rest : {N : Type 0} (plain : N → Tree) (r : OtherExpression N) → is_formal_parameter_rest (type_of (expression_plain plain r.expression)) ≡ false
-no_expression_is_a_formal_parameter_rest plain r = of_expression plain is_formal_parameter_rest false refl refl refl refl refl refl refl refl refl refl refl refl refl refl refl refl refl refl refl refl refl refl refl refl refl refl refl r.expression r.other
+no_expression_is_a_formal_parameter_rest plain r = of_expression plain is_formal_parameter_rest false refl refl refl refl refl refl refl refl refl refl refl refl refl refl refl refl refl refl refl refl refl refl refl refl refl refl refl refl refl r.expression r.other
+
+pub no_class_element_is_a_formal_parameter_rest : {N : Type 0} (plain : N → Tree) (r : ClassElement N) → is_formal_parameter_rest (type_of (class_element_plain plain r)) ≡ false
+no_class_element_is_a_formal_parameter_rest plain r = of_class_element plain is_formal_parameter_rest false refl refl refl r
 
 pub no_declaration_is_a_binding_identifier : {N : Type 0} (plain : N → Tree) (r : OtherDeclaration N) → is_binding_identifier (type_of (declaration_plain plain r.declaration)) ≡ false
 no_declaration_is_a_binding_identifier plain r = of_declaration plain is_binding_identifier false refl r.declaration r.other
@@ -286,7 +348,10 @@ pub no_statement_is_a_binding_identifier : {N : Type 0} (plain : N → Tree) (r 
 no_statement_is_a_binding_identifier plain r = of_statement plain is_binding_identifier false refl refl refl refl refl refl refl refl refl refl refl refl refl refl refl refl refl r.statement r.other
 
 pub no_expression_is_a_binding_identifier : {N : Type 0} (plain : N → Tree) (r : OtherExpression N) → is_binding_identifier (type_of (expression_plain plain r.expression)) ≡ false
-no_expression_is_a_binding_identifier plain r = of_expression plain is_binding_identifier false refl refl refl refl refl refl refl refl refl refl refl refl refl refl refl refl refl refl refl refl refl refl refl refl refl refl refl r.expression r.other
+no_expression_is_a_binding_identifier plain r = of_expression plain is_binding_identifier false refl refl refl refl refl refl refl refl refl refl refl refl refl refl refl refl refl refl refl refl refl refl refl refl refl refl refl refl refl r.expression r.other
+
+pub no_class_element_is_a_binding_identifier : {N : Type 0} (plain : N → Tree) (r : ClassElement N) → is_binding_identifier (type_of (class_element_plain plain r)) ≡ false
+no_class_element_is_a_binding_identifier plain r = of_class_element plain is_binding_identifier false refl refl refl r
 
 pub no_declaration_is_a_formal_parameters : {N : Type 0} (plain : N → Tree) (r : OtherDeclaration N) → is_formal_parameters (type_of (declaration_plain plain r.declaration)) ≡ false
 no_declaration_is_a_formal_parameters plain r = of_declaration plain is_formal_parameters false refl r.declaration r.other
@@ -298,7 +363,10 @@ pub no_statement_is_a_formal_parameters : {N : Type 0} (plain : N → Tree) (r :
 no_statement_is_a_formal_parameters plain r = of_statement plain is_formal_parameters false refl refl refl refl refl refl refl refl refl refl refl refl refl refl refl refl refl r.statement r.other
 
 pub no_expression_is_a_formal_parameters : {N : Type 0} (plain : N → Tree) (r : OtherExpression N) → is_formal_parameters (type_of (expression_plain plain r.expression)) ≡ false
-no_expression_is_a_formal_parameters plain r = of_expression plain is_formal_parameters false refl refl refl refl refl refl refl refl refl refl refl refl refl refl refl refl refl refl refl refl refl refl refl refl refl refl refl r.expression r.other
+no_expression_is_a_formal_parameters plain r = of_expression plain is_formal_parameters false refl refl refl refl refl refl refl refl refl refl refl refl refl refl refl refl refl refl refl refl refl refl refl refl refl refl refl refl refl r.expression r.other
+
+pub no_class_element_is_a_formal_parameters : {N : Type 0} (plain : N → Tree) (r : ClassElement N) → is_formal_parameters (type_of (class_element_plain plain r)) ≡ false
+no_class_element_is_a_formal_parameters plain r = of_class_element plain is_formal_parameters false refl refl refl r
 
 pub no_declaration_is_a_function_body : {N : Type 0} (plain : N → Tree) (r : OtherDeclaration N) → is_function_body (type_of (declaration_plain plain r.declaration)) ≡ false
 no_declaration_is_a_function_body plain r = of_declaration plain is_function_body false refl r.declaration r.other
@@ -310,7 +378,10 @@ pub no_statement_is_a_function_body : {N : Type 0} (plain : N → Tree) (r : Oth
 no_statement_is_a_function_body plain r = of_statement plain is_function_body false refl refl refl refl refl refl refl refl refl refl refl refl refl refl refl refl refl r.statement r.other
 
 pub no_expression_is_a_function_body : {N : Type 0} (plain : N → Tree) (r : OtherExpression N) → is_function_body (type_of (expression_plain plain r.expression)) ≡ false
-no_expression_is_a_function_body plain r = of_expression plain is_function_body false refl refl refl refl refl refl refl refl refl refl refl refl refl refl refl refl refl refl refl refl refl refl refl refl refl refl refl r.expression r.other
+no_expression_is_a_function_body plain r = of_expression plain is_function_body false refl refl refl refl refl refl refl refl refl refl refl refl refl refl refl refl refl refl refl refl refl refl refl refl refl refl refl refl refl r.expression r.other
+
+pub no_class_element_is_a_function_body : {N : Type 0} (plain : N → Tree) (r : ClassElement N) → is_function_body (type_of (class_element_plain plain r)) ≡ false
+no_class_element_is_a_function_body plain r = of_class_element plain is_function_body false refl refl refl r
 
 pub no_declaration_is_an_arrow_function_body : {N : Type 0} (plain : N → Tree) (r : OtherDeclaration N) → is_arrow_function_body (type_of (declaration_plain plain r.declaration)) ≡ false
 no_declaration_is_an_arrow_function_body plain r = of_declaration plain is_arrow_function_body false refl r.declaration r.other
@@ -322,7 +393,10 @@ pub no_statement_is_an_arrow_function_body : {N : Type 0} (plain : N → Tree) (
 no_statement_is_an_arrow_function_body plain r = of_statement plain is_arrow_function_body false refl refl refl refl refl refl refl refl refl refl refl refl refl refl refl refl refl r.statement r.other
 
 pub each_expression_is_an_arrow_function_body : {N : Type 0} (plain : N → Tree) (r : OtherExpression N) → is_arrow_function_body (type_of (expression_plain plain r.expression)) ≡ true
-each_expression_is_an_arrow_function_body plain r = of_expression plain is_arrow_function_body true refl refl refl refl refl refl refl refl refl refl refl refl refl refl refl refl refl refl refl refl refl refl refl refl refl refl refl r.expression r.other
+each_expression_is_an_arrow_function_body plain r = of_expression plain is_arrow_function_body true refl refl refl refl refl refl refl refl refl refl refl refl refl refl refl refl refl refl refl refl refl refl refl refl refl refl refl refl refl r.expression r.other
+
+pub no_class_element_is_an_arrow_function_body : {N : Type 0} (plain : N → Tree) (r : ClassElement N) → is_arrow_function_body (type_of (class_element_plain plain r)) ≡ false
+no_class_element_is_an_arrow_function_body plain r = of_class_element plain is_arrow_function_body false refl refl refl r
 
 pub each_declaration_is_a_for_statement_init : {N : Type 0} (plain : N → Tree) (r : OtherDeclaration N) → is_for_statement_init (type_of (declaration_plain plain r.declaration)) ≡ true
 each_declaration_is_a_for_statement_init plain r = of_declaration plain is_for_statement_init true refl r.declaration r.other
@@ -334,7 +408,10 @@ pub no_statement_is_a_for_statement_init : {N : Type 0} (plain : N → Tree) (r 
 no_statement_is_a_for_statement_init plain r = of_statement plain is_for_statement_init false refl refl refl refl refl refl refl refl refl refl refl refl refl refl refl refl refl r.statement r.other
 
 pub each_expression_is_a_for_statement_init : {N : Type 0} (plain : N → Tree) (r : OtherExpression N) → is_for_statement_init (type_of (expression_plain plain r.expression)) ≡ true
-each_expression_is_a_for_statement_init plain r = of_expression plain is_for_statement_init true refl refl refl refl refl refl refl refl refl refl refl refl refl refl refl refl refl refl refl refl refl refl refl refl refl refl refl r.expression r.other
+each_expression_is_a_for_statement_init plain r = of_expression plain is_for_statement_init true refl refl refl refl refl refl refl refl refl refl refl refl refl refl refl refl refl refl refl refl refl refl refl refl refl refl refl refl refl r.expression r.other
+
+pub no_class_element_is_a_for_statement_init : {N : Type 0} (plain : N → Tree) (r : ClassElement N) → is_for_statement_init (type_of (class_element_plain plain r)) ≡ false
+no_class_element_is_a_for_statement_init plain r = of_class_element plain is_for_statement_init false refl refl refl r
 
 pub each_declaration_is_a_for_statement_left : {N : Type 0} (plain : N → Tree) (r : OtherDeclaration N) → is_for_statement_left (type_of (declaration_plain plain r.declaration)) ≡ true
 each_declaration_is_a_for_statement_left plain r = of_declaration plain is_for_statement_left true refl r.declaration r.other
@@ -344,6 +421,9 @@ no_binding_pattern_is_a_for_statement_left plain r = of_binding_pattern plain is
 
 pub no_statement_is_a_for_statement_left : {N : Type 0} (plain : N → Tree) (r : OtherStatement N) → is_for_statement_left (type_of (statement_plain plain r.statement)) ≡ false
 no_statement_is_a_for_statement_left plain r = of_statement plain is_for_statement_left false refl refl refl refl refl refl refl refl refl refl refl refl refl refl refl refl refl r.statement r.other
+
+pub no_class_element_is_a_for_statement_left : {N : Type 0} (plain : N → Tree) (r : ClassElement N) → is_for_statement_left (type_of (class_element_plain plain r)) ≡ false
+no_class_element_is_a_for_statement_left plain r = of_class_element plain is_for_statement_left false refl refl refl r
 
 pub no_declaration_is_a_label_identifier : {N : Type 0} (plain : N → Tree) (r : OtherDeclaration N) → is_label_identifier (type_of (declaration_plain plain r.declaration)) ≡ false
 no_declaration_is_a_label_identifier plain r = of_declaration plain is_label_identifier false refl r.declaration r.other
@@ -355,7 +435,10 @@ pub no_statement_is_a_label_identifier : {N : Type 0} (plain : N → Tree) (r : 
 no_statement_is_a_label_identifier plain r = of_statement plain is_label_identifier false refl refl refl refl refl refl refl refl refl refl refl refl refl refl refl refl refl r.statement r.other
 
 pub no_expression_is_a_label_identifier : {N : Type 0} (plain : N → Tree) (r : OtherExpression N) → is_label_identifier (type_of (expression_plain plain r.expression)) ≡ false
-no_expression_is_a_label_identifier plain r = of_expression plain is_label_identifier false refl refl refl refl refl refl refl refl refl refl refl refl refl refl refl refl refl refl refl refl refl refl refl refl refl refl refl r.expression r.other
+no_expression_is_a_label_identifier plain r = of_expression plain is_label_identifier false refl refl refl refl refl refl refl refl refl refl refl refl refl refl refl refl refl refl refl refl refl refl refl refl refl refl refl refl refl r.expression r.other
+
+pub no_class_element_is_a_label_identifier : {N : Type 0} (plain : N → Tree) (r : ClassElement N) → is_label_identifier (type_of (class_element_plain plain r)) ≡ false
+no_class_element_is_a_label_identifier plain r = of_class_element plain is_label_identifier false refl refl refl r
 
 pub no_declaration_is_a_switch_case : {N : Type 0} (plain : N → Tree) (r : OtherDeclaration N) → is_switch_case (type_of (declaration_plain plain r.declaration)) ≡ false
 no_declaration_is_a_switch_case plain r = of_declaration plain is_switch_case false refl r.declaration r.other
@@ -367,7 +450,10 @@ pub no_statement_is_a_switch_case : {N : Type 0} (plain : N → Tree) (r : Other
 no_statement_is_a_switch_case plain r = of_statement plain is_switch_case false refl refl refl refl refl refl refl refl refl refl refl refl refl refl refl refl refl r.statement r.other
 
 pub no_expression_is_a_switch_case : {N : Type 0} (plain : N → Tree) (r : OtherExpression N) → is_switch_case (type_of (expression_plain plain r.expression)) ≡ false
-no_expression_is_a_switch_case plain r = of_expression plain is_switch_case false refl refl refl refl refl refl refl refl refl refl refl refl refl refl refl refl refl refl refl refl refl refl refl refl refl refl refl r.expression r.other
+no_expression_is_a_switch_case plain r = of_expression plain is_switch_case false refl refl refl refl refl refl refl refl refl refl refl refl refl refl refl refl refl refl refl refl refl refl refl refl refl refl refl refl refl r.expression r.other
+
+pub no_class_element_is_a_switch_case : {N : Type 0} (plain : N → Tree) (r : ClassElement N) → is_switch_case (type_of (class_element_plain plain r)) ≡ false
+no_class_element_is_a_switch_case plain r = of_class_element plain is_switch_case false refl refl refl r
 
 pub no_declaration_is_a_block_statement : {N : Type 0} (plain : N → Tree) (r : OtherDeclaration N) → is_block_statement (type_of (declaration_plain plain r.declaration)) ≡ false
 no_declaration_is_a_block_statement plain r = of_declaration plain is_block_statement false refl r.declaration r.other
@@ -376,7 +462,10 @@ pub no_binding_pattern_is_a_block_statement : {N : Type 0} (plain : N → Tree) 
 no_binding_pattern_is_a_block_statement plain r = of_binding_pattern plain is_block_statement false refl refl refl refl r
 
 pub no_expression_is_a_block_statement : {N : Type 0} (plain : N → Tree) (r : OtherExpression N) → is_block_statement (type_of (expression_plain plain r.expression)) ≡ false
-no_expression_is_a_block_statement plain r = of_expression plain is_block_statement false refl refl refl refl refl refl refl refl refl refl refl refl refl refl refl refl refl refl refl refl refl refl refl refl refl refl refl r.expression r.other
+no_expression_is_a_block_statement plain r = of_expression plain is_block_statement false refl refl refl refl refl refl refl refl refl refl refl refl refl refl refl refl refl refl refl refl refl refl refl refl refl refl refl refl refl r.expression r.other
+
+pub no_class_element_is_a_block_statement : {N : Type 0} (plain : N → Tree) (r : ClassElement N) → is_block_statement (type_of (class_element_plain plain r)) ≡ false
+no_class_element_is_a_block_statement plain r = of_class_element plain is_block_statement false refl refl refl r
 
 pub no_declaration_is_a_catch_clause : {N : Type 0} (plain : N → Tree) (r : OtherDeclaration N) → is_catch_clause (type_of (declaration_plain plain r.declaration)) ≡ false
 no_declaration_is_a_catch_clause plain r = of_declaration plain is_catch_clause false refl r.declaration r.other
@@ -388,7 +477,10 @@ pub no_statement_is_a_catch_clause : {N : Type 0} (plain : N → Tree) (r : Othe
 no_statement_is_a_catch_clause plain r = of_statement plain is_catch_clause false refl refl refl refl refl refl refl refl refl refl refl refl refl refl refl refl refl r.statement r.other
 
 pub no_expression_is_a_catch_clause : {N : Type 0} (plain : N → Tree) (r : OtherExpression N) → is_catch_clause (type_of (expression_plain plain r.expression)) ≡ false
-no_expression_is_a_catch_clause plain r = of_expression plain is_catch_clause false refl refl refl refl refl refl refl refl refl refl refl refl refl refl refl refl refl refl refl refl refl refl refl refl refl refl refl r.expression r.other
+no_expression_is_a_catch_clause plain r = of_expression plain is_catch_clause false refl refl refl refl refl refl refl refl refl refl refl refl refl refl refl refl refl refl refl refl refl refl refl refl refl refl refl refl refl r.expression r.other
+
+pub no_class_element_is_a_catch_clause : {N : Type 0} (plain : N → Tree) (r : ClassElement N) → is_catch_clause (type_of (class_element_plain plain r)) ≡ false
+no_class_element_is_a_catch_clause plain r = of_class_element plain is_catch_clause false refl refl refl r
 
 pub no_declaration_is_a_binding_property : {N : Type 0} (plain : N → Tree) (r : OtherDeclaration N) → is_binding_property (type_of (declaration_plain plain r.declaration)) ≡ false
 no_declaration_is_a_binding_property plain r = of_declaration plain is_binding_property false refl r.declaration r.other
@@ -400,7 +492,10 @@ pub no_statement_is_a_binding_property : {N : Type 0} (plain : N → Tree) (r : 
 no_statement_is_a_binding_property plain r = of_statement plain is_binding_property false refl refl refl refl refl refl refl refl refl refl refl refl refl refl refl refl refl r.statement r.other
 
 pub no_expression_is_a_binding_property : {N : Type 0} (plain : N → Tree) (r : OtherExpression N) → is_binding_property (type_of (expression_plain plain r.expression)) ≡ false
-no_expression_is_a_binding_property plain r = of_expression plain is_binding_property false refl refl refl refl refl refl refl refl refl refl refl refl refl refl refl refl refl refl refl refl refl refl refl refl refl refl refl r.expression r.other
+no_expression_is_a_binding_property plain r = of_expression plain is_binding_property false refl refl refl refl refl refl refl refl refl refl refl refl refl refl refl refl refl refl refl refl refl refl refl refl refl refl refl refl refl r.expression r.other
+
+pub no_class_element_is_a_binding_property : {N : Type 0} (plain : N → Tree) (r : ClassElement N) → is_binding_property (type_of (class_element_plain plain r)) ≡ false
+no_class_element_is_a_binding_property plain r = of_class_element plain is_binding_property false refl refl refl r
 
 pub no_declaration_is_a_binding_rest_element : {N : Type 0} (plain : N → Tree) (r : OtherDeclaration N) → is_binding_rest_element (type_of (declaration_plain plain r.declaration)) ≡ false
 no_declaration_is_a_binding_rest_element plain r = of_declaration plain is_binding_rest_element false refl r.declaration r.other
@@ -412,7 +507,70 @@ pub no_statement_is_a_binding_rest_element : {N : Type 0} (plain : N → Tree) (
 no_statement_is_a_binding_rest_element plain r = of_statement plain is_binding_rest_element false refl refl refl refl refl refl refl refl refl refl refl refl refl refl refl refl refl r.statement r.other
 
 pub no_expression_is_a_binding_rest_element : {N : Type 0} (plain : N → Tree) (r : OtherExpression N) → is_binding_rest_element (type_of (expression_plain plain r.expression)) ≡ false
-no_expression_is_a_binding_rest_element plain r = of_expression plain is_binding_rest_element false refl refl refl refl refl refl refl refl refl refl refl refl refl refl refl refl refl refl refl refl refl refl refl refl refl refl refl r.expression r.other
+no_expression_is_a_binding_rest_element plain r = of_expression plain is_binding_rest_element false refl refl refl refl refl refl refl refl refl refl refl refl refl refl refl refl refl refl refl refl refl refl refl refl refl refl refl refl refl r.expression r.other
+
+pub no_class_element_is_a_binding_rest_element : {N : Type 0} (plain : N → Tree) (r : ClassElement N) → is_binding_rest_element (type_of (class_element_plain plain r)) ≡ false
+no_class_element_is_a_binding_rest_element plain r = of_class_element plain is_binding_rest_element false refl refl refl r
+
+pub no_declaration_is_a_private_identifier : {N : Type 0} (plain : N → Tree) (r : OtherDeclaration N) → is_private_identifier (type_of (declaration_plain plain r.declaration)) ≡ false
+no_declaration_is_a_private_identifier plain r = of_declaration plain is_private_identifier false refl r.declaration r.other
+
+pub no_binding_pattern_is_a_private_identifier : {N : Type 0} (plain : N → Tree) (r : BindingPattern N) → is_private_identifier (type_of (binding_pattern_plain plain r)) ≡ false
+no_binding_pattern_is_a_private_identifier plain r = of_binding_pattern plain is_private_identifier false refl refl refl refl r
+
+pub no_statement_is_a_private_identifier : {N : Type 0} (plain : N → Tree) (r : OtherStatement N) → is_private_identifier (type_of (statement_plain plain r.statement)) ≡ false
+no_statement_is_a_private_identifier plain r = of_statement plain is_private_identifier false refl refl refl refl refl refl refl refl refl refl refl refl refl refl refl refl refl r.statement r.other
+
+pub no_expression_is_a_private_identifier : {N : Type 0} (plain : N → Tree) (r : OtherExpression N) → is_private_identifier (type_of (expression_plain plain r.expression)) ≡ false
+no_expression_is_a_private_identifier plain r = of_expression plain is_private_identifier false refl refl refl refl refl refl refl refl refl refl refl refl refl refl refl refl refl refl refl refl refl refl refl refl refl refl refl refl refl r.expression r.other
+
+pub no_class_element_is_a_private_identifier : {N : Type 0} (plain : N → Tree) (r : ClassElement N) → is_private_identifier (type_of (class_element_plain plain r)) ≡ false
+no_class_element_is_a_private_identifier plain r = of_class_element plain is_private_identifier false refl refl refl r
+
+pub no_declaration_is_a_class_body : {N : Type 0} (plain : N → Tree) (r : OtherDeclaration N) → is_class_body (type_of (declaration_plain plain r.declaration)) ≡ false
+no_declaration_is_a_class_body plain r = of_declaration plain is_class_body false refl r.declaration r.other
+
+pub no_binding_pattern_is_a_class_body : {N : Type 0} (plain : N → Tree) (r : BindingPattern N) → is_class_body (type_of (binding_pattern_plain plain r)) ≡ false
+no_binding_pattern_is_a_class_body plain r = of_binding_pattern plain is_class_body false refl refl refl refl r
+
+pub no_statement_is_a_class_body : {N : Type 0} (plain : N → Tree) (r : OtherStatement N) → is_class_body (type_of (statement_plain plain r.statement)) ≡ false
+no_statement_is_a_class_body plain r = of_statement plain is_class_body false refl refl refl refl refl refl refl refl refl refl refl refl refl refl refl refl refl r.statement r.other
+
+pub no_expression_is_a_class_body : {N : Type 0} (plain : N → Tree) (r : OtherExpression N) → is_class_body (type_of (expression_plain plain r.expression)) ≡ false
+no_expression_is_a_class_body plain r = of_expression plain is_class_body false refl refl refl refl refl refl refl refl refl refl refl refl refl refl refl refl refl refl refl refl refl refl refl refl refl refl refl refl refl r.expression r.other
+
+pub no_class_element_is_a_class_body : {N : Type 0} (plain : N → Tree) (r : ClassElement N) → is_class_body (type_of (class_element_plain plain r)) ≡ false
+no_class_element_is_a_class_body plain r = of_class_element plain is_class_body false refl refl refl r
+
+pub no_declaration_is_a_class_element : {N : Type 0} (plain : N → Tree) (r : OtherDeclaration N) → is_class_element (type_of (declaration_plain plain r.declaration)) ≡ false
+no_declaration_is_a_class_element plain r = of_declaration plain is_class_element false refl r.declaration r.other
+
+pub no_binding_pattern_is_a_class_element : {N : Type 0} (plain : N → Tree) (r : BindingPattern N) → is_class_element (type_of (binding_pattern_plain plain r)) ≡ false
+no_binding_pattern_is_a_class_element plain r = of_binding_pattern plain is_class_element false refl refl refl refl r
+
+pub no_statement_is_a_class_element : {N : Type 0} (plain : N → Tree) (r : OtherStatement N) → is_class_element (type_of (statement_plain plain r.statement)) ≡ false
+no_statement_is_a_class_element plain r = of_statement plain is_class_element false refl refl refl refl refl refl refl refl refl refl refl refl refl refl refl refl refl r.statement r.other
+
+pub no_expression_is_a_class_element : {N : Type 0} (plain : N → Tree) (r : OtherExpression N) → is_class_element (type_of (expression_plain plain r.expression)) ≡ false
+no_expression_is_a_class_element plain r = of_expression plain is_class_element false refl refl refl refl refl refl refl refl refl refl refl refl refl refl refl refl refl refl refl refl refl refl refl refl refl refl refl refl refl r.expression r.other
+
+pub each_class_element_is_a_class_element : {N : Type 0} (plain : N → Tree) (r : ClassElement N) → is_class_element (type_of (class_element_plain plain r)) ≡ true
+each_class_element_is_a_class_element plain r = of_class_element plain is_class_element true refl refl refl r
+
+pub no_declaration_is_a_function : {N : Type 0} (plain : N → Tree) (r : OtherDeclaration N) → is_function (type_of (declaration_plain plain r.declaration)) ≡ false
+no_declaration_is_a_function plain r = of_declaration plain is_function false refl r.declaration r.other
+
+pub no_binding_pattern_is_a_function : {N : Type 0} (plain : N → Tree) (r : BindingPattern N) → is_function (type_of (binding_pattern_plain plain r)) ≡ false
+no_binding_pattern_is_a_function plain r = of_binding_pattern plain is_function false refl refl refl refl r
+
+pub no_statement_is_a_function : {N : Type 0} (plain : N → Tree) (r : OtherStatement N) → is_function (type_of (statement_plain plain r.statement)) ≡ false
+no_statement_is_a_function plain r = of_statement plain is_function false refl refl refl refl refl refl refl refl refl refl refl refl refl refl refl refl refl r.statement r.other
+
+pub no_expression_is_a_function : {N : Type 0} (plain : N → Tree) (r : OtherExpression N) → is_function (type_of (expression_plain plain r.expression)) ≡ false
+no_expression_is_a_function plain r = of_expression plain is_function false refl refl refl refl refl refl refl refl refl refl refl refl refl refl refl refl refl refl refl refl refl refl refl refl refl refl refl refl refl r.expression r.other
+
+pub no_class_element_is_a_function : {N : Type 0} (plain : N → Tree) (r : ClassElement N) → is_function (type_of (class_element_plain plain r)) ≡ false
+no_class_element_is_a_function plain r = of_class_element plain is_function false refl refl refl r
 
 pub program_type : (t : NodeType) → is_program t ≡ true → t ≡ types.Program
 program_type types.Program h = refl
@@ -481,63 +639,79 @@ program_type types.BindingProperty h = cc
 program_type types.BindingRestElement h = cc
 program_type types.ArrayPattern h = cc
 program_type types.AssignmentPattern h = cc
+program_type types.PrivateIdentifier h = cc
+program_type types.PrivateFieldExpression h = cc
+program_type types.PrivateInExpression h = cc
+program_type types.Class h = cc
+program_type types.ClassBody h = cc
+program_type types.StaticBlock h = cc
+program_type types.MethodDefinition h = cc
+program_type types.PropertyDefinition h = cc
 
 -- ---- which rows a place takes
 
-pub ruleset takes_programs = (no_declaration_is_a_program, no_binding_pattern_is_a_program, no_statement_is_a_program, no_expression_is_a_program)
+pub ruleset takes_programs = (no_declaration_is_a_program, no_binding_pattern_is_a_program, no_statement_is_a_program, no_expression_is_a_program, no_class_element_is_a_program)
 
-pub ruleset takes_comments = (no_declaration_is_a_comment, no_binding_pattern_is_a_comment, no_statement_is_a_comment, no_expression_is_a_comment)
+pub ruleset takes_comments = (no_declaration_is_a_comment, no_binding_pattern_is_a_comment, no_statement_is_a_comment, no_expression_is_a_comment, no_class_element_is_a_comment)
 
-pub ruleset takes_directives = (no_declaration_is_a_directive, no_binding_pattern_is_a_directive, no_statement_is_a_directive, no_expression_is_a_directive)
+pub ruleset takes_directives = (no_declaration_is_a_directive, no_binding_pattern_is_a_directive, no_statement_is_a_directive, no_expression_is_a_directive, no_class_element_is_a_directive)
 
-pub ruleset takes_statements = (each_declaration_is_a_statement, no_binding_pattern_is_a_statement, each_statement_is_a_statement, no_expression_is_a_statement)
+pub ruleset takes_statements = (each_declaration_is_a_statement, no_binding_pattern_is_a_statement, each_statement_is_a_statement, no_expression_is_a_statement, no_class_element_is_a_statement)
 
-pub ruleset takes_variable_declarators = (no_declaration_is_a_variable_declarator, no_binding_pattern_is_a_variable_declarator, no_statement_is_a_variable_declarator, no_expression_is_a_variable_declarator)
+pub ruleset takes_variable_declarators = (no_declaration_is_a_variable_declarator, no_binding_pattern_is_a_variable_declarator, no_statement_is_a_variable_declarator, no_expression_is_a_variable_declarator, no_class_element_is_a_variable_declarator)
 
-pub ruleset takes_binding_patterns = (no_declaration_is_a_binding_pattern, each_binding_pattern_is_a_binding_pattern, no_statement_is_a_binding_pattern, no_expression_is_a_binding_pattern)
+pub ruleset takes_binding_patterns = (no_declaration_is_a_binding_pattern, each_binding_pattern_is_a_binding_pattern, no_statement_is_a_binding_pattern, no_expression_is_a_binding_pattern, no_class_element_is_a_binding_pattern)
 
-pub ruleset takes_expressions = (no_declaration_is_an_expression, no_binding_pattern_is_an_expression, no_statement_is_an_expression, each_expression_is_an_expression)
+pub ruleset takes_expressions = (no_declaration_is_an_expression, no_binding_pattern_is_an_expression, no_statement_is_an_expression, each_expression_is_an_expression, no_class_element_is_an_expression)
 
-pub ruleset takes_identifier_names = (no_declaration_is_an_identifier_name, no_binding_pattern_is_an_identifier_name, no_statement_is_an_identifier_name, no_expression_is_an_identifier_name)
+pub ruleset takes_identifier_names = (no_declaration_is_an_identifier_name, no_binding_pattern_is_an_identifier_name, no_statement_is_an_identifier_name, no_expression_is_an_identifier_name, no_class_element_is_an_identifier_name)
 
-pub ruleset takes_arguments = (no_declaration_is_an_argument, no_binding_pattern_is_an_argument, no_statement_is_an_argument, each_expression_is_an_argument)
+pub ruleset takes_arguments = (no_declaration_is_an_argument, no_binding_pattern_is_an_argument, no_statement_is_an_argument, each_expression_is_an_argument, no_class_element_is_an_argument)
 
-pub ruleset takes_chain_elements = (no_declaration_is_a_chain_element, no_binding_pattern_is_a_chain_element, no_statement_is_a_chain_element)
+pub ruleset takes_chain_elements = (no_declaration_is_a_chain_element, no_binding_pattern_is_a_chain_element, no_statement_is_a_chain_element, no_class_element_is_a_chain_element)
 
-pub ruleset takes_array_expression_elements = (no_declaration_is_an_array_expression_element, no_binding_pattern_is_an_array_expression_element, no_statement_is_an_array_expression_element, each_expression_is_an_array_expression_element)
+pub ruleset takes_array_expression_elements = (no_declaration_is_an_array_expression_element, no_binding_pattern_is_an_array_expression_element, no_statement_is_an_array_expression_element, each_expression_is_an_array_expression_element, no_class_element_is_an_array_expression_element)
 
-pub ruleset takes_property_keys = (no_declaration_is_a_property_key, no_binding_pattern_is_a_property_key, no_statement_is_a_property_key, each_expression_is_a_property_key)
+pub ruleset takes_property_keys = (no_declaration_is_a_property_key, no_binding_pattern_is_a_property_key, no_statement_is_a_property_key, each_expression_is_a_property_key, no_class_element_is_a_property_key)
 
-pub ruleset takes_object_property_kinds = (no_declaration_is_an_object_property_kind, no_binding_pattern_is_an_object_property_kind, no_statement_is_an_object_property_kind, no_expression_is_an_object_property_kind)
+pub ruleset takes_object_property_kinds = (no_declaration_is_an_object_property_kind, no_binding_pattern_is_an_object_property_kind, no_statement_is_an_object_property_kind, no_expression_is_an_object_property_kind, no_class_element_is_an_object_property_kind)
 
-pub ruleset takes_simple_assignment_targets = (no_declaration_is_a_simple_assignment_target, no_binding_pattern_is_a_simple_assignment_target, no_statement_is_a_simple_assignment_target)
+pub ruleset takes_simple_assignment_targets = (no_declaration_is_a_simple_assignment_target, no_binding_pattern_is_a_simple_assignment_target, no_statement_is_a_simple_assignment_target, no_class_element_is_a_simple_assignment_target)
 
-pub ruleset takes_assignment_targets = (no_declaration_is_an_assignment_target, no_binding_pattern_is_an_assignment_target, no_statement_is_an_assignment_target)
+pub ruleset takes_assignment_targets = (no_declaration_is_an_assignment_target, no_binding_pattern_is_an_assignment_target, no_statement_is_an_assignment_target, no_class_element_is_an_assignment_target)
 
-pub ruleset takes_formal_parameters = (no_declaration_is_a_formal_parameter, no_binding_pattern_is_a_formal_parameter, no_statement_is_a_formal_parameter, no_expression_is_a_formal_parameter)
+pub ruleset takes_formal_parameters = (no_declaration_is_a_formal_parameter, no_binding_pattern_is_a_formal_parameter, no_statement_is_a_formal_parameter, no_expression_is_a_formal_parameter, no_class_element_is_a_formal_parameter)
 
-pub ruleset takes_formal_parameter_rests = (no_declaration_is_a_formal_parameter_rest, no_binding_pattern_is_a_formal_parameter_rest, no_statement_is_a_formal_parameter_rest, no_expression_is_a_formal_parameter_rest)
+pub ruleset takes_formal_parameter_rests = (no_declaration_is_a_formal_parameter_rest, no_binding_pattern_is_a_formal_parameter_rest, no_statement_is_a_formal_parameter_rest, no_expression_is_a_formal_parameter_rest, no_class_element_is_a_formal_parameter_rest)
 
-pub ruleset takes_binding_identifiers = (no_declaration_is_a_binding_identifier, no_statement_is_a_binding_identifier, no_expression_is_a_binding_identifier)
+pub ruleset takes_binding_identifiers = (no_declaration_is_a_binding_identifier, no_statement_is_a_binding_identifier, no_expression_is_a_binding_identifier, no_class_element_is_a_binding_identifier)
 
-pub ruleset takes_formal_parameterss = (no_declaration_is_a_formal_parameters, no_binding_pattern_is_a_formal_parameters, no_statement_is_a_formal_parameters, no_expression_is_a_formal_parameters)
+pub ruleset takes_formal_parameterss = (no_declaration_is_a_formal_parameters, no_binding_pattern_is_a_formal_parameters, no_statement_is_a_formal_parameters, no_expression_is_a_formal_parameters, no_class_element_is_a_formal_parameters)
 
-pub ruleset takes_function_bodys = (no_declaration_is_a_function_body, no_binding_pattern_is_a_function_body, no_statement_is_a_function_body, no_expression_is_a_function_body)
+pub ruleset takes_function_bodys = (no_declaration_is_a_function_body, no_binding_pattern_is_a_function_body, no_statement_is_a_function_body, no_expression_is_a_function_body, no_class_element_is_a_function_body)
 
-pub ruleset takes_arrow_function_bodys = (no_declaration_is_an_arrow_function_body, no_binding_pattern_is_an_arrow_function_body, no_statement_is_an_arrow_function_body, each_expression_is_an_arrow_function_body)
+pub ruleset takes_arrow_function_bodys = (no_declaration_is_an_arrow_function_body, no_binding_pattern_is_an_arrow_function_body, no_statement_is_an_arrow_function_body, each_expression_is_an_arrow_function_body, no_class_element_is_an_arrow_function_body)
 
-pub ruleset takes_for_statement_inits = (each_declaration_is_a_for_statement_init, no_binding_pattern_is_a_for_statement_init, no_statement_is_a_for_statement_init, each_expression_is_a_for_statement_init)
+pub ruleset takes_for_statement_inits = (each_declaration_is_a_for_statement_init, no_binding_pattern_is_a_for_statement_init, no_statement_is_a_for_statement_init, each_expression_is_a_for_statement_init, no_class_element_is_a_for_statement_init)
 
-pub ruleset takes_for_statement_lefts = (each_declaration_is_a_for_statement_left, no_binding_pattern_is_a_for_statement_left, no_statement_is_a_for_statement_left)
+pub ruleset takes_for_statement_lefts = (each_declaration_is_a_for_statement_left, no_binding_pattern_is_a_for_statement_left, no_statement_is_a_for_statement_left, no_class_element_is_a_for_statement_left)
 
-pub ruleset takes_label_identifiers = (no_declaration_is_a_label_identifier, no_binding_pattern_is_a_label_identifier, no_statement_is_a_label_identifier, no_expression_is_a_label_identifier)
+pub ruleset takes_label_identifiers = (no_declaration_is_a_label_identifier, no_binding_pattern_is_a_label_identifier, no_statement_is_a_label_identifier, no_expression_is_a_label_identifier, no_class_element_is_a_label_identifier)
 
-pub ruleset takes_switch_cases = (no_declaration_is_a_switch_case, no_binding_pattern_is_a_switch_case, no_statement_is_a_switch_case, no_expression_is_a_switch_case)
+pub ruleset takes_switch_cases = (no_declaration_is_a_switch_case, no_binding_pattern_is_a_switch_case, no_statement_is_a_switch_case, no_expression_is_a_switch_case, no_class_element_is_a_switch_case)
 
-pub ruleset takes_block_statements = (no_declaration_is_a_block_statement, no_binding_pattern_is_a_block_statement, no_expression_is_a_block_statement)
+pub ruleset takes_block_statements = (no_declaration_is_a_block_statement, no_binding_pattern_is_a_block_statement, no_expression_is_a_block_statement, no_class_element_is_a_block_statement)
 
-pub ruleset takes_catch_clauses = (no_declaration_is_a_catch_clause, no_binding_pattern_is_a_catch_clause, no_statement_is_a_catch_clause, no_expression_is_a_catch_clause)
+pub ruleset takes_catch_clauses = (no_declaration_is_a_catch_clause, no_binding_pattern_is_a_catch_clause, no_statement_is_a_catch_clause, no_expression_is_a_catch_clause, no_class_element_is_a_catch_clause)
 
-pub ruleset takes_binding_propertys = (no_declaration_is_a_binding_property, no_binding_pattern_is_a_binding_property, no_statement_is_a_binding_property, no_expression_is_a_binding_property)
+pub ruleset takes_binding_propertys = (no_declaration_is_a_binding_property, no_binding_pattern_is_a_binding_property, no_statement_is_a_binding_property, no_expression_is_a_binding_property, no_class_element_is_a_binding_property)
 
-pub ruleset takes_binding_rest_elements = (no_declaration_is_a_binding_rest_element, no_binding_pattern_is_a_binding_rest_element, no_statement_is_a_binding_rest_element, no_expression_is_a_binding_rest_element)
+pub ruleset takes_binding_rest_elements = (no_declaration_is_a_binding_rest_element, no_binding_pattern_is_a_binding_rest_element, no_statement_is_a_binding_rest_element, no_expression_is_a_binding_rest_element, no_class_element_is_a_binding_rest_element)
+
+pub ruleset takes_private_identifiers = (no_declaration_is_a_private_identifier, no_binding_pattern_is_a_private_identifier, no_statement_is_a_private_identifier, no_expression_is_a_private_identifier, no_class_element_is_a_private_identifier)
+
+pub ruleset takes_class_bodys = (no_declaration_is_a_class_body, no_binding_pattern_is_a_class_body, no_statement_is_a_class_body, no_expression_is_a_class_body, no_class_element_is_a_class_body)
+
+pub ruleset takes_class_elements = (no_declaration_is_a_class_element, no_binding_pattern_is_a_class_element, no_statement_is_a_class_element, no_expression_is_a_class_element, each_class_element_is_a_class_element)
+
+pub ruleset takes_functions = (no_declaration_is_a_function, no_binding_pattern_is_a_function, no_statement_is_a_function, no_expression_is_a_function, no_class_element_is_a_function)

@@ -2,7 +2,7 @@
 -- The plain data of what the reader keeps.
 use Rattle.std.specs.Prelude.{List}
 use Rattle.jsgen_tree.specs.Tree.{Tree}
-use Rattle.jsgen_tree.specs.Rows.{program_row, comment_row, directive_row, variable_declarator_row, identifier_name_row, spread_element_row, object_property_row, formal_parameter_row, formal_parameter_rest_row, formal_parameters_row, function_row, function_body_row, label_identifier_row, switch_case_row, catch_clause_row, binding_property_row, binding_rest_element_row, expression_plain, declaration_plain, statement_plain, binding_pattern_plain}
+use Rattle.jsgen_tree.specs.Rows.{program_row, comment_row, directive_row, variable_declarator_row, identifier_name_row, spread_element_row, object_property_row, formal_parameter_row, formal_parameter_rest_row, formal_parameters_row, function_row, function_body_row, label_identifier_row, switch_case_row, catch_clause_row, binding_property_row, binding_rest_element_row, private_identifier_row, class_row, class_body_row, expression_plain, declaration_plain, statement_plain, binding_pattern_plain, class_element_plain}
 use Rattle.jsgen_pool.specs.Pool.{Entry}
 use Rattle.jsgen_pool.specs.declared.Kept.{Kept}
 use Rattle.jsgen_fields.specs.declared.kept.Row.{Row}
@@ -32,6 +32,10 @@ row_plain plain (rows.SwitchCase b) = switch_case_row plain b.value
 row_plain plain (rows.CatchClause b) = catch_clause_row plain b.value
 row_plain plain (rows.BindingProperty b) = binding_property_row plain b.value
 row_plain plain (rows.BindingRestElement b) = binding_rest_element_row plain b.value
+row_plain plain (rows.PrivateIdentifier b) = private_identifier_row b.value
+row_plain plain (rows.Class b) = class_row plain b.value
+row_plain plain (rows.ClassBody b) = class_body_row plain b.value
+row_plain plain (rows.ClassElement b) = class_element_plain plain b.value
 
 abbrev pub any_row_plain : {N : Type 0} → (N → Tree) → AnyRow N → Tree
 any_row_plain plain any = row_plain plain any.row

@@ -10,6 +10,7 @@ use Rattle.jsgen_tree.specs.declared.sets.Statement.TheVariants as statement
 
 abbrev pub is_other_declaration : {N : Type 0} → Declaration N → Bool
 is_other_declaration (declaration.Function b) = false
+is_other_declaration (declaration.Class b) = false
 is_other_declaration s = true
 
 abbrev pub is_other_statement : {N : Type 0} → Statement N → Bool
@@ -18,4 +19,5 @@ is_other_statement s = true
 
 abbrev pub is_other_expression : {N : Type 0} → Expression N → Bool
 is_other_expression (expression.Function b) = false
+is_other_expression (expression.Class b) = false
 is_other_expression s = true

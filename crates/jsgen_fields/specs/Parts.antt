@@ -88,3 +88,11 @@ is_in_choices types.SwitchCase = true
 is_in_choices types.TryStatement = true
 is_in_choices types.CatchClause = true
 is_in_choices other = false
+
+abbrev pub is_in_patterns : NodeType → Bool
+is_in_patterns types.ObjectPattern = true
+is_in_patterns types.BindingProperty = true
+is_in_patterns types.BindingRestElement = true
+is_in_patterns types.ArrayPattern = true
+is_in_patterns types.AssignmentPattern = true
+is_in_patterns other = false

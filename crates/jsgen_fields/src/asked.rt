@@ -3,7 +3,7 @@
 ghost use Rattle.std.specs.Prelude.{◌≡◌, IfOk, Some, None, option_map, if◌then◌else◌};
 ghost use Rattle.jsgen_tree.specs.Tree.{type_of};
 ghost use Rattle.jsgen_tree.specs.Sets.{in_set};
-ghost use Rattle.jsgen_tree.specs.Rows.{in_expression, in_declaration, in_statement, in_binding_pattern, expression_plain, declaration_plain, statement_plain, binding_pattern_plain, expression_plain, declaration_plain, statement_plain, binding_pattern_plain, in_expression, in_declaration, in_statement, in_binding_pattern};
+ghost use Rattle.jsgen_tree.specs.Rows.{in_expression, in_declaration, in_statement, in_binding_pattern, in_class_element, expression_plain, declaration_plain, statement_plain, binding_pattern_plain, class_element_plain, expression_plain, declaration_plain, statement_plain, binding_pattern_plain, class_element_plain, in_expression, in_declaration, in_statement, in_binding_pattern, in_class_element};
 ghost use Rattle.jsgen_fields.specs.Kept.{row_plain};
 ghost use Rattle.jsgen_tree.specs.Plain.{node_plain};
 ghost use Rattle.jsgen_tree.specs.declared.types.NodeType.TheVariants as types;
@@ -11,8 +11,8 @@ ghost use Rattle.jsgen_tree.specs.declared.types.NodeType.TheVariants as types;
 use crate::kept::Row;
 use jsgen_pool::Typed;
 use jsgen_tree::{
-    BindingPattern, BindingPatternNode, Declaration, DeclarationNode, Expression, ExpressionNode,
-    Node, NodeSet, NodeType, Statement, StatementNode,
+    BindingPattern, BindingPatternNode, ClassElement, ClassElementNode, Declaration,
+    DeclarationNode, Expression, ExpressionNode, Node, NodeSet, NodeType, Statement, StatementNode,
 };
 use std::alloc::{AllocError, Global};
 
@@ -87,8 +87,27 @@ impl HoldsBindingPattern for Node {
     }
 }
 
+/// A node that may be a class element.
+pub trait HoldsClassElement: PlainNode {
+    fn class_element_node(class_element: ClassElement<Self>) -> ClassElementNode<Self>
+        ensures { in_class_element Self.plain result ≡ class_element_plain Self.plain class_element };
+}
+
+impl HoldsClassElement for Node {
+    #[tactic(auto, using(jsgen_tree::proofs::Knot::plain_class_element))]
+    fn class_element_node(class_element: ClassElement) -> ClassElementNode
+        ensures { in_class_element node_plain result ≡ class_element_plain node_plain class_element }
+    {
+        class_element.into()
+    }
+}
+
 /// What the reader asks of a node where trees nest. Only `Node` implements it.
-pub trait ReadNode: HoldsExpression + HoldsDeclaration + HoldsStatement + HoldsBindingPattern {
+pub trait ReadNode: HoldsExpression
+    + HoldsDeclaration
+    + HoldsStatement
+    + HoldsBindingPattern
+    + HoldsClassElement {
     fn expression_type(expression: &Expression<Self>) -> NodeType
         ensures { result ≡ type_of (expression_plain Self.plain expression.now) };
 
@@ -100,6 +119,9 @@ pub trait ReadNode: HoldsExpression + HoldsDeclaration + HoldsStatement + HoldsB
 
     fn binding_pattern_type(binding_pattern: &BindingPattern<Self>) -> NodeType
         ensures { result ≡ type_of (binding_pattern_plain Self.plain binding_pattern.now) };
+
+    fn class_element_type(class_element: &ClassElement<Self>) -> NodeType
+        ensures { result ≡ type_of (class_element_plain Self.plain class_element.now) };
 }
 
 impl ReadNode for Node {
@@ -125,6 +147,12 @@ impl ReadNode for Node {
         ensures { result ≡ type_of (binding_pattern_plain node_plain binding_pattern.now) }
     {
         binding_pattern.node_type()
+    }
+
+    fn class_element_type(class_element: &ClassElement) -> NodeType
+        ensures { result ≡ type_of (class_element_plain node_plain class_element.now) }
+    {
+        class_element.node_type()
     }
 }
 

@@ -3,12 +3,13 @@
 ghost use Rattle.std.specs.Prelude.{◌≡◌, IfOk, Some, None, option_map, if◌then◌else◌};
 ghost use Rattle.jsgen_tree.specs.Tree.{type_of};
 ghost use Rattle.jsgen_tree.specs.Sets.{in_set};
-ghost use Rattle.jsgen_tree.specs.Rows.{in_expression, in_argument, in_array_expression_element, in_chain_element, in_simple_assignment_target, in_assignment_target, in_arrow_function_body, in_for_statement_init, in_for_statement_left, in_object_property_kind, in_property_key, in_statement, in_binding_pattern, comment_row, directive_row, variable_declarator_row, binding_identifier_row, block_statement_row, identifier_name_row, formal_parameter_row, formal_parameter_rest_row, formal_parameters_row, function_body_row, label_identifier_row, switch_case_row, catch_clause_row, binding_property_row, binding_rest_element_row};
+ghost use Rattle.jsgen_tree.specs.Rows.{in_expression, in_argument, in_array_expression_element, in_chain_element, in_simple_assignment_target, in_assignment_target, in_arrow_function_body, in_for_statement_init, in_for_statement_left, in_object_property_kind, in_property_key, in_statement, in_binding_pattern, in_class_element, comment_row, directive_row, variable_declarator_row, binding_identifier_row, block_statement_row, identifier_name_row, formal_parameter_row, formal_parameter_rest_row, formal_parameters_row, function_row, function_body_row, label_identifier_row, switch_case_row, catch_clause_row, binding_property_row, binding_rest_element_row, private_identifier_row, class_body_row};
 ghost use Rattle.jsgen_fields.specs.Kept.{row_plain};
 ghost use Rattle.jsgen_tree.specs.declared.types.NodeSet.TheVariants as sets;
 
 use crate::asked::{
-    Child, HoldsBindingPattern, HoldsDeclaration, HoldsExpression, HoldsStatement, PlainNode,
+    Child, HoldsBindingPattern, HoldsClassElement, HoldsDeclaration, HoldsExpression,
+    HoldsStatement, PlainNode,
 };
 use crate::kept::Row;
 use crate::members::{
@@ -23,10 +24,11 @@ use crate::members::{
 use jsgen_tree::{
     Argument, ArrayExpressionElement, ArrowFunctionBody, AssignmentTarget, BindingIdentifier,
     BindingPatternNode, BindingProperty, BindingRestElement, BlockStatement, CatchClause,
-    ChainElement, Comment, Declaration, Directive, Expression, ExpressionNode, ForStatementInit,
-    ForStatementLeft, FormalParameter, FormalParameterRest, FormalParameters, FunctionBody,
-    IdentifierName, LabelIdentifier, NodeSet, ObjectPropertyKind, PropertyKey,
-    SimpleAssignmentTarget, StatementNode, SwitchCase, VariableDeclarator,
+    ChainElement, ClassBody, ClassElementNode, Comment, Declaration, Directive, Expression,
+    ExpressionNode, ForStatementInit, ForStatementLeft, FormalParameter, FormalParameterRest,
+    FormalParameters, Function, FunctionBody, IdentifierName, LabelIdentifier, NodeSet,
+    ObjectPropertyKind, PrivateIdentifier, PropertyKey, SimpleAssignmentTarget, StatementNode,
+    SwitchCase, VariableDeclarator,
 };
 use std::alloc::{AllocError, Global};
 
@@ -104,6 +106,10 @@ impl<N: HoldsDeclaration + HoldsStatement + Drop> Child<N> for StatementNode<N> 
                 alloc,
                 N::declaration_node(Declaration::Function(row)),
             ),
+            Row::Class(row) => statement_of_declaration(
+                alloc,
+                N::declaration_node(Declaration::Class(row)),
+            ),
             rest => {
                 rest.let_go();
                 Ok(None)
@@ -180,6 +186,7 @@ impl<N: HoldsExpression + Drop> Child<N> for ExpressionNode<N> {
         match row {
             Row::Expression(row) => Ok(Some(N::expression_node(Box::into_inner(row).expression))),
             Row::Function(row) => Ok(Some(N::expression_node(Expression::Function(row)))),
+            Row::Class(row) => Ok(Some(N::expression_node(Expression::Class(row)))),
             rest => {
                 rest.let_go();
                 Ok(None)
@@ -236,6 +243,10 @@ impl<N: HoldsExpression + Drop> Child<N> for Argument<N> {
             Row::Function(row) => argument_of_expression(
                 alloc,
                 N::expression_node(Expression::Function(row)),
+            ),
+            Row::Class(row) => argument_of_expression(
+                alloc,
+                N::expression_node(Expression::Class(row)),
             ),
             rest => {
                 rest.let_go();
@@ -294,6 +305,10 @@ impl<N: HoldsExpression + Drop> Child<N> for ArrayExpressionElement<N> {
                 alloc,
                 N::expression_node(Expression::Function(row)),
             ),
+            Row::Class(row) => array_expression_element_of_expression(
+                alloc,
+                N::expression_node(Expression::Class(row)),
+            ),
             rest => {
                 rest.let_go();
                 Ok(None)
@@ -325,6 +340,11 @@ impl<N: HoldsExpression + Drop> Child<N> for PropertyKey<N> {
             Row::Function(row) => property_key_of_expression(
                 alloc,
                 N::expression_node(Expression::Function(row)),
+            ),
+            Row::PrivateIdentifier(row) => Ok(Some(PropertyKey::PrivateIdentifier(row))),
+            Row::Class(row) => property_key_of_expression(
+                alloc,
+                N::expression_node(Expression::Class(row)),
             ),
             rest => {
                 rest.let_go();
@@ -566,6 +586,10 @@ impl<N: HoldsExpression + Drop> Child<N> for ArrowFunctionBody<N> {
                 N::expression_node(Expression::Function(row)),
             ),
             Row::FunctionBody(row) => Ok(Some(ArrowFunctionBody::FunctionBody(row))),
+            Row::Class(row) => arrow_function_body_of_expression(
+                alloc,
+                N::expression_node(Expression::Class(row)),
+            ),
             rest => {
                 rest.let_go();
                 Ok(None)
@@ -597,6 +621,10 @@ impl<N: HoldsExpression + Drop> Child<N> for ForStatementInit<N> {
             Row::Function(row) => for_statement_init_of_expression(
                 alloc,
                 N::expression_node(Expression::Function(row)),
+            ),
+            Row::Class(row) => for_statement_init_of_expression(
+                alloc,
+                N::expression_node(Expression::Class(row)),
             ),
             rest => {
                 rest.let_go();
@@ -777,6 +805,106 @@ impl<N: PlainNode + Drop> Child<N> for Box<BindingRestElement<N>> {
         let _ = alloc;
         match row {
             Row::BindingRestElement(row) => Ok(Some(row)),
+            rest => {
+                rest.let_go();
+                Ok(None)
+            }
+        }
+    }
+}
+
+impl<N: PlainNode + Drop> Child<N> for Box<PrivateIdentifier> {
+    ghost plain = { λ n. private_identifier_row n.value };
+
+    ghost of_set = { sets.PrivateIdentifier };
+
+    fn set() -> NodeSet {
+        NodeSet::PrivateIdentifier
+    }
+
+    #[tactic(auto, using(crate::proofs::Sets::takes_private_identifiers))]
+    fn from_row(alloc: Global, row: Row<N>) -> Result<Option<Box<PrivateIdentifier>>, AllocError>
+        ensures { IfOk result (λ child. option_map (λ b. private_identifier_row b.value) child
+            ≡ (if in_set sets.PrivateIdentifier (type_of (row_plain N.plain row)) then Some (row_plain N.plain row) else None)) }
+    {
+        let _ = alloc;
+        match row {
+            Row::PrivateIdentifier(row) => Ok(Some(row)),
+            rest => {
+                rest.let_go();
+                Ok(None)
+            }
+        }
+    }
+}
+
+impl<N: PlainNode + Drop> Child<N> for Box<ClassBody<N>> {
+    ghost plain = { λ n. class_body_row N.plain n.value };
+
+    ghost of_set = { sets.ClassBody };
+
+    fn set() -> NodeSet {
+        NodeSet::ClassBody
+    }
+
+    #[tactic(auto, using(crate::proofs::Sets::takes_class_bodys))]
+    fn from_row(alloc: Global, row: Row<N>) -> Result<Option<Box<ClassBody<N>>>, AllocError>
+        ensures { IfOk result (λ child. option_map (λ b. class_body_row N.plain b.value) child
+            ≡ (if in_set sets.ClassBody (type_of (row_plain N.plain row)) then Some (row_plain N.plain row) else None)) }
+    {
+        let _ = alloc;
+        match row {
+            Row::ClassBody(row) => Ok(Some(row)),
+            rest => {
+                rest.let_go();
+                Ok(None)
+            }
+        }
+    }
+}
+
+impl<N: HoldsClassElement + Drop> Child<N> for ClassElementNode<N> {
+    ghost plain = { λ n. in_class_element N.plain n };
+
+    ghost of_set = { sets.ClassElement };
+
+    fn set() -> NodeSet {
+        NodeSet::ClassElement
+    }
+
+    #[tactic(auto, using(crate::proofs::Sets::takes_class_elements))]
+    fn from_row(alloc: Global, row: Row<N>) -> Result<Option<ClassElementNode<N>>, AllocError>
+        ensures { IfOk result (λ child. option_map (in_class_element N.plain) child
+            ≡ (if in_set sets.ClassElement (type_of (row_plain N.plain row)) then Some (row_plain N.plain row) else None)) }
+    {
+        let _ = alloc;
+        match row {
+            Row::ClassElement(row) => Ok(Some(N::class_element_node(Box::into_inner(row)))),
+            rest => {
+                rest.let_go();
+                Ok(None)
+            }
+        }
+    }
+}
+
+impl<N: PlainNode + Drop> Child<N> for Box<Function<N>> {
+    ghost plain = { λ n. function_row N.plain n.value };
+
+    ghost of_set = { sets.Function };
+
+    fn set() -> NodeSet {
+        NodeSet::Function
+    }
+
+    #[tactic(auto, using(crate::proofs::Sets::takes_functions))]
+    fn from_row(alloc: Global, row: Row<N>) -> Result<Option<Box<Function<N>>>, AllocError>
+        ensures { IfOk result (λ child. option_map (λ b. function_row N.plain b.value) child
+            ≡ (if in_set sets.Function (type_of (row_plain N.plain row)) then Some (row_plain N.plain row) else None)) }
+    {
+        let _ = alloc;
+        match row {
+            Row::Function(row) => Ok(Some(row)),
             rest => {
                 rest.let_go();
                 Ok(None)

@@ -3,7 +3,7 @@
 ghost use Rattle.std.specs.Prelude.{◌≡◌, IfOk, Some, None, option_map, if◌then◌else◌, Ok};
 ghost use Rattle.jsgen_tree.specs.Tree.{type_of};
 ghost use Rattle.jsgen_tree.specs.Sets.{in_set};
-ghost use Rattle.jsgen_tree.specs.Rows.{program_row, comment_row, directive_row, variable_declarator_row, identifier_name_row, spread_element_row, object_property_row, formal_parameter_row, formal_parameter_rest_row, formal_parameters_row, function_row, function_body_row, label_identifier_row, switch_case_row, catch_clause_row, binding_property_row, binding_rest_element_row, expression_plain, declaration_plain, statement_plain, binding_pattern_plain, expression_plain, declaration_plain, statement_plain, binding_pattern_plain, program_row};
+ghost use Rattle.jsgen_tree.specs.Rows.{program_row, comment_row, directive_row, variable_declarator_row, identifier_name_row, spread_element_row, object_property_row, formal_parameter_row, formal_parameter_rest_row, formal_parameters_row, function_row, function_body_row, label_identifier_row, switch_case_row, catch_clause_row, binding_property_row, binding_rest_element_row, private_identifier_row, class_row, class_body_row, expression_plain, declaration_plain, statement_plain, binding_pattern_plain, class_element_plain, expression_plain, declaration_plain, statement_plain, binding_pattern_plain, class_element_plain, program_row};
 ghost use Rattle.jsgen_fields.specs.Kept.{row_plain, any_row_plain};
 ghost use Rattle.jsgen_fields.specs.Values.{Same};
 ghost use Rattle.jsgen_fields.specs.Meaning.{is_program};
@@ -13,10 +13,11 @@ use crate::asked::{Child, PlainNode, ReadNode, RowOf};
 use crate::others::{OtherDeclaration, OtherExpression, OtherStatement};
 use jsgen_pool::Typed;
 use jsgen_tree::{
-    BindingPattern, BindingProperty, BindingRestElement, CatchClause, Comment, Declaration,
-    Directive, Expression, FormalParameter, FormalParameterRest, FormalParameters, Function,
-    FunctionBody, IdentifierName, LabelIdentifier, Node, NodeType, ObjectProperty, Program,
-    SpreadElement, Statement, SwitchCase, VariableDeclarator,
+    BindingPattern, BindingProperty, BindingRestElement, CatchClause, Class, ClassBody,
+    ClassElement, Comment, Declaration, Directive, Expression, FormalParameter,
+    FormalParameterRest, FormalParameters, Function, FunctionBody, IdentifierName, LabelIdentifier,
+    Node, NodeType, ObjectProperty, PrivateIdentifier, Program, SpreadElement, Statement,
+    SwitchCase, VariableDeclarator,
 };
 use std::alloc::{AllocError, Global};
 
@@ -45,6 +46,10 @@ pub enum Row<N = Node> {
     CatchClause(Box<CatchClause<N>>),
     BindingProperty(Box<BindingProperty<N>>),
     BindingRestElement(Box<BindingRestElement<N>>),
+    PrivateIdentifier(Box<PrivateIdentifier>),
+    Class(Box<Class<N>>),
+    ClassBody(Box<ClassBody<N>>),
+    ClassElement(Box<ClassElement<N>>),
 }
 
 impl<N: Drop> Row<N> {
@@ -93,6 +98,10 @@ impl<N: ReadNode> Typed for AnyRow<N> {
             Row::CatchClause(_) => NodeType::CatchClause,
             Row::BindingProperty(_) => NodeType::BindingProperty,
             Row::BindingRestElement(_) => NodeType::BindingRestElement,
+            Row::PrivateIdentifier(_) => NodeType::PrivateIdentifier,
+            Row::Class(_) => NodeType::Class,
+            Row::ClassBody(_) => NodeType::ClassBody,
+            Row::ClassElement(row) => N::class_element_type(&**row),
         }
     }
 }
@@ -294,4 +303,34 @@ pub fn row_of_binding_rest_element<N: PlainNode + Drop, R: RowOf<N>>(
     ensures { R.plain result ≡ binding_rest_element_row N.plain binding_rest_element.value }
 {
     R::of_row(Row::BindingRestElement(binding_rest_element))
+}
+
+pub fn row_of_private_identifier<N: PlainNode + Drop, R: RowOf<N>>(
+    private_identifier: Box<PrivateIdentifier>,
+) -> R
+    ensures { R.plain result ≡ private_identifier_row private_identifier.value }
+{
+    R::of_row(Row::PrivateIdentifier(private_identifier))
+}
+
+pub fn row_of_class<N: PlainNode + Drop, R: RowOf<N>>(class: Box<Class<N>>) -> R
+    ensures { R.plain result ≡ class_row N.plain class.value }
+{
+    R::of_row(Row::Class(class))
+}
+
+pub fn row_of_class_body<N: PlainNode + Drop, R: RowOf<N>>(class_body: Box<ClassBody<N>>) -> R
+    ensures { R.plain result ≡ class_body_row N.plain class_body.value }
+{
+    R::of_row(Row::ClassBody(class_body))
+}
+
+pub fn row_of_class_element<N: PlainNode + Drop, R: RowOf<N>>(
+    alloc: Global,
+    class_element: ClassElement<N>,
+) -> Result<R, InputFault>
+    ensures { Same R.plain result (Ok (class_element_plain N.plain class_element)) }
+{
+    let class_element = Box::new(alloc, class_element)?;
+    Ok(R::of_row(Row::ClassElement(class_element)))
 }

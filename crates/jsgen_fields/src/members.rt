@@ -93,6 +93,7 @@ pub fn chain_element_of_expression<N: PlainNode + Drop>(
             row,
         )),
         Expression::CallExpression(row) => Some(ChainElement::CallExpression(row)),
+        Expression::PrivateFieldExpression(row) => Some(ChainElement::PrivateFieldExpression(row)),
         rest => {
             drop(rest);
             None
@@ -117,6 +118,9 @@ pub fn simple_assignment_target_of_expression<N: PlainNode + Drop>(
         Expression::ComputedMemberExpression(row) => Some(
             SimpleAssignmentTarget::ComputedMemberExpression(row),
         ),
+        Expression::PrivateFieldExpression(row) => Some(
+            SimpleAssignmentTarget::PrivateFieldExpression(row),
+        ),
         rest => {
             drop(rest);
             None
@@ -139,6 +143,9 @@ pub fn assignment_target_of_expression<N: PlainNode + Drop>(
         Expression::ComputedMemberExpression(row) => Some(
             AssignmentTarget::ComputedMemberExpression(row),
         ),
+        Expression::PrivateFieldExpression(row) => Some(AssignmentTarget::PrivateFieldExpression(
+            row,
+        )),
         rest => {
             drop(rest);
             None
@@ -208,6 +215,9 @@ pub fn for_statement_left_of_expression<N: PlainNode + Drop>(
         Expression::ComputedMemberExpression(row) => Some(
             ForStatementLeft::ComputedMemberExpression(row),
         ),
+        Expression::PrivateFieldExpression(row) => Some(ForStatementLeft::PrivateFieldExpression(
+            row,
+        )),
         rest => {
             drop(rest);
             None

@@ -61,7 +61,7 @@ const TYPE_NAMES: [(&str, NodeType); 50] = [
     ("DoWhileStatement", NodeType::DoWhileStatement),
 ];
 
-const TYPE_NAMES_2: [(&str, NodeType); 16] = [
+const TYPE_NAMES_2: [(&str, NodeType); 24] = [
     ("LabelIdentifier", NodeType::LabelIdentifier),
     ("LabeledStatement", NodeType::LabeledStatement),
     ("ContinueStatement", NodeType::ContinueStatement),
@@ -78,6 +78,14 @@ const TYPE_NAMES_2: [(&str, NodeType); 16] = [
     ("BindingRestElement", NodeType::BindingRestElement),
     ("ArrayPattern", NodeType::ArrayPattern),
     ("AssignmentPattern", NodeType::AssignmentPattern),
+    ("PrivateIdentifier", NodeType::PrivateIdentifier),
+    ("PrivateFieldExpression", NodeType::PrivateFieldExpression),
+    ("PrivateInExpression", NodeType::PrivateInExpression),
+    ("Class", NodeType::Class),
+    ("ClassBody", NodeType::ClassBody),
+    ("StaticBlock", NodeType::StaticBlock),
+    ("MethodDefinition", NodeType::MethodDefinition),
+    ("PropertyDefinition", NodeType::PropertyDefinition),
 ];
 
 fn first_named(names: &[(&str, NodeType)], name: &str) -> Option<NodeType>

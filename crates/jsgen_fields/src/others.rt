@@ -5,7 +5,7 @@ ghost use Rattle.jsgen_fields.specs.Others.{is_other_declaration, is_other_state
 
 use jsgen_tree::{Declaration, Expression, Node, Statement};
 
-/// A declaration that is no function.
+/// A declaration that is no function and no class.
 #[derive(Drop)]
 pub struct OtherDeclaration<N = Node> {
     pub declaration: Declaration<N>,
@@ -19,7 +19,7 @@ pub struct OtherStatement<N = Node> {
     pub ghost other: { is_other_statement statement ≡ true },
 }
 
-/// An expression that is no function.
+/// An expression that is no function and no class.
 #[derive(Drop)]
 pub struct OtherExpression<N = Node> {
     pub expression: Expression<N>,

@@ -4,7 +4,7 @@ ghost use Rattle.std.specs.Prelude.{true, false, map, option_map};
 ghost use Rattle.serde_json.specs.View.{view};
 ghost use Rattle.jsgen_tree.specs.Tree.{optional, trees, holed};
 ghost use Rattle.jsgen_tree.specs.Table.{needed, may_be_absent, child, children as many, children_or_holes as many_or_holes};
-ghost use Rattle.jsgen_tree.specs.Rows.{in_expression, in_argument, in_array_expression_element, in_chain_element, in_simple_assignment_target, in_assignment_target, in_arrow_function_body, in_for_statement_init, in_for_statement_left, in_object_property_kind, in_property_key, in_statement, in_binding_pattern, comment_row, directive_row, variable_declarator_row, binding_identifier_row, block_statement_row, identifier_name_row, formal_parameter_row, formal_parameter_rest_row, formal_parameters_row, function_body_row, label_identifier_row, switch_case_row, catch_clause_row, binding_property_row, binding_rest_element_row};
+ghost use Rattle.jsgen_tree.specs.Rows.{in_expression, in_argument, in_array_expression_element, in_chain_element, in_simple_assignment_target, in_assignment_target, in_arrow_function_body, in_for_statement_init, in_for_statement_left, in_object_property_kind, in_property_key, in_statement, in_binding_pattern, in_class_element, comment_row, directive_row, variable_declarator_row, binding_identifier_row, block_statement_row, identifier_name_row, formal_parameter_row, formal_parameter_rest_row, formal_parameters_row, function_row, function_body_row, label_identifier_row, switch_case_row, catch_clause_row, binding_property_row, binding_rest_element_row, private_identifier_row, class_body_row};
 ghost use Rattle.jsgen_fields.specs.Values.{at, field as value_under};
 ghost use Rattle.jsgen_fields.specs.Meaning.{a_child, a_maybe, a_list};
 ghost use Rattle.jsgen_fields.specs.Reads.{Gives, read_children};
@@ -13,17 +13,18 @@ ghost use Rattle.jsgen_tree.specs.declared.types.NodeSet.TheVariants as sets;
 
 use crate::InputFault;
 use crate::asked::{
-    HoldsBindingPattern, HoldsDeclaration, HoldsExpression, HoldsStatement, PlainNode, RowOf,
+    HoldsBindingPattern, HoldsClassElement, HoldsDeclaration, HoldsExpression, HoldsStatement,
+    PlainNode, RowOf,
 };
 use crate::fields::{children, children_or_holes, needed_child, optional_child};
 use jsgen_pool::Kept;
 use jsgen_tree::{
     Argument, ArrayExpressionElement, ArrowFunctionBody, AssignmentTarget, BindingIdentifier,
     BindingPatternNode, BindingProperty, BindingRestElement, BlockStatement, CatchClause,
-    ChainElement, Comment, Directive, ExpressionNode, ForStatementInit, ForStatementLeft,
-    FormalParameter, FormalParameterRest, FormalParameters, FunctionBody, IdentifierName,
-    LabelIdentifier, ObjectPropertyKind, PropertyKey, SimpleAssignmentTarget, StatementNode,
-    SwitchCase, VariableDeclarator,
+    ChainElement, ClassBody, ClassElementNode, Comment, Directive, ExpressionNode,
+    ForStatementInit, ForStatementLeft, FormalParameter, FormalParameterRest, FormalParameters,
+    Function, FunctionBody, IdentifierName, LabelIdentifier, ObjectPropertyKind, PrivateIdentifier,
+    PropertyKey, SimpleAssignmentTarget, StatementNode, SwitchCase, VariableDeclarator,
 };
 use serde_json::Value;
 use std::alloc::Global;
@@ -530,4 +531,60 @@ pub fn binding_pattern_or_hole_list<N: HoldsBindingPattern + Drop, R: RowOf<N> +
         (read_children (at number field) false may_be_absent (many_or_holes sets.BindingPattern) (value_under name.now (view row.now)) (entries R.plain kept.old.items)) }
 {
     children_or_holes::<N, R, _>(alloc, kept, number, field, row, name)
+}
+
+pub fn needed_private_identifier<N: PlainNode + Drop, R: RowOf<N> + Drop>(
+    alloc: Global,
+    kept: &mut Vec<Kept<R>>,
+    number: usize,
+    field: usize,
+    row: &Value,
+    name: &str,
+) -> Result<Box<PrivateIdentifier>, InputFault>
+    ensures { Gives (λ c. a_child (private_identifier_row c.value)) result (entries R.plain kept.new.items)
+        (read_children (at number field) true needed (child sets.PrivateIdentifier) (value_under name.now (view row.now)) (entries R.plain kept.old.items)) }
+{
+    needed_child::<N, R, _>(alloc, kept, number, field, row, name)
+}
+
+pub fn needed_class_body<N: PlainNode + Drop, R: RowOf<N> + Drop>(
+    alloc: Global,
+    kept: &mut Vec<Kept<R>>,
+    number: usize,
+    field: usize,
+    row: &Value,
+    name: &str,
+) -> Result<Box<ClassBody<N>>, InputFault>
+    ensures { Gives (λ c. a_child (class_body_row N.plain c.value)) result (entries R.plain kept.new.items)
+        (read_children (at number field) true needed (child sets.ClassBody) (value_under name.now (view row.now)) (entries R.plain kept.old.items)) }
+{
+    needed_child::<N, R, _>(alloc, kept, number, field, row, name)
+}
+
+pub fn class_element_list<N: HoldsClassElement + Drop, R: RowOf<N> + Drop>(
+    alloc: Global,
+    kept: &mut Vec<Kept<R>>,
+    number: usize,
+    field: usize,
+    row: &Value,
+    name: &str,
+) -> Result<Vec<ClassElementNode<N>>, InputFault>
+    ensures { Gives (λ v. a_list (trees (map (in_class_element N.plain) v.items))) result (entries R.plain kept.new.items)
+        (read_children (at number field) false may_be_absent (many sets.ClassElement) (value_under name.now (view row.now)) (entries R.plain kept.old.items)) }
+{
+    children::<N, R, _>(alloc, kept, number, field, row, name)
+}
+
+pub fn needed_function<N: PlainNode + Drop, R: RowOf<N> + Drop>(
+    alloc: Global,
+    kept: &mut Vec<Kept<R>>,
+    number: usize,
+    field: usize,
+    row: &Value,
+    name: &str,
+) -> Result<Box<Function<N>>, InputFault>
+    ensures { Gives (λ c. a_child (function_row N.plain c.value)) result (entries R.plain kept.new.items)
+        (read_children (at number field) true needed (child sets.Function) (value_under name.now (view row.now)) (entries R.plain kept.old.items)) }
+{
+    needed_child::<N, R, _>(alloc, kept, number, field, row, name)
 }

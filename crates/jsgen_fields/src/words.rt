@@ -2,9 +2,9 @@
 // Fields that hold a word.
 ghost use Rattle.std.specs.Prelude.{◌≡◌, true, option_map};
 ghost use Rattle.serde_json.specs.View.{view};
-ghost use Rattle.jsgen_tree.specs.Atom.{no_value, kind_of_comment, content_of_comment, source_kind, declaration_kind, binary_operator, logical_operator, property_kind, unary_operator, update_operator, assignment_operator, kind_of_function};
+ghost use Rattle.jsgen_tree.specs.Atom.{no_value, kind_of_comment, content_of_comment, source_kind, declaration_kind, binary_operator, logical_operator, property_kind, unary_operator, update_operator, assignment_operator, kind_of_function, class_form, kind_of_method};
 ghost use Rattle.jsgen_tree.specs.Table.{word};
-ghost use Rattle.jsgen_tree.specs.Fields.{kind_of_comment_words, content_of_comment_words, source_kind_words, declaration_kind_words, binary_operator_words, logical_operator_words, property_kind_words, unary_operator_words, update_operator_words, assignment_operator_words, kind_of_function_words};
+ghost use Rattle.jsgen_tree.specs.Fields.{kind_of_comment_words, content_of_comment_words, source_kind_words, declaration_kind_words, binary_operator_words, logical_operator_words, property_kind_words, unary_operator_words, update_operator_words, assignment_operator_words, kind_of_function_words, class_form_words, kind_of_method_words};
 ghost use Rattle.jsgen_fields.specs.Reads.{read_value};
 ghost use Rattle.jsgen_fields.specs.Values.{Same, at, field as value_under, word_meaning, words_of_length};
 
@@ -14,7 +14,8 @@ use jsgen_syntax::{
     AssignmentOperator, BinaryOperator, LogicalOperator, SourceKind, UnaryOperator, UpdateOperator,
 };
 use jsgen_tree::{
-    CommentContent, CommentKind, FunctionKind, PropertyKind, VariableDeclarationKind,
+    ClassKind, CommentContent, CommentKind, FunctionKind, MethodDefinitionKind, PropertyKind,
+    VariableDeclarationKind,
 };
 use serde_json::Value;
 
@@ -552,6 +553,64 @@ pub fn needed_kind_of_function(
 {
     match needed_word(number, field, row, name) {
         Ok(word) => match kind_of_function_by_word(word) {
+            Some(found) => Ok(found),
+            None => Err(InputFault::Wrong(At::of_row(number, field))),
+        },
+        Err(fault) => Err(fault),
+    }
+}
+
+fn class_form_by_word(word: &str) -> Option<ClassKind>
+    ensures { option_map class_form result ≡ word_meaning class_form_words word.now }
+{
+    match word {
+        "declaration" => Some(ClassKind::Declaration),
+        "expression" => Some(ClassKind::Expression),
+        _ => None,
+    }
+}
+
+pub fn needed_class_form(
+    number: usize,
+    field: usize,
+    row: &Value,
+    name: &str,
+) -> Result<ClassKind, InputFault>
+    ensures { Same (λ o. class_form o) result
+        (read_value (at number field) true no_value (word class_form_words) (value_under name.now (view row.now))) }
+{
+    match needed_word(number, field, row, name) {
+        Ok(word) => match class_form_by_word(word) {
+            Some(found) => Ok(found),
+            None => Err(InputFault::Wrong(At::of_row(number, field))),
+        },
+        Err(fault) => Err(fault),
+    }
+}
+
+fn kind_of_method_by_word(word: &str) -> Option<MethodDefinitionKind>
+    ensures { option_map kind_of_method result ≡ word_meaning kind_of_method_words word.now }
+{
+    match word {
+        "constructor" => Some(MethodDefinitionKind::Constructor),
+        "method" => Some(MethodDefinitionKind::Method),
+        "get" => Some(MethodDefinitionKind::Get),
+        "set" => Some(MethodDefinitionKind::Set),
+        _ => None,
+    }
+}
+
+pub fn needed_kind_of_method(
+    number: usize,
+    field: usize,
+    row: &Value,
+    name: &str,
+) -> Result<MethodDefinitionKind, InputFault>
+    ensures { Same (λ o. kind_of_method o) result
+        (read_value (at number field) true no_value (word kind_of_method_words) (value_under name.now (view row.now))) }
+{
+    match needed_word(number, field, row, name) {
+        Ok(word) => match kind_of_method_by_word(word) {
             Some(found) => Ok(found),
             None => Err(InputFault::Wrong(At::of_row(number, field))),
         },

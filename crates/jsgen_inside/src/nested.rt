@@ -1,11 +1,11 @@
 // The members of lists that nest, and what may be there or not of them.
-ghost use Rattle.jsgen_tree.specs.Rows.{in_expression, in_statement, in_binding_pattern};
+ghost use Rattle.jsgen_tree.specs.Rows.{in_expression, in_statement, in_binding_pattern, in_class_element};
 
 use crate::PrintInside;
 use jsgen_lists::PrintMember;
 use jsgen_place::Place;
 use jsgen_printer::Printer;
-use jsgen_tree::{BindingPatternNode, ExpressionNode, StatementNode};
+use jsgen_tree::{BindingPatternNode, ClassElementNode, ExpressionNode, StatementNode};
 
 /// What nests, printed as it is elsewhere.
 pub struct Nested<L> {
@@ -32,6 +32,14 @@ impl<N, L: PrintInside<N>> PrintMember<BindingPatternNode<N>> for Nested<L> {
     ghost plain = { in_binding_pattern L.plain };
 
     fn print_member(node: &BindingPatternNode<N>, p: &mut Printer<'_>, place: Place) {
+        L::print(node.get(), p, place);
+    }
+}
+
+impl<N, L: PrintInside<N>> PrintMember<ClassElementNode<N>> for Nested<L> {
+    ghost plain = { in_class_element L.plain };
+
+    fn print_member(node: &ClassElementNode<N>, p: &mut Printer<'_>, place: Place) {
         L::print(node.get(), p, place);
     }
 }

@@ -3,7 +3,7 @@ ghost use Rattle.std.specs.Prelude.{IsTrue, option_map};
 ghost use Rattle.jsgen_tree.specs.Tree.{optional};
 ghost use Rattle.jsgen_model.specs.Punctuator.{Round};
 ghost use Rattle.jsgen_model.specs.Items.{◌⊕◌, word, brackets, soft_space, statement_end};
-ghost use Rattle.jsgen_model.specs.Spell.{spell, spell_apart, accessor_word};
+ghost use Rattle.jsgen_model.specs.Spell.{spell, spell_apart, accessor_word, key_word};
 ghost use Rattle.jsgen_printer.specs.Steps.{Lays};
 ghost use Rattle.jsgen_printer.specs.Printer.{is_ascii};
 
@@ -53,14 +53,15 @@ pub fn print_accessor_word(kind: PropertyKind, p: &mut Printer<'_>)
 {
     match kind {
         PropertyKind::Init => {}
-        PropertyKind::Get => print_word_before_key("get", p),
-        PropertyKind::Set => print_word_before_key("set", p),
+        PropertyKind::Get => print_key_word("get", p),
+        PropertyKind::Set => print_key_word("set", p),
     }
 }
 
-fn print_word_before_key(text: &str, p: &mut Printer<'_>)
+/// A word before a key.
+pub fn print_key_word(text: &str, p: &mut Printer<'_>)
     requires { IsTrue (is_ascii text.now) }
-    ensures { Lays p.old p.new (word text.now ⊕ soft_space) }
+    ensures { Lays p.old p.new (key_word text.now) }
 {
     p.print_word(text);
     p.print_soft_space();

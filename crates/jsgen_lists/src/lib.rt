@@ -6,6 +6,7 @@ mod arguments;
 mod braces;
 mod cases;
 mod elements;
+mod elements_of_class;
 mod heads;
 mod links;
 mod maybe;
@@ -18,8 +19,9 @@ pub use arguments::{PlainQuotes, print_arguments};
 pub use braces::{close_braces, open_braces, print_braces, print_empty_braces};
 pub use cases::{PrintOnly, print_case};
 pub use elements::{PrintElement, print_array, print_object};
-pub use heads::{print_accessor_word, print_behind_word, print_in_parentheses};
-pub use links::{print_bracket_link, print_named_member};
+pub use elements_of_class::print_class_braces;
+pub use heads::{print_accessor_word, print_behind_word, print_in_parentheses, print_key_word};
+pub use links::{print_bracket_link, print_name_link, print_named_member};
 pub use maybe::{
     print_apart, print_behind_space, print_caught, print_comma_between, print_if_given, print_value,
 };

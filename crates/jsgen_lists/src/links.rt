@@ -33,8 +33,8 @@ fn print_member_name(optional: bool, property: &IdentifierName, p: &mut Printer<
     p.print_name(property.span, property.name.as_str());
 }
 
-// What stands before a member's name.
-fn print_name_link(optional: bool, p: &mut Printer<'_>)
+/// What stands before a member's name.
+pub fn print_name_link(optional: bool, p: &mut Printer<'_>)
     ensures { Lays p.old p.new (name_link optional) }
 {
     if optional {

@@ -3,13 +3,14 @@
 use Rattle.std.proofs.Common.{refl}
 use Rattle.std.proofs.lemmas.Bool.{and_from}
 use Rattle.jsgen_tree.specs.Plain.{node_plain, layer}
-use Rattle.jsgen_tree.proofs.Cases.{with_argument, with_array_expression_element, with_object_property_kind, variable_declarator_by_init, if_statement_by_alternate, chain_expression_by_expression, boxed_object_property_by_key, update_expression_by_argument, assignment_expression_by_left, formal_parameter_by_initializer, boxed_formal_parameters_by_rest, function_by_params, function_by_body, arrow_function_expression_by_params, arrow_function_expression_by_body, for_statement_by_init, for_statement_by_test, for_statement_by_update, for_in_statement_by_left, for_of_statement_by_left, return_statement_by_argument, switch_case_by_test, try_statement_by_handler, try_statement_by_finalizer, boxed_catch_clause_by_param, object_pattern_by_rest, binding_property_by_key, array_pattern_by_rest}
+use Rattle.jsgen_tree.proofs.Cases.{with_argument, with_array_expression_element, with_object_property_kind, variable_declarator_by_init, if_statement_by_alternate, chain_expression_by_expression, boxed_object_property_by_key, update_expression_by_argument, assignment_expression_by_left, formal_parameter_by_initializer, boxed_formal_parameters_by_rest, function_by_params, boxed_function_by_params, function_by_body, boxed_function_by_body, arrow_function_expression_by_params, arrow_function_expression_by_body, for_statement_by_init, for_statement_by_test, for_statement_by_update, for_in_statement_by_left, for_of_statement_by_left, return_statement_by_argument, switch_case_by_test, try_statement_by_handler, try_statement_by_finalizer, boxed_catch_clause_by_param, object_pattern_by_rest, binding_property_by_key, array_pattern_by_rest, class_by_heritage, method_definition_by_key, method_definition_by_value, property_definition_by_key, property_definition_by_value}
 use Rattle.jsgen_tree.specs.declared.nodes.Node.{Node, Node-F, map-Node}
 use Rattle.jsgen_tree.specs.Tree.{Tree}
 use Rattle.jsgen_tree.specs.declared.sets.Expression.{Expression}
 use Rattle.jsgen_tree.specs.declared.sets.Declaration.{Declaration}
 use Rattle.jsgen_tree.specs.declared.sets.Statement.{Statement}
 use Rattle.jsgen_tree.specs.declared.sets.BindingPattern.{BindingPattern}
+use Rattle.jsgen_tree.specs.declared.sets.ClassElement.{ClassElement}
 use Rattle.jsgen_tree.proofs.Layers.{with_hole}
 use Rattle.jsgen_model.proofs.FormedRows.{IsFormed, no_hole, all_formed, no_hole_changed, all_changed, all_changed_or_holes, if_given_formed, number_is_formed, string_is_formed}
 use Rattle.jsgen_tree.specs.declared.nodes.Node.TheOpen as opened
@@ -17,6 +18,7 @@ use Rattle.jsgen_tree.specs.declared.sets.Expression.TheVariants as expressions
 use Rattle.jsgen_tree.specs.declared.sets.Declaration.TheVariants as declarations
 use Rattle.jsgen_tree.specs.declared.sets.Statement.TheVariants as statements
 use Rattle.jsgen_tree.specs.declared.sets.BindingPattern.TheVariants as binding_patterns
+use Rattle.jsgen_tree.specs.declared.sets.ClassElement.TheVariants as class_elements
 
 module _ {A : Type 0} (f : A → Node) (h : (a : A) → IsFormed (node_plain (f a))) where
   expression_is_formed : (n : Expression A) → IsFormed (layer (map-Node Node Tree node_plain (map-Node A Node f (opened.Expression n))))
@@ -34,24 +36,28 @@ module _ {A : Type 0} (f : A → Node) (h : (a : A) → IsFormed (node_plain (f 
   expression_is_formed (expressions.StaticMemberExpression b) = (refl, (h b.value.object.node, ((refl, tt), tt)))
   expression_is_formed (expressions.ComputedMemberExpression b) = (refl, (h b.value.object.node, (h b.value.expression.node, tt)))
   expression_is_formed (expressions.CallExpression b) = (no_hole_changed _ _ _ b.value.arguments.items, (h b.value.callee.node, (all_changed _ _ _ (with_argument _ (λ b. (refl, (h b.value.argument.node, tt))) (λ b. h b.value.node)) b.value.arguments.items, tt)))
-  expression_is_formed (expressions.ChainExpression b) = (chain_expression_by_expression (λ n. IsFormed (layer (map-Node Node Tree node_plain (map-Node A Node f (opened.Expression (expressions.ChainExpression (record b { value = n }))))))) (λ n_expression. (λ n. (refl, ((refl, (h n_expression.value.object.node, ((refl, tt), tt))), tt)))) (λ n_expression. (λ n. (refl, ((refl, (h n_expression.value.object.node, (h n_expression.value.expression.node, tt))), tt)))) (λ n_expression. (λ n. (refl, ((no_hole_changed _ _ _ n_expression.value.arguments.items, (h n_expression.value.callee.node, (all_changed _ _ _ (with_argument _ (λ b. (refl, (h b.value.argument.node, tt))) (λ b. h b.value.node)) n_expression.value.arguments.items, tt))), tt))))) b.value
+  expression_is_formed (expressions.ChainExpression b) = (chain_expression_by_expression (λ n. IsFormed (layer (map-Node Node Tree node_plain (map-Node A Node f (opened.Expression (expressions.ChainExpression (record b { value = n }))))))) (λ n_expression. (λ n. (refl, ((refl, (h n_expression.value.object.node, ((refl, tt), tt))), tt)))) (λ n_expression. (λ n. (refl, ((refl, (h n_expression.value.object.node, (h n_expression.value.expression.node, tt))), tt)))) (λ n_expression. (λ n. (refl, ((refl, (h n_expression.value.object.node, ((refl, tt), tt))), tt)))) (λ n_expression. (λ n. (refl, ((no_hole_changed _ _ _ n_expression.value.arguments.items, (h n_expression.value.callee.node, (all_changed _ _ _ (with_argument _ (λ b. (refl, (h b.value.argument.node, tt))) (λ b. h b.value.node)) n_expression.value.arguments.items, tt))), tt))))) b.value
   expression_is_formed (expressions.ArrayExpression b) = (refl, (all_changed_or_holes _ _ _ (with_hole _ tt (with_array_expression_element _ (λ b. (refl, (h b.value.argument.node, tt))) (λ b. h b.value.node))) b.value.elements.items, tt))
-  expression_is_formed (expressions.ObjectExpression b) = (no_hole_changed _ _ _ b.value.properties.items, (all_changed _ _ _ (with_object_property_kind _ (boxed_object_property_by_key _ (λ n_key. (λ n. (refl, ((refl, tt), (h n.value.value.node, tt))))) (λ n_key. (λ n. (refl, (h n_key.value.node, (h n.value.value.node, tt)))))) (λ b. (refl, (h b.value.argument.node, tt)))) b.value.properties.items, tt))
+  expression_is_formed (expressions.ObjectExpression b) = (no_hole_changed _ _ _ b.value.properties.items, (all_changed _ _ _ (with_object_property_kind _ (boxed_object_property_by_key _ (λ n_key. (λ n. (refl, ((refl, tt), (h n.value.value.node, tt))))) (λ n_key. (λ n. (refl, ((refl, tt), (h n.value.value.node, tt))))) (λ n_key. (λ n. (refl, (h n_key.value.node, (h n.value.value.node, tt)))))) (λ b. (refl, (h b.value.argument.node, tt)))) b.value.properties.items, tt))
   expression_is_formed (expressions.UnaryExpression b) = (refl, (h b.value.argument.node, tt))
-  expression_is_formed (expressions.UpdateExpression b) = (update_expression_by_argument (λ n. IsFormed (layer (map-Node Node Tree node_plain (map-Node A Node f (opened.Expression (expressions.UpdateExpression (record b { value = n }))))))) (λ n_argument. (λ n. (refl, ((refl, tt), tt)))) (λ n_argument. (λ n. (refl, ((refl, (h n_argument.value.object.node, ((refl, tt), tt))), tt)))) (λ n_argument. (λ n. (refl, ((refl, (h n_argument.value.object.node, (h n_argument.value.expression.node, tt))), tt))))) b.value
+  expression_is_formed (expressions.UpdateExpression b) = (update_expression_by_argument (λ n. IsFormed (layer (map-Node Node Tree node_plain (map-Node A Node f (opened.Expression (expressions.UpdateExpression (record b { value = n }))))))) (λ n_argument. (λ n. (refl, ((refl, tt), tt)))) (λ n_argument. (λ n. (refl, ((refl, (h n_argument.value.object.node, ((refl, tt), tt))), tt)))) (λ n_argument. (λ n. (refl, ((refl, (h n_argument.value.object.node, (h n_argument.value.expression.node, tt))), tt)))) (λ n_argument. (λ n. (refl, ((refl, (h n_argument.value.object.node, ((refl, tt), tt))), tt))))) b.value
   expression_is_formed (expressions.NewExpression b) = (no_hole_changed _ _ _ b.value.arguments.items, (h b.value.callee.node, (all_changed _ _ _ (with_argument _ (λ b. (refl, (h b.value.argument.node, tt))) (λ b. h b.value.node)) b.value.arguments.items, tt)))
   expression_is_formed (expressions.NewTarget b) = (refl, tt)
   expression_is_formed (expressions.Super b) = (refl, tt)
   expression_is_formed (expressions.ImportMeta b) = (refl, tt)
   expression_is_formed (expressions.ConditionalExpression b) = (refl, (h b.value.test.node, (h b.value.consequent.node, (h b.value.alternate.node, tt))))
   expression_is_formed (expressions.SequenceExpression b) = (no_hole_changed _ _ _ b.value.expressions.items, (all_changed _ _ _ (λ n. h n.node) b.value.expressions.items, tt))
-  expression_is_formed (expressions.AssignmentExpression b) = (assignment_expression_by_left (λ n. IsFormed (layer (map-Node Node Tree node_plain (map-Node A Node f (opened.Expression (expressions.AssignmentExpression (record b { value = n }))))))) (λ n_left. (λ n. (refl, ((refl, tt), (h n.right.node, tt))))) (λ n_left. (λ n. (refl, ((refl, (h n_left.value.object.node, ((refl, tt), tt))), (h n.right.node, tt))))) (λ n_left. (λ n. (refl, ((refl, (h n_left.value.object.node, (h n_left.value.expression.node, tt))), (h n.right.node, tt)))))) b.value
+  expression_is_formed (expressions.AssignmentExpression b) = (assignment_expression_by_left (λ n. IsFormed (layer (map-Node Node Tree node_plain (map-Node A Node f (opened.Expression (expressions.AssignmentExpression (record b { value = n }))))))) (λ n_left. (λ n. (refl, ((refl, tt), (h n.right.node, tt))))) (λ n_left. (λ n. (refl, ((refl, (h n_left.value.object.node, ((refl, tt), tt))), (h n.right.node, tt))))) (λ n_left. (λ n. (refl, ((refl, (h n_left.value.object.node, (h n_left.value.expression.node, tt))), (h n.right.node, tt))))) (λ n_left. (λ n. (refl, ((refl, (h n_left.value.object.node, ((refl, tt), tt))), (h n.right.node, tt)))))) b.value
   expression_is_formed (expressions.Function b) = (function_by_params (λ n. IsFormed (layer (map-Node Node Tree node_plain (map-Node A Node f (opened.Expression (expressions.Function (record b { value = n }))))))) (boxed_formal_parameters_by_rest _ (λ n_params. (function_by_body _ (λ n. (refl, (if_given_formed _ (λ b. (refl, tt)) n.id, ((no_hole_changed _ _ _ n_params.value.items.items, (all_changed _ _ _ (formal_parameter_by_initializer _ (λ n. (refl, (h n.pattern.node, (tt, tt)))) (λ n_initializer. (λ n. (refl, (h n.pattern.node, (h n_initializer.node, tt)))))) n_params.value.items.items, (tt, tt))), (tt, tt))))) (λ n_body. (λ n. (refl, (if_given_formed _ (λ b. (refl, tt)) n.id, ((no_hole_changed _ _ _ n_params.value.items.items, (all_changed _ _ _ (formal_parameter_by_initializer _ (λ n. (refl, (h n.pattern.node, (tt, tt)))) (λ n_initializer. (λ n. (refl, (h n.pattern.node, (h n_initializer.node, tt)))))) n_params.value.items.items, (tt, tt))), ((and_from _ _ (no_hole _ n_body.value.directives.items) (no_hole_changed _ _ _ n_body.value.statements.items), (all_formed _ (λ d. (refl, tt)) n_body.value.directives.items, (all_changed _ _ _ (λ n. h n.node) n_body.value.statements.items, tt))), tt)))))))) (λ n_params_rest. (λ n_params. (function_by_body _ (λ n. (refl, (if_given_formed _ (λ b. (refl, tt)) n.id, ((no_hole_changed _ _ _ n_params.value.items.items, (all_changed _ _ _ (formal_parameter_by_initializer _ (λ n. (refl, (h n.pattern.node, (tt, tt)))) (λ n_initializer. (λ n. (refl, (h n.pattern.node, (h n_initializer.node, tt)))))) n_params.value.items.items, ((refl, (h n_params_rest.value.argument.node, tt)), tt))), (tt, tt))))) (λ n_body. (λ n. (refl, (if_given_formed _ (λ b. (refl, tt)) n.id, ((no_hole_changed _ _ _ n_params.value.items.items, (all_changed _ _ _ (formal_parameter_by_initializer _ (λ n. (refl, (h n.pattern.node, (tt, tt)))) (λ n_initializer. (λ n. (refl, (h n.pattern.node, (h n_initializer.node, tt)))))) n_params.value.items.items, ((refl, (h n_params_rest.value.argument.node, tt)), tt))), ((and_from _ _ (no_hole _ n_body.value.directives.items) (no_hole_changed _ _ _ n_body.value.statements.items), (all_formed _ (λ d. (refl, tt)) n_body.value.directives.items, (all_changed _ _ _ (λ n. h n.node) n_body.value.statements.items, tt))), tt))))))))))) b.value
   expression_is_formed (expressions.ArrowFunctionExpression b) = (arrow_function_expression_by_params (λ n. IsFormed (layer (map-Node Node Tree node_plain (map-Node A Node f (opened.Expression (expressions.ArrowFunctionExpression (record b { value = n }))))))) (boxed_formal_parameters_by_rest _ (λ n_params. (arrow_function_expression_by_body _ (λ n_body. (λ n. (refl, ((no_hole_changed _ _ _ n_params.value.items.items, (all_changed _ _ _ (formal_parameter_by_initializer _ (λ n. (refl, (h n.pattern.node, (tt, tt)))) (λ n_initializer. (λ n. (refl, (h n.pattern.node, (h n_initializer.node, tt)))))) n_params.value.items.items, (tt, tt))), ((and_from _ _ (no_hole _ n_body.value.directives.items) (no_hole_changed _ _ _ n_body.value.statements.items), (all_formed _ (λ d. (refl, tt)) n_body.value.directives.items, (all_changed _ _ _ (λ n. h n.node) n_body.value.statements.items, tt))), tt))))) (λ n_body. (λ n. (refl, ((no_hole_changed _ _ _ n_params.value.items.items, (all_changed _ _ _ (formal_parameter_by_initializer _ (λ n. (refl, (h n.pattern.node, (tt, tt)))) (λ n_initializer. (λ n. (refl, (h n.pattern.node, (h n_initializer.node, tt)))))) n_params.value.items.items, (tt, tt))), (h n_body.value.node, tt))))))) (λ n_params_rest. (λ n_params. (arrow_function_expression_by_body _ (λ n_body. (λ n. (refl, ((no_hole_changed _ _ _ n_params.value.items.items, (all_changed _ _ _ (formal_parameter_by_initializer _ (λ n. (refl, (h n.pattern.node, (tt, tt)))) (λ n_initializer. (λ n. (refl, (h n.pattern.node, (h n_initializer.node, tt)))))) n_params.value.items.items, ((refl, (h n_params_rest.value.argument.node, tt)), tt))), ((and_from _ _ (no_hole _ n_body.value.directives.items) (no_hole_changed _ _ _ n_body.value.statements.items), (all_formed _ (λ d. (refl, tt)) n_body.value.directives.items, (all_changed _ _ _ (λ n. h n.node) n_body.value.statements.items, tt))), tt))))) (λ n_body. (λ n. (refl, ((no_hole_changed _ _ _ n_params.value.items.items, (all_changed _ _ _ (formal_parameter_by_initializer _ (λ n. (refl, (h n.pattern.node, (tt, tt)))) (λ n_initializer. (λ n. (refl, (h n.pattern.node, (h n_initializer.node, tt)))))) n_params.value.items.items, ((refl, (h n_params_rest.value.argument.node, tt)), tt))), (h n_body.value.node, tt)))))))))) b.value
+  expression_is_formed (expressions.Class b) = (class_by_heritage (λ n. IsFormed (layer (map-Node Node Tree node_plain (map-Node A Node f (opened.Expression (expressions.Class (record b { value = n }))))))) (λ n. (refl, (if_given_formed _ (λ b. (refl, tt)) n.id, (tt, ((no_hole_changed _ _ _ n.body.value.body.items, (all_changed _ _ _ (λ n. h n.node) n.body.value.body.items, tt)), tt))))) (λ n_heritage. (λ n. (refl, (if_given_formed _ (λ b. (refl, tt)) n.id, (h n_heritage.node, ((no_hole_changed _ _ _ n.body.value.body.items, (all_changed _ _ _ (λ n. h n.node) n.body.value.body.items, tt)), tt))))))) b.value
+  expression_is_formed (expressions.PrivateFieldExpression b) = (refl, (h b.value.object.node, ((refl, tt), tt)))
+  expression_is_formed (expressions.PrivateInExpression b) = (refl, ((refl, tt), (h b.value.right.node, tt)))
 
   declaration_is_formed : (n : Declaration A) → IsFormed (layer (map-Node Node Tree node_plain (map-Node A Node f (opened.Declaration n))))
   declaration_is_formed (declarations.VariableDeclaration b) = (no_hole_changed _ _ _ b.value.declarations.items, (all_changed _ _ _ (variable_declarator_by_init _ (λ n. (refl, (h n.id.node, (tt, tt)))) (λ n_init. (λ n. (refl, (h n.id.node, (h n_init.node, tt)))))) b.value.declarations.items, tt))
   declaration_is_formed (declarations.Function b) = (function_by_params (λ n. IsFormed (layer (map-Node Node Tree node_plain (map-Node A Node f (opened.Declaration (declarations.Function (record b { value = n }))))))) (boxed_formal_parameters_by_rest _ (λ n_params. (function_by_body _ (λ n. (refl, (if_given_formed _ (λ b. (refl, tt)) n.id, ((no_hole_changed _ _ _ n_params.value.items.items, (all_changed _ _ _ (formal_parameter_by_initializer _ (λ n. (refl, (h n.pattern.node, (tt, tt)))) (λ n_initializer. (λ n. (refl, (h n.pattern.node, (h n_initializer.node, tt)))))) n_params.value.items.items, (tt, tt))), (tt, tt))))) (λ n_body. (λ n. (refl, (if_given_formed _ (λ b. (refl, tt)) n.id, ((no_hole_changed _ _ _ n_params.value.items.items, (all_changed _ _ _ (formal_parameter_by_initializer _ (λ n. (refl, (h n.pattern.node, (tt, tt)))) (λ n_initializer. (λ n. (refl, (h n.pattern.node, (h n_initializer.node, tt)))))) n_params.value.items.items, (tt, tt))), ((and_from _ _ (no_hole _ n_body.value.directives.items) (no_hole_changed _ _ _ n_body.value.statements.items), (all_formed _ (λ d. (refl, tt)) n_body.value.directives.items, (all_changed _ _ _ (λ n. h n.node) n_body.value.statements.items, tt))), tt)))))))) (λ n_params_rest. (λ n_params. (function_by_body _ (λ n. (refl, (if_given_formed _ (λ b. (refl, tt)) n.id, ((no_hole_changed _ _ _ n_params.value.items.items, (all_changed _ _ _ (formal_parameter_by_initializer _ (λ n. (refl, (h n.pattern.node, (tt, tt)))) (λ n_initializer. (λ n. (refl, (h n.pattern.node, (h n_initializer.node, tt)))))) n_params.value.items.items, ((refl, (h n_params_rest.value.argument.node, tt)), tt))), (tt, tt))))) (λ n_body. (λ n. (refl, (if_given_formed _ (λ b. (refl, tt)) n.id, ((no_hole_changed _ _ _ n_params.value.items.items, (all_changed _ _ _ (formal_parameter_by_initializer _ (λ n. (refl, (h n.pattern.node, (tt, tt)))) (λ n_initializer. (λ n. (refl, (h n.pattern.node, (h n_initializer.node, tt)))))) n_params.value.items.items, ((refl, (h n_params_rest.value.argument.node, tt)), tt))), ((and_from _ _ (no_hole _ n_body.value.directives.items) (no_hole_changed _ _ _ n_body.value.statements.items), (all_formed _ (λ d. (refl, tt)) n_body.value.directives.items, (all_changed _ _ _ (λ n. h n.node) n_body.value.statements.items, tt))), tt))))))))))) b.value
+  declaration_is_formed (declarations.Class b) = (class_by_heritage (λ n. IsFormed (layer (map-Node Node Tree node_plain (map-Node A Node f (opened.Declaration (declarations.Class (record b { value = n }))))))) (λ n. (refl, (if_given_formed _ (λ b. (refl, tt)) n.id, (tt, ((no_hole_changed _ _ _ n.body.value.body.items, (all_changed _ _ _ (λ n. h n.node) n.body.value.body.items, tt)), tt))))) (λ n_heritage. (λ n. (refl, (if_given_formed _ (λ b. (refl, tt)) n.id, (h n_heritage.node, ((no_hole_changed _ _ _ n.body.value.body.items, (all_changed _ _ _ (λ n. h n.node) n.body.value.body.items, tt)), tt))))))) b.value
 
   statement_is_formed : (n : Statement A) → IsFormed (layer (map-Node Node Tree node_plain (map-Node A Node f (opened.Statement n))))
   statement_is_formed (statements.Declaration b) = h b.value.node
@@ -60,8 +66,8 @@ module _ {A : Type 0} (f : A → Node) (h : (a : A) → IsFormed (node_plain (f 
   statement_is_formed (statements.IfStatement b) = (if_statement_by_alternate (λ n. IsFormed (layer (map-Node Node Tree node_plain (map-Node A Node f (opened.Statement (statements.IfStatement (record b { value = n }))))))) (λ n. (refl, (h n.test.node, (h n.consequent.node, (tt, tt))))) (λ n_alternate. (λ n. (refl, (h n.test.node, (h n.consequent.node, (h n_alternate.node, tt))))))) b.value
   statement_is_formed (statements.EmptyStatement b) = (refl, tt)
   statement_is_formed (statements.ForStatement b) = (for_statement_by_init (λ n. IsFormed (layer (map-Node Node Tree node_plain (map-Node A Node f (opened.Statement (statements.ForStatement (record b { value = n }))))))) (for_statement_by_test _ (for_statement_by_update _ (λ n. (refl, (tt, (tt, (tt, (h n.body.node, tt)))))) (λ n_update. (λ n. (refl, (tt, (tt, (h n_update.node, (h n.body.node, tt)))))))) (λ n_test. (for_statement_by_update _ (λ n. (refl, (tt, (h n_test.node, (tt, (h n.body.node, tt)))))) (λ n_update. (λ n. (refl, (tt, (h n_test.node, (h n_update.node, (h n.body.node, tt)))))))))) (λ n_init. (for_statement_by_test _ (for_statement_by_update _ (λ n. (refl, ((no_hole_changed _ _ _ n_init.value.declarations.items, (all_changed _ _ _ (variable_declarator_by_init _ (λ n. (refl, (h n.id.node, (tt, tt)))) (λ n_init. (λ n. (refl, (h n.id.node, (h n_init.node, tt)))))) n_init.value.declarations.items, tt)), (tt, (tt, (h n.body.node, tt)))))) (λ n_update. (λ n. (refl, ((no_hole_changed _ _ _ n_init.value.declarations.items, (all_changed _ _ _ (variable_declarator_by_init _ (λ n. (refl, (h n.id.node, (tt, tt)))) (λ n_init. (λ n. (refl, (h n.id.node, (h n_init.node, tt)))))) n_init.value.declarations.items, tt)), (tt, (h n_update.node, (h n.body.node, tt)))))))) (λ n_test. (for_statement_by_update _ (λ n. (refl, ((no_hole_changed _ _ _ n_init.value.declarations.items, (all_changed _ _ _ (variable_declarator_by_init _ (λ n. (refl, (h n.id.node, (tt, tt)))) (λ n_init. (λ n. (refl, (h n.id.node, (h n_init.node, tt)))))) n_init.value.declarations.items, tt)), (h n_test.node, (tt, (h n.body.node, tt)))))) (λ n_update. (λ n. (refl, ((no_hole_changed _ _ _ n_init.value.declarations.items, (all_changed _ _ _ (variable_declarator_by_init _ (λ n. (refl, (h n.id.node, (tt, tt)))) (λ n_init. (λ n. (refl, (h n.id.node, (h n_init.node, tt)))))) n_init.value.declarations.items, tt)), (h n_test.node, (h n_update.node, (h n.body.node, tt))))))))))) (λ n_init. (for_statement_by_test _ (for_statement_by_update _ (λ n. (refl, (h n_init.value.node, (tt, (tt, (h n.body.node, tt)))))) (λ n_update. (λ n. (refl, (h n_init.value.node, (tt, (h n_update.node, (h n.body.node, tt)))))))) (λ n_test. (for_statement_by_update _ (λ n. (refl, (h n_init.value.node, (h n_test.node, (tt, (h n.body.node, tt)))))) (λ n_update. (λ n. (refl, (h n_init.value.node, (h n_test.node, (h n_update.node, (h n.body.node, tt)))))))))))) b.value
-  statement_is_formed (statements.ForInStatement b) = (for_in_statement_by_left (λ n. IsFormed (layer (map-Node Node Tree node_plain (map-Node A Node f (opened.Statement (statements.ForInStatement (record b { value = n }))))))) (λ n_left. (λ n. (refl, ((no_hole_changed _ _ _ n_left.value.declarations.items, (all_changed _ _ _ (variable_declarator_by_init _ (λ n. (refl, (h n.id.node, (tt, tt)))) (λ n_init. (λ n. (refl, (h n.id.node, (h n_init.node, tt)))))) n_left.value.declarations.items, tt)), (h n.right.node, (h n.body.node, tt)))))) (λ n_left. (λ n. (refl, ((refl, tt), (h n.right.node, (h n.body.node, tt)))))) (λ n_left. (λ n. (refl, ((refl, (h n_left.value.object.node, ((refl, tt), tt))), (h n.right.node, (h n.body.node, tt)))))) (λ n_left. (λ n. (refl, ((refl, (h n_left.value.object.node, (h n_left.value.expression.node, tt))), (h n.right.node, (h n.body.node, tt))))))) b.value
-  statement_is_formed (statements.ForOfStatement b) = (for_of_statement_by_left (λ n. IsFormed (layer (map-Node Node Tree node_plain (map-Node A Node f (opened.Statement (statements.ForOfStatement (record b { value = n }))))))) (λ n_left. (λ n. (refl, ((no_hole_changed _ _ _ n_left.value.declarations.items, (all_changed _ _ _ (variable_declarator_by_init _ (λ n. (refl, (h n.id.node, (tt, tt)))) (λ n_init. (λ n. (refl, (h n.id.node, (h n_init.node, tt)))))) n_left.value.declarations.items, tt)), (h n.right.node, (h n.body.node, tt)))))) (λ n_left. (λ n. (refl, ((refl, tt), (h n.right.node, (h n.body.node, tt)))))) (λ n_left. (λ n. (refl, ((refl, (h n_left.value.object.node, ((refl, tt), tt))), (h n.right.node, (h n.body.node, tt)))))) (λ n_left. (λ n. (refl, ((refl, (h n_left.value.object.node, (h n_left.value.expression.node, tt))), (h n.right.node, (h n.body.node, tt))))))) b.value
+  statement_is_formed (statements.ForInStatement b) = (for_in_statement_by_left (λ n. IsFormed (layer (map-Node Node Tree node_plain (map-Node A Node f (opened.Statement (statements.ForInStatement (record b { value = n }))))))) (λ n_left. (λ n. (refl, ((no_hole_changed _ _ _ n_left.value.declarations.items, (all_changed _ _ _ (variable_declarator_by_init _ (λ n. (refl, (h n.id.node, (tt, tt)))) (λ n_init. (λ n. (refl, (h n.id.node, (h n_init.node, tt)))))) n_left.value.declarations.items, tt)), (h n.right.node, (h n.body.node, tt)))))) (λ n_left. (λ n. (refl, ((refl, tt), (h n.right.node, (h n.body.node, tt)))))) (λ n_left. (λ n. (refl, ((refl, (h n_left.value.object.node, ((refl, tt), tt))), (h n.right.node, (h n.body.node, tt)))))) (λ n_left. (λ n. (refl, ((refl, (h n_left.value.object.node, (h n_left.value.expression.node, tt))), (h n.right.node, (h n.body.node, tt)))))) (λ n_left. (λ n. (refl, ((refl, (h n_left.value.object.node, ((refl, tt), tt))), (h n.right.node, (h n.body.node, tt))))))) b.value
+  statement_is_formed (statements.ForOfStatement b) = (for_of_statement_by_left (λ n. IsFormed (layer (map-Node Node Tree node_plain (map-Node A Node f (opened.Statement (statements.ForOfStatement (record b { value = n }))))))) (λ n_left. (λ n. (refl, ((no_hole_changed _ _ _ n_left.value.declarations.items, (all_changed _ _ _ (variable_declarator_by_init _ (λ n. (refl, (h n.id.node, (tt, tt)))) (λ n_init. (λ n. (refl, (h n.id.node, (h n_init.node, tt)))))) n_left.value.declarations.items, tt)), (h n.right.node, (h n.body.node, tt)))))) (λ n_left. (λ n. (refl, ((refl, tt), (h n.right.node, (h n.body.node, tt)))))) (λ n_left. (λ n. (refl, ((refl, (h n_left.value.object.node, ((refl, tt), tt))), (h n.right.node, (h n.body.node, tt)))))) (λ n_left. (λ n. (refl, ((refl, (h n_left.value.object.node, (h n_left.value.expression.node, tt))), (h n.right.node, (h n.body.node, tt)))))) (λ n_left. (λ n. (refl, ((refl, (h n_left.value.object.node, ((refl, tt), tt))), (h n.right.node, (h n.body.node, tt))))))) b.value
   statement_is_formed (statements.WhileStatement b) = (refl, (h b.value.test.node, (h b.value.body.node, tt)))
   statement_is_formed (statements.DoWhileStatement b) = (refl, (h b.value.body.node, (h b.value.test.node, tt)))
   statement_is_formed (statements.LabeledStatement b) = (refl, ((refl, tt), (h b.value.body.node, tt)))
@@ -75,12 +81,18 @@ module _ {A : Type 0} (f : A → Node) (h : (a : A) → IsFormed (node_plain (f 
 
   binding_pattern_is_formed : (n : BindingPattern A) → IsFormed (layer (map-Node Node Tree node_plain (map-Node A Node f (opened.BindingPattern n))))
   binding_pattern_is_formed (binding_patterns.BindingIdentifier b) = (refl, tt)
-  binding_pattern_is_formed (binding_patterns.ObjectPattern b) = (object_pattern_by_rest (λ n. IsFormed (layer (map-Node Node Tree node_plain (map-Node A Node f (opened.BindingPattern (binding_patterns.ObjectPattern (record b { value = n }))))))) (λ n. (no_hole_changed _ _ _ n.properties.items, (all_changed _ _ _ (binding_property_by_key _ (λ n_key. (λ n. (refl, ((refl, tt), (h n.value.node, tt))))) (λ n_key. (λ n. (refl, (h n_key.value.node, (h n.value.node, tt)))))) n.properties.items, (tt, tt)))) (λ n_rest. (λ n. (no_hole_changed _ _ _ n.properties.items, (all_changed _ _ _ (binding_property_by_key _ (λ n_key. (λ n. (refl, ((refl, tt), (h n.value.node, tt))))) (λ n_key. (λ n. (refl, (h n_key.value.node, (h n.value.node, tt)))))) n.properties.items, ((refl, (h n_rest.value.argument.node, tt)), tt)))))) b.value
+  binding_pattern_is_formed (binding_patterns.ObjectPattern b) = (object_pattern_by_rest (λ n. IsFormed (layer (map-Node Node Tree node_plain (map-Node A Node f (opened.BindingPattern (binding_patterns.ObjectPattern (record b { value = n }))))))) (λ n. (no_hole_changed _ _ _ n.properties.items, (all_changed _ _ _ (binding_property_by_key _ (λ n_key. (λ n. (refl, ((refl, tt), (h n.value.node, tt))))) (λ n_key. (λ n. (refl, ((refl, tt), (h n.value.node, tt))))) (λ n_key. (λ n. (refl, (h n_key.value.node, (h n.value.node, tt)))))) n.properties.items, (tt, tt)))) (λ n_rest. (λ n. (no_hole_changed _ _ _ n.properties.items, (all_changed _ _ _ (binding_property_by_key _ (λ n_key. (λ n. (refl, ((refl, tt), (h n.value.node, tt))))) (λ n_key. (λ n. (refl, ((refl, tt), (h n.value.node, tt))))) (λ n_key. (λ n. (refl, (h n_key.value.node, (h n.value.node, tt)))))) n.properties.items, ((refl, (h n_rest.value.argument.node, tt)), tt)))))) b.value
   binding_pattern_is_formed (binding_patterns.ArrayPattern b) = (array_pattern_by_rest (λ n. IsFormed (layer (map-Node Node Tree node_plain (map-Node A Node f (opened.BindingPattern (binding_patterns.ArrayPattern (record b { value = n }))))))) (λ n. (refl, (all_changed_or_holes _ _ _ (with_hole _ tt (λ n. h n.node)) n.elements.items, (tt, tt)))) (λ n_rest. (λ n. (refl, (all_changed_or_holes _ _ _ (with_hole _ tt (λ n. h n.node)) n.elements.items, ((refl, (h n_rest.value.argument.node, tt)), tt)))))) b.value
   binding_pattern_is_formed (binding_patterns.AssignmentPattern b) = (refl, (h b.value.left.node, (h b.value.right.node, tt)))
+
+  class_element_is_formed : (n : ClassElement A) → IsFormed (layer (map-Node Node Tree node_plain (map-Node A Node f (opened.ClassElement n))))
+  class_element_is_formed (class_elements.StaticBlock b) = (no_hole_changed _ _ _ b.value.body.items, (all_changed _ _ _ (λ n. h n.node) b.value.body.items, tt))
+  class_element_is_formed (class_elements.MethodDefinition b) = (method_definition_by_key (λ n. IsFormed (layer (map-Node Node Tree node_plain (map-Node A Node f (opened.ClassElement (class_elements.MethodDefinition (record b { value = n }))))))) (λ n_key. (method_definition_by_value _ (boxed_function_by_params _ (boxed_formal_parameters_by_rest _ (λ n_value_params. (boxed_function_by_body _ (λ n_value. (λ n. (refl, ((refl, tt), ((refl, (if_given_formed _ (λ b. (refl, tt)) n_value.value.id, ((no_hole_changed _ _ _ n_value_params.value.items.items, (all_changed _ _ _ (formal_parameter_by_initializer _ (λ n. (refl, (h n.pattern.node, (tt, tt)))) (λ n_initializer. (λ n. (refl, (h n.pattern.node, (h n_initializer.node, tt)))))) n_value_params.value.items.items, (tt, tt))), (tt, tt)))), tt))))) (λ n_value_body. (λ n_value. (λ n. (refl, ((refl, tt), ((refl, (if_given_formed _ (λ b. (refl, tt)) n_value.value.id, ((no_hole_changed _ _ _ n_value_params.value.items.items, (all_changed _ _ _ (formal_parameter_by_initializer _ (λ n. (refl, (h n.pattern.node, (tt, tt)))) (λ n_initializer. (λ n. (refl, (h n.pattern.node, (h n_initializer.node, tt)))))) n_value_params.value.items.items, (tt, tt))), ((and_from _ _ (no_hole _ n_value_body.value.directives.items) (no_hole_changed _ _ _ n_value_body.value.statements.items), (all_formed _ (λ d. (refl, tt)) n_value_body.value.directives.items, (all_changed _ _ _ (λ n. h n.node) n_value_body.value.statements.items, tt))), tt)))), tt)))))))) (λ n_value_params_rest. (λ n_value_params. (boxed_function_by_body _ (λ n_value. (λ n. (refl, ((refl, tt), ((refl, (if_given_formed _ (λ b. (refl, tt)) n_value.value.id, ((no_hole_changed _ _ _ n_value_params.value.items.items, (all_changed _ _ _ (formal_parameter_by_initializer _ (λ n. (refl, (h n.pattern.node, (tt, tt)))) (λ n_initializer. (λ n. (refl, (h n.pattern.node, (h n_initializer.node, tt)))))) n_value_params.value.items.items, ((refl, (h n_value_params_rest.value.argument.node, tt)), tt))), (tt, tt)))), tt))))) (λ n_value_body. (λ n_value. (λ n. (refl, ((refl, tt), ((refl, (if_given_formed _ (λ b. (refl, tt)) n_value.value.id, ((no_hole_changed _ _ _ n_value_params.value.items.items, (all_changed _ _ _ (formal_parameter_by_initializer _ (λ n. (refl, (h n.pattern.node, (tt, tt)))) (λ n_initializer. (λ n. (refl, (h n.pattern.node, (h n_initializer.node, tt)))))) n_value_params.value.items.items, ((refl, (h n_value_params_rest.value.argument.node, tt)), tt))), ((and_from _ _ (no_hole _ n_value_body.value.directives.items) (no_hole_changed _ _ _ n_value_body.value.statements.items), (all_formed _ (λ d. (refl, tt)) n_value_body.value.directives.items, (all_changed _ _ _ (λ n. h n.node) n_value_body.value.statements.items, tt))), tt)))), tt))))))))))))) (λ n_key. (method_definition_by_value _ (boxed_function_by_params _ (boxed_formal_parameters_by_rest _ (λ n_value_params. (boxed_function_by_body _ (λ n_value. (λ n. (refl, ((refl, tt), ((refl, (if_given_formed _ (λ b. (refl, tt)) n_value.value.id, ((no_hole_changed _ _ _ n_value_params.value.items.items, (all_changed _ _ _ (formal_parameter_by_initializer _ (λ n. (refl, (h n.pattern.node, (tt, tt)))) (λ n_initializer. (λ n. (refl, (h n.pattern.node, (h n_initializer.node, tt)))))) n_value_params.value.items.items, (tt, tt))), (tt, tt)))), tt))))) (λ n_value_body. (λ n_value. (λ n. (refl, ((refl, tt), ((refl, (if_given_formed _ (λ b. (refl, tt)) n_value.value.id, ((no_hole_changed _ _ _ n_value_params.value.items.items, (all_changed _ _ _ (formal_parameter_by_initializer _ (λ n. (refl, (h n.pattern.node, (tt, tt)))) (λ n_initializer. (λ n. (refl, (h n.pattern.node, (h n_initializer.node, tt)))))) n_value_params.value.items.items, (tt, tt))), ((and_from _ _ (no_hole _ n_value_body.value.directives.items) (no_hole_changed _ _ _ n_value_body.value.statements.items), (all_formed _ (λ d. (refl, tt)) n_value_body.value.directives.items, (all_changed _ _ _ (λ n. h n.node) n_value_body.value.statements.items, tt))), tt)))), tt)))))))) (λ n_value_params_rest. (λ n_value_params. (boxed_function_by_body _ (λ n_value. (λ n. (refl, ((refl, tt), ((refl, (if_given_formed _ (λ b. (refl, tt)) n_value.value.id, ((no_hole_changed _ _ _ n_value_params.value.items.items, (all_changed _ _ _ (formal_parameter_by_initializer _ (λ n. (refl, (h n.pattern.node, (tt, tt)))) (λ n_initializer. (λ n. (refl, (h n.pattern.node, (h n_initializer.node, tt)))))) n_value_params.value.items.items, ((refl, (h n_value_params_rest.value.argument.node, tt)), tt))), (tt, tt)))), tt))))) (λ n_value_body. (λ n_value. (λ n. (refl, ((refl, tt), ((refl, (if_given_formed _ (λ b. (refl, tt)) n_value.value.id, ((no_hole_changed _ _ _ n_value_params.value.items.items, (all_changed _ _ _ (formal_parameter_by_initializer _ (λ n. (refl, (h n.pattern.node, (tt, tt)))) (λ n_initializer. (λ n. (refl, (h n.pattern.node, (h n_initializer.node, tt)))))) n_value_params.value.items.items, ((refl, (h n_value_params_rest.value.argument.node, tt)), tt))), ((and_from _ _ (no_hole _ n_value_body.value.directives.items) (no_hole_changed _ _ _ n_value_body.value.statements.items), (all_formed _ (λ d. (refl, tt)) n_value_body.value.directives.items, (all_changed _ _ _ (λ n. h n.node) n_value_body.value.statements.items, tt))), tt)))), tt))))))))))))) (λ n_key. (method_definition_by_value _ (boxed_function_by_params _ (boxed_formal_parameters_by_rest _ (λ n_value_params. (boxed_function_by_body _ (λ n_value. (λ n. (refl, (h n_key.value.node, ((refl, (if_given_formed _ (λ b. (refl, tt)) n_value.value.id, ((no_hole_changed _ _ _ n_value_params.value.items.items, (all_changed _ _ _ (formal_parameter_by_initializer _ (λ n. (refl, (h n.pattern.node, (tt, tt)))) (λ n_initializer. (λ n. (refl, (h n.pattern.node, (h n_initializer.node, tt)))))) n_value_params.value.items.items, (tt, tt))), (tt, tt)))), tt))))) (λ n_value_body. (λ n_value. (λ n. (refl, (h n_key.value.node, ((refl, (if_given_formed _ (λ b. (refl, tt)) n_value.value.id, ((no_hole_changed _ _ _ n_value_params.value.items.items, (all_changed _ _ _ (formal_parameter_by_initializer _ (λ n. (refl, (h n.pattern.node, (tt, tt)))) (λ n_initializer. (λ n. (refl, (h n.pattern.node, (h n_initializer.node, tt)))))) n_value_params.value.items.items, (tt, tt))), ((and_from _ _ (no_hole _ n_value_body.value.directives.items) (no_hole_changed _ _ _ n_value_body.value.statements.items), (all_formed _ (λ d. (refl, tt)) n_value_body.value.directives.items, (all_changed _ _ _ (λ n. h n.node) n_value_body.value.statements.items, tt))), tt)))), tt)))))))) (λ n_value_params_rest. (λ n_value_params. (boxed_function_by_body _ (λ n_value. (λ n. (refl, (h n_key.value.node, ((refl, (if_given_formed _ (λ b. (refl, tt)) n_value.value.id, ((no_hole_changed _ _ _ n_value_params.value.items.items, (all_changed _ _ _ (formal_parameter_by_initializer _ (λ n. (refl, (h n.pattern.node, (tt, tt)))) (λ n_initializer. (λ n. (refl, (h n.pattern.node, (h n_initializer.node, tt)))))) n_value_params.value.items.items, ((refl, (h n_value_params_rest.value.argument.node, tt)), tt))), (tt, tt)))), tt))))) (λ n_value_body. (λ n_value. (λ n. (refl, (h n_key.value.node, ((refl, (if_given_formed _ (λ b. (refl, tt)) n_value.value.id, ((no_hole_changed _ _ _ n_value_params.value.items.items, (all_changed _ _ _ (formal_parameter_by_initializer _ (λ n. (refl, (h n.pattern.node, (tt, tt)))) (λ n_initializer. (λ n. (refl, (h n.pattern.node, (h n_initializer.node, tt)))))) n_value_params.value.items.items, ((refl, (h n_value_params_rest.value.argument.node, tt)), tt))), ((and_from _ _ (no_hole _ n_value_body.value.directives.items) (no_hole_changed _ _ _ n_value_body.value.statements.items), (all_formed _ (λ d. (refl, tt)) n_value_body.value.directives.items, (all_changed _ _ _ (λ n. h n.node) n_value_body.value.statements.items, tt))), tt)))), tt)))))))))))))) b.value
+  class_element_is_formed (class_elements.PropertyDefinition b) = (property_definition_by_key (λ n. IsFormed (layer (map-Node Node Tree node_plain (map-Node A Node f (opened.ClassElement (class_elements.PropertyDefinition (record b { value = n }))))))) (λ n_key. (property_definition_by_value _ (λ n. (refl, ((refl, tt), (tt, tt)))) (λ n_value. (λ n. (refl, ((refl, tt), (h n_value.node, tt))))))) (λ n_key. (property_definition_by_value _ (λ n. (refl, ((refl, tt), (tt, tt)))) (λ n_value. (λ n. (refl, ((refl, tt), (h n_value.node, tt))))))) (λ n_key. (property_definition_by_value _ (λ n. (refl, (h n_key.value.node, (tt, tt)))) (λ n_value. (λ n. (refl, (h n_key.value.node, (h n_value.node, tt)))))))) b.value
 
   pub layer_is_formed : (y : Node-F A) → IsFormed (layer (map-Node Node Tree node_plain (map-Node A Node f y)))
   layer_is_formed (opened.Expression n) = expression_is_formed n
   layer_is_formed (opened.Declaration n) = declaration_is_formed n
   layer_is_formed (opened.Statement n) = statement_is_formed n
   layer_is_formed (opened.BindingPattern n) = binding_pattern_is_formed n
+  layer_is_formed (opened.ClassElement n) = class_element_is_formed n

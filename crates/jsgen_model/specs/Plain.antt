@@ -11,7 +11,7 @@ use Rattle.jsgen_tree.specs.declared.types.NodeType.{NodeType}
 use Rattle.jsgen_tree.specs.declared.types.NodeType.TheVariants as types
 use Rattle.jsgen_tree.specs.Table.{value_named}
 use Rattle.jsgen_tree.specs.Fields.{fields}
-use Rattle.jsgen_tree.specs.Values.{as_flag, program_kind, directive_directive, numeric_literal_kind, numeric_literal_digits, string_literal_value, variable_declaration_declare, variable_declarator_definite, for_of_statement_is_await, function_is_async, function_generator, function_declare, formal_parameter_is_override, formal_parameter_readonly, formal_parameter_optional, arrow_function_expression_is_async}
+use Rattle.jsgen_tree.specs.Values.{as_flag, program_kind, directive_directive, numeric_literal_kind, numeric_literal_digits, string_literal_value, variable_declaration_declare, variable_declarator_definite, for_of_statement_is_await, function_is_async, function_generator, function_declare, formal_parameter_is_override, formal_parameter_readonly, formal_parameter_optional, arrow_function_expression_is_async, class_declare, class_is_abstract, method_definition_is_override, method_definition_is_abstract, method_definition_optional, property_definition_declare, property_definition_is_abstract, property_definition_is_override, property_definition_readonly, property_definition_optional, property_definition_definite}
 use Rattle.jsgen_tree.specs.Everywhere.{Everywhere}
 use Rattle.jsgen_tree.specs.Options.{Comments, is_none}
 use Rattle.jsgen_tree.specs.Job.{JobData}
@@ -28,6 +28,14 @@ is_plain_type types.BindingProperty = false
 is_plain_type types.BindingRestElement = false
 is_plain_type types.ArrayPattern = false
 is_plain_type types.AssignmentPattern = false
+is_plain_type types.PrivateIdentifier = false
+is_plain_type types.PrivateFieldExpression = false
+is_plain_type types.PrivateInExpression = false
+is_plain_type types.Class = false
+is_plain_type types.ClassBody = false
+is_plain_type types.StaticBlock = false
+is_plain_type types.MethodDefinition = false
+is_plain_type types.PropertyDefinition = false
 -- end of what is generated: types
 is_plain_type type = true
 
@@ -40,6 +48,9 @@ has_plain_flags types.FormalParameter a = not (formal_parameter_is_override a) &
 has_plain_flags types.Function a = not (function_is_async a) && not (function_generator a) && not (function_declare a)
 has_plain_flags types.ArrowFunctionExpression a = not (arrow_function_expression_is_async a)
 has_plain_flags types.ForOfStatement a = not (for_of_statement_is_await a)
+has_plain_flags types.Class a = not (class_declare a) && not (class_is_abstract a)
+has_plain_flags types.MethodDefinition a = not (method_definition_is_override a) && not (method_definition_is_abstract a) && not (method_definition_optional a)
+has_plain_flags types.PropertyDefinition a = not (property_definition_declare a) && not (property_definition_is_abstract a) && not (property_definition_is_override a) && not (property_definition_readonly a) && not (property_definition_optional a) && not (property_definition_definite a)
 -- end of what is generated: flags
 has_plain_flags type a = true
 
@@ -136,6 +147,14 @@ is_formed (tree.binding_property a key value) = true
 is_formed (tree.binding_rest_element a argument) = true
 is_formed (tree.array_pattern a elements rest) = true
 is_formed (tree.assignment_pattern a left right) = true
+is_formed (tree.private_identifier a) = true
+is_formed (tree.private_member a object field) = true
+is_formed (tree.private_in a left right) = true
+is_formed (tree.class a id heritage body) = true
+is_formed (tree.class_body a body) = has_no_hole body
+is_formed (tree.static_block a body) = has_no_hole body
+is_formed (tree.method_definition a key value) = true
+is_formed (tree.property_definition a key value) = true
 -- end of what is generated: formed
 is_formed t = false
 

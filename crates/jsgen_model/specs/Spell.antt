@@ -7,7 +7,7 @@ use Rattle.jsgen_syntax.specs.declared.precedence.Precedence.TheVariants.{Lowest
 use Rattle.jsgen_place.specs.declared.place.Place.{Place}
 use Rattle.jsgen_place.specs.declared.shape.Shape.{Shape}
 use Rattle.jsgen_place.specs.declared.shape.Shape.TheVariants as shapes
-use Rattle.jsgen_place.specs.Place.{child, left_operand, in_brackets, loop_head, among_statements, within_statement, with_calls, quoted_plainly, linked, called, constructed, within, wraps, binary_wraps, logical_wraps, call_wraps, chain_wraps, chain_place, arrow_wraps, update_level}
+use Rattle.jsgen_place.specs.Place.{child, left_operand, in_brackets, loop_head, among_statements, within_statement, member, behind_private, with_calls, quoted_plainly, linked, called, constructed, within, wraps, binary_wraps, logical_wraps, call_wraps, chain_wraps, chain_place, arrow_wraps, update_level}
 use Rattle.jsgen_syntax.specs.declared.operator.BinaryOperator.{BinaryOperator}
 use Rattle.jsgen_syntax.specs.declared.operator.BinaryOperator.TheVariants as operators
 use Rattle.jsgen_syntax.specs.declared.operator.LogicalOperator.{LogicalOperator}
@@ -16,6 +16,10 @@ use Rattle.jsgen_tree.specs.declared.collections.PropertyKind.{PropertyKind}
 use Rattle.jsgen_tree.specs.declared.collections.PropertyKind.TheVariants as property_kinds
 use Rattle.jsgen_tree.specs.declared.functions.FunctionKind.{FunctionKind}
 use Rattle.jsgen_tree.specs.declared.functions.FunctionKind.TheVariants as function_kinds
+use Rattle.jsgen_tree.specs.declared.classes.ClassKind.{ClassKind}
+use Rattle.jsgen_tree.specs.declared.classes.ClassKind.TheVariants as class_kinds
+use Rattle.jsgen_tree.specs.declared.classes.MethodDefinitionKind.{MethodDefinitionKind}
+use Rattle.jsgen_tree.specs.declared.classes.MethodDefinitionKind.TheVariants as method_kinds
 use Rattle.jsgen_tree.specs.declared.types.NodeType.{NodeType}
 use Rattle.jsgen_tree.specs.declared.types.NodeType.TheVariants as types
 use Rattle.jsgen_tree.specs.Named.{Named, as_written}
@@ -23,13 +27,13 @@ use Rattle.jsgen_tree.specs.Inside.{without_parentheses, ends_open, reference_na
 use Rattle.jsgen_tree.specs.Words.{declaration_word}
 use Rattle.jsgen_tree.specs.Number.{NumericKind, Whole, Raw}
 use Rattle.jsgen_tree.specs.Tree.{Tree, Maybe, absent, given, Trees, no_trees, more, hole, Atoms, type_of}
-use Rattle.jsgen_tree.specs.Values.{as_text, directive_directive, variable_declaration_kind, identifier_name_name, label_identifier_name, boolean_literal_value, numeric_literal_kind, numeric_literal_negative, numeric_literal_digits, numeric_literal_text, big_int_literal_value, string_literal_value, binary_expression_operator, logical_expression_operator, unary_expression_operator, update_expression_operator, update_expression_prefix, object_property_kind, object_property_method, object_property_shorthand, object_property_computed, function_kind, function_pife, assignment_expression_operator, static_member_expression_optional, computed_member_expression_optional, call_expression_optional, arrow_function_expression_pife, binding_property_computed}
+use Rattle.jsgen_tree.specs.Values.{as_text, directive_directive, variable_declaration_kind, identifier_name_name, label_identifier_name, boolean_literal_value, numeric_literal_kind, numeric_literal_negative, numeric_literal_digits, numeric_literal_text, big_int_literal_value, string_literal_value, binary_expression_operator, logical_expression_operator, unary_expression_operator, update_expression_operator, update_expression_prefix, object_property_kind, object_property_method, object_property_shorthand, object_property_computed, function_kind, function_pife, assignment_expression_operator, static_member_expression_optional, computed_member_expression_optional, call_expression_optional, arrow_function_expression_pife, binding_property_computed, private_identifier_name, private_field_expression_optional, class_kind, method_definition_kind, method_definition_computed, method_definition_is_static, property_definition_computed, property_definition_is_static}
 use Rattle.jsgen_tree.specs.Job.{JobData}
 use Rattle.jsgen_tree.specs.Nodes as tree
 use Rattle.jsgen_model.specs.Numbers.{takes_no_dot}
 use Rattle.jsgen_model.specs.Punctuator.{ellipsis, comma, semicolon, equal, minus, Round, Square, Brace, colon, question, question_dot, arrow}
 use Rattle.jsgen_model.specs.Quotes.{is_require_call, is_definition_call, is_key_of_exports, is_export_mark}
-use Rattle.jsgen_model.specs.Items.{Items, nothing, ◌⊕◌, word, name, number, string, first_string, directive, punctuator, operator, member_dot, brackets, soft_space, soft_line, hard_space, body_space, deeper, indentation, wrapped, wrapped_at_start, a_brace, a_declaration, parentheses_unless_minified, where_same, statement_end, due_semicolon, drop_semicolon, statement_begins, arrow_body_begins}
+use Rattle.jsgen_model.specs.Items.{Items, nothing, ◌⊕◌, word, name, private_name, number, string, first_string, directive, punctuator, operator, member_dot, brackets, soft_space, soft_line, hard_space, body_space, deeper, in_class, indentation, wrapped, wrapped_at_start, a_brace, a_declaration, parentheses_unless_minified, where_same, statement_end, due_semicolon, drop_semicolon, statement_begins, arrow_body_begins}
 use Rattle.jsgen_model.specs.Layout.{layout, empty_pen, style_of}
 use Rattle.jsgen_model.specs.Operators.{operator_item, logical_item, unary_sign, behind_unary, update_item, assignment_item}
 -- generated from tools/nodes/table.txt: names
@@ -372,6 +376,32 @@ comma_between no_trees rest = nothing
 comma_between items absent = nothing
 comma_between items (given rest) = punctuator comma ⊕ soft_space
 
+-- ---- classes
+
+-- a declaration among statements is a line of its own, and is never in parentheses; an expression is, where a statement or a default
+-- export begins with it. The number is where it begins
+abbrev pub class_items : ClassKind → Place → ℕ → Items → Items
+class_items class_kinds.Declaration place start items = items_if place.in_list (comments all_of_them start) ⊕ block_items place.in_list items
+class_items class_kinds.Expression place start items = wrapped_at_start false a_declaration items
+
+-- what ends a member of a class among others: a field, whose semicolon is left to what follows, and any other
+abbrev pub element_end : NodeType → Items
+element_end types.PropertyDefinition = statement_end
+element_end type = soft_line
+
+-- among others a member is a line of its own
+abbrev pub element_items : Bool → ℕ → Items → Items → Items
+element_items in_list start items end = items_if in_list (comments all_of_them start ⊕ indentation) ⊕ (items ⊕ items_if in_list end)
+
+-- a word before a key
+abbrev pub key_word : List ℕ → Items
+key_word w = word w ⊕ soft_space
+
+abbrev pub method_kind_word : MethodDefinitionKind → Items
+method_kind_word method_kinds.Get = key_word (codes "get")
+method_kind_word method_kinds.Set = key_word (codes "set")
+method_kind_word kind = nothing
+
 -- ---- the whole
 
 abbrev mutual
@@ -461,6 +491,23 @@ abbrev mutual
       ⊕ spell value (child Lowest place)
   spell (tree.array_pattern a elements rest) place =
       mark a.span ⊕ brackets Square (spell_elements false elements (child Lowest place) ⊕ behind_elements elements rest (spell_if_given rest (child Lowest place)))
+  spell (tree.private_identifier a) place = private_name a.span (private_identifier_name a)
+  spell (tree.private_member a object field) place = spell object (linked place) ⊕ (name_link (private_field_expression_optional a) ⊕ spell field (child Lowest place))
+  spell (tree.private_in a left right) place =
+      wrapped (binary_wraps operators.In place) (mark a.span ⊕ (spell left (child Lowest place) ⊕ (hard_space ⊕ (word (codes "in") ⊕ (hard_space ⊕ spell right behind_private)))))
+  spell (tree.class a id heritage body) place =
+      class_items (class_kind a) place a.span.start (marked_word a.span (codes "class") ⊕ (spell_behind_word id (child Lowest place)
+      ⊕ (spell_heritage heritage ⊕ (soft_space ⊕ spell body (with_calls (child Lowest place))))))
+  -- what a class is made of has its private names; what it extends hasn't (ECMA-262, 15.7)
+  spell (tree.class_body a body) place = mark a.span ⊕ in_class (braces body (spell_elements_of_class body (member place)))
+  spell (tree.static_block a body) place =
+      element_items place.in_list a.span.start (mark a.span ⊕ (key_word (codes "static") ⊕ braces body (spell_statements body))) soft_line
+  spell (tree.method_definition a key value) place =
+      element_items place.in_list a.span.start (mark a.span ⊕ (items_if (method_definition_is_static a) (key_word (codes "static")) ⊕ (method_kind_word (method_definition_kind a)
+      ⊕ (key_items (method_definition_computed a) key (spell key (in_brackets Comma)) ⊕ spell_method value place)))) soft_line
+  spell (tree.property_definition a key value) place =
+      element_items place.in_list a.span.start (mark a.span ⊕ (items_if (property_definition_is_static a) (key_word (codes "static"))
+      ⊕ (key_items (property_definition_computed a) key (spell key (in_brackets Comma)) ⊕ spell_value value (in_brackets Comma)))) statement_end
   -- generated from tools/nodes/table.txt: clauses
   spell (tree.variable_declaration a declarations) place =
       as_statement place.in_list (mark a.span ⊕ (word (declaration_word (variable_declaration_kind a)) ⊕ (soft_space
@@ -538,6 +585,22 @@ abbrev mutual
   spell_statements no_trees = nothing
   spell_statements (more t ts) = due_semicolon ⊕ (spell t among_statements ⊕ spell_statements ts)
   spell_statements (hole ts) = spell_statements ts
+
+  -- the members of a class, each after the semicolon that the one before may have left
+  pub spell_elements_of_class : Trees → Place → Items
+  spell_elements_of_class no_trees place = nothing
+  spell_elements_of_class (more t ts) place = due_semicolon ⊕ (spell t place ⊕ spell_elements_of_class ts place)
+  spell_elements_of_class (hole ts) place = spell_elements_of_class ts place
+
+  -- what a class extends
+  pub spell_heritage : Maybe → Items
+  spell_heritage absent = nothing
+  spell_heritage (given t) = soft_space ⊕ (word (codes "extends") ⊕ (hard_space ⊕ spell t (in_brackets Postfix)))
+
+  -- behind a space that minified text keeps
+  pub spell_behind_word : Maybe → Place → Items
+  spell_behind_word absent place = nothing
+  spell_behind_word (given t) place = hard_space ⊕ spell t place
 
   -- a list with commas
   pub spell_list : Trees → Place → Items

@@ -15,6 +15,10 @@ use Rattle.jsgen_tree.specs.declared.collections.PropertyKind.{PropertyKind}
 use Rattle.jsgen_tree.specs.declared.collections.PropertyKind.TheVariants as property_kinds
 use Rattle.jsgen_tree.specs.declared.functions.FunctionKind.{FunctionKind}
 use Rattle.jsgen_tree.specs.declared.functions.FunctionKind.TheVariants as function_kinds
+use Rattle.jsgen_tree.specs.declared.classes.ClassKind.{ClassKind}
+use Rattle.jsgen_tree.specs.declared.classes.ClassKind.TheVariants as class_kinds
+use Rattle.jsgen_tree.specs.declared.classes.MethodDefinitionKind.{MethodDefinitionKind}
+use Rattle.jsgen_tree.specs.declared.classes.MethodDefinitionKind.TheVariants as method_kinds
 use Rattle.jsgen_tree.specs.declared.statements.VariableDeclarationKind.{VariableDeclarationKind}
 use Rattle.jsgen_tree.specs.declared.statements.VariableDeclarationKind.TheVariants as kinds
 use Rattle.jsgen_tree.specs.Options.{Options}
@@ -24,13 +28,14 @@ use Rattle.jsgen_tree.specs.Table.{child_sets}
 use Rattle.jsgen_tree.specs.Fields.{fields}
 use Rattle.jsgen_tree.specs.Sets.{in_set, is_expression}
 use Rattle.jsgen_tree.specs.Number.{NumericKind, Whole, Raw}
-use Rattle.jsgen_tree.specs.Inside.{without_parentheses, looked_up_in, reference_named, binding_named, declared_kind, function_in, written_name_in, is_proto, is_method, is_negative_number, is_negative_big_integer, has_optional_link}
+use Rattle.jsgen_tree.specs.Inside.{without_parentheses, looked_up_in, reference_named, binding_named, declared_kind, function_in, class_kind_in, written_name_in, is_proto, is_method, is_negative_number, is_negative_big_integer, has_optional_link}
 use Rattle.jsgen_tree.specs.Tree.{Tree, node, Slots, no_slots, one, maybe, many, maybe_many, Maybe, absent, given, Trees, no_trees, more, hole, MaybeTrees, no_list, listed, type_of, span_of}
 use Rattle.jsgen_tree.specs.Nodes as tree
-use Rattle.jsgen_tree.specs.Values.{as_text, program_source, comment_kind, directive_directive, identifier_name_name, label_identifier_name, numeric_literal_kind, numeric_literal_text, big_int_literal_value, reg_exp_literal_pattern, reg_exp_literal_flags, object_property_kind, object_property_method, object_property_shorthand, object_property_computed, function_kind, static_member_expression_optional, computed_member_expression_optional, call_expression_optional, binding_property_computed}
+use Rattle.jsgen_tree.specs.Values.{as_text, program_source, comment_kind, directive_directive, identifier_name_name, label_identifier_name, numeric_literal_kind, numeric_literal_text, big_int_literal_value, reg_exp_literal_pattern, reg_exp_literal_flags, object_property_kind, object_property_method, object_property_shorthand, object_property_computed, function_kind, static_member_expression_optional, computed_member_expression_optional, call_expression_optional, binding_property_computed, private_identifier_name, class_kind, method_definition_kind, method_definition_computed, property_definition_computed}
 use Rattle.jsgen_model.specs.Numbers.{is_raw_number, is_big_integer}
 use Rattle.jsgen_model.specs.RegularExpressions.{is_body, are_flags}
 use Rattle.jsgen_model.specs.Tokens.{has_line_end}
+use Rattle.jsgen_model.specs.Private.{name_in}
 use Rattle.jsgen_model.specs.declared.fault.TreeFault.{TreeFault}
 use Rattle.jsgen_model.specs.declared.fault.TreeFault.TheVariants as faults
 
@@ -59,11 +64,14 @@ asked_sets types.ComputedMemberExpression = linked (child_sets (fields types.Com
 asked_sets types.CallExpression = linked (child_sets (fields types.CallExpression))
 asked_sets types.BindingProperty = sets.PropertyKey ∷ sets.BindingElement ∷ []
 asked_sets types.ArrayPattern = sets.BindingElement ∷ sets.BindingRestElement ∷ []
+asked_sets types.PrivateFieldExpression = linked (child_sets (fields types.PrivateFieldExpression))
 asked_sets type = child_sets (fields type)
 
--- what surrounds the children of a node: what surrounds it, but that of a function's body, where `return` may stand (ECMA-262, 15.2)
+-- what surrounds the children of a node: what surrounds it, but of a function's body, where `return` may stand (ECMA-262, 15.2), and of a
+-- static block, where it may not (15.7)
 abbrev pub around_children : Surroundings → NodeType → Surroundings
 around_children around types.FunctionBody = record around { in_function = true }
+around_children around types.StaticBlock = record around { in_function = false }
 around_children around type = around
 
 -- the places of a node's children, field by field
@@ -152,7 +160,7 @@ is_lexical_word kinds.Var = false
 is_lexical_word kind = true
 
 abbrev pub is_declaration : Tree → Bool
-is_declaration t = option_map_or is_lexical_word (declared_kind t) (is_some (function_in t))
+is_declaration t = option_map_or is_lexical_word (declared_kind t) (is_some (function_in t) || is_some (class_kind_in t))
 
 abbrev pub body_faults : Tree → List TreeFault
 body_faults t = fault_if (is_declaration t) (faults.Place (span_of t).start)
@@ -222,6 +230,44 @@ may_be_key false key = is_literal_key (type_of key) && not (is_negative_big_inte
 
 abbrev pub key_faults : Bool → Tree → List TreeFault
 key_faults computed key = fault_if (not (may_be_key computed key)) (faults.Place (span_of key).start)
+
+-- A key of a class's member may be a private name too, and is no negative number, where it isn't computed (ECMA-262, 15.7)
+abbrev pub is_private : NodeType → Bool
+is_private types.PrivateIdentifier = true
+is_private type = false
+
+abbrev pub may_be_member_key : Bool → Tree → Bool
+may_be_member_key true key = is_expression (type_of key)
+may_be_member_key false key = is_private (type_of key) || (may_be_key false key && not (is_negative_number key))
+
+abbrev pub member_key_faults : Bool → Tree → List TreeFault
+member_key_faults computed key = fault_if (not (may_be_member_key computed key)) (faults.Place (span_of key).start)
+
+-- what a method of a class asks of its parameters: what one of an object does
+abbrev pub as_property : MethodDefinitionKind → PropertyKind
+as_property method_kinds.Get = property_kinds.Get
+as_property method_kinds.Set = property_kinds.Set
+as_property kind = property_kinds.Init
+
+abbrev pub class_method_faults : MethodDefinitionKind → Tree → List TreeFault
+class_method_faults kind value = fault_if (not (fits_method (as_property kind) value)) (faults.Place (span_of value).start)
+
+-- a class that is declared has a name (ECMA-262, 15.7)
+abbrev pub class_faults : Span → ClassKind → Maybe → List TreeFault
+class_faults s class_kinds.Declaration absent = faults.Place s.start ∷ []
+class_faults s kind id = []
+
+-- the new name that a class's table gives the name, if it gives one, is a name
+abbrev pub renames_well : List ℕ → List (List ℕ × List ℕ) → Bool
+renames_well w table = option_map_or spells_name (name_in table w) true
+
+abbrev pub all_rename_well : List ℕ → List (List (List ℕ × List ℕ)) → Bool
+all_rename_well w [] = true
+all_rename_well w (table ∷ tables) = renames_well w table && all_rename_well w tables
+
+-- A private name is a name, and so is each new one that the table of a class gives it, be it a class that is round it or not
+abbrev pub private_name_faults : Tables → Span → List ℕ → List TreeFault
+private_name_faults tables s w = fault_if (not (spells_name w && option_map_or (all_rename_well w) tables.private true)) (faults.Name s.start)
 
 -- the value of a property `__proto__` that it alone says is a reference that is printed so
 abbrev pub named_faults : Tables → Span → Option Named → List TreeFault
@@ -391,6 +437,12 @@ own_faults around (tree.assignment a left right) = target_faults left
 own_faults around (tree.object_property a key value) = key_faults (object_property_computed a) key
     ++ (if is_method (object_property_kind a) (object_property_method a) then method_faults (object_property_kind a) (object_property_computed a) key value else shorthand_faults around.tables (object_property_shorthand a) key value)
 own_faults around (tree.function a id params body) = function_faults a.span (function_kind a) id body
+own_faults around (tree.private_identifier a) = private_name_faults around.tables a.span (private_identifier_name a)
+-- `super` has no private member (ECMA-262, 13.3.5)
+own_faults around (tree.private_member a object field) = super_faults true object
+own_faults around (tree.class a id heritage body) = class_faults a.span (class_kind a) id
+own_faults around (tree.method_definition a key value) = member_key_faults (method_definition_computed a) key ++ class_method_faults (method_definition_kind a) value
+own_faults around (tree.property_definition a key value) = member_key_faults (property_definition_computed a) key
 own_faults around (tree.return_statement a argument) = return_faults around.in_function a.span
 own_faults around (tree.sequence a expressions) = sequence_faults a.span expressions
 own_faults around (tree.object_pattern a properties rest) = rest_faults rest
@@ -429,7 +481,7 @@ takes_optional_link set = false
 abbrev pub link_faults : NodeSet → Tree → List TreeFault
 link_faults set t = fault_if (not (takes_optional_link set) && has_optional_link t) (faults.Place (span_of t).start)
 
--- a function is a declaration where it stands among statements, and an expression everywhere else
+-- a function or a class is a declaration where it stands among statements, and an expression everywhere else
 abbrev pub stands_among : NodeSet → FunctionKind
 stands_among sets.Statement = function_kinds.Declaration
 stands_among set = function_kinds.Expression
@@ -443,12 +495,17 @@ abbrev pub is_among_statements : NodeSet → Bool
 is_among_statements sets.Statement = true
 is_among_statements set = false
 
+abbrev pub as_function_kind : ClassKind → FunctionKind
+as_function_kind class_kinds.Declaration = function_kinds.Declaration
+as_function_kind class_kinds.Expression = function_kinds.Expression
+
 abbrev pub fits_kind : NodeSet → Tree → Bool
 fits_kind set (tree.function a id params body) = same_kind (function_kind a) (stands_among set)
+fits_kind set (tree.class a id heritage body) = same_kind (as_function_kind (class_kind a)) (stands_among set)
 fits_kind set (tree.variable_declaration a declarations) = not (is_among_statements set && any_lacks_value declarations)
 fits_kind set t = true
 
--- a child is of the set that its field asks for, and `super`, defaults, optional links, functions and declarations only where they may be
+-- a child is of the set that its field asks for, and `super`, defaults, optional links, functions, classes and declarations only where they may be
 abbrev pub set_faults : NodeSet → Tree → List TreeFault
 set_faults set t = fault_if (not (may_stand set (type_of t) && fits_kind set t)) (faults.Place (span_of t).start) ++ link_faults set t
 

@@ -21,6 +21,7 @@ no_expression_method n place no_function = refl
 pub no_declaration_method : (n : Declaration Node) (place : Place) → IsNot n declarations.Function → nothing ≡ spell_method (declaration_plain node_plain n) place
 no_declaration_method (declarations.VariableDeclaration b) place no_function = refl
 no_declaration_method (declarations.Function b) place no_function = absurd (no_function b refl)
+no_declaration_method (declarations.Class b) place no_function = refl
 
 pub no_statement_method : (n : Statement Node) (place : Place) → IsNot n statements.Declaration → nothing ≡ spell_method (statement_plain node_plain n) place
 no_statement_method (statements.Declaration b) place no_declaration = absurd (no_declaration b refl)

@@ -105,7 +105,7 @@ expression_past_3 (expressions.SequenceExpression b) later no_0 no_1 no_2 = absu
 expression_past_3 (expressions.AssignmentExpression b) later no_0 no_1 no_2 = absurd (no_2 b refl)
 expression_past_3 n later no_0 no_1 no_2 = refl
 
-pub expression_past_4 : {N : Type 0} (n : Expression N) → nat_le 4 (expression_part n) ≡ true → IsNot n expressions.Function → IsNot n expressions.ArrowFunctionExpression → ⊥
+pub expression_past_4 : {N : Type 0} (n : Expression N) → nat_le 4 (expression_part n) ≡ true → IsNot n expressions.Function → IsNot n expressions.ArrowFunctionExpression → nat_le 5 (expression_part n) ≡ true
 expression_past_4 (expressions.IdentifierReference b) later no_0 no_1 = let no : false ≡ true = later in cc
 expression_past_4 (expressions.ThisExpression b) later no_0 no_1 = let no : false ≡ true = later in cc
 expression_past_4 (expressions.NullLiteral b) later no_0 no_1 = let no : false ≡ true = later in cc
@@ -134,14 +134,54 @@ expression_past_4 (expressions.SequenceExpression b) later no_0 no_1 = let no : 
 expression_past_4 (expressions.AssignmentExpression b) later no_0 no_1 = let no : false ≡ true = later in cc
 expression_past_4 (expressions.Function b) later no_0 no_1 = absurd (no_0 b refl)
 expression_past_4 (expressions.ArrowFunctionExpression b) later no_0 no_1 = absurd (no_1 b refl)
+expression_past_4 n later no_0 no_1 = refl
+
+pub expression_past_5 : {N : Type 0} (n : Expression N) → nat_le 5 (expression_part n) ≡ true → IsNot n expressions.PrivateFieldExpression → IsNot n expressions.PrivateInExpression → IsNot n expressions.Class → ⊥
+expression_past_5 (expressions.IdentifierReference b) later no_0 no_1 no_2 = let no : false ≡ true = later in cc
+expression_past_5 (expressions.ThisExpression b) later no_0 no_1 no_2 = let no : false ≡ true = later in cc
+expression_past_5 (expressions.NullLiteral b) later no_0 no_1 no_2 = let no : false ≡ true = later in cc
+expression_past_5 (expressions.BooleanLiteral b) later no_0 no_1 no_2 = let no : false ≡ true = later in cc
+expression_past_5 (expressions.NumericLiteral b) later no_0 no_1 no_2 = let no : false ≡ true = later in cc
+expression_past_5 (expressions.BigIntLiteral b) later no_0 no_1 no_2 = let no : false ≡ true = later in cc
+expression_past_5 (expressions.StringLiteral b) later no_0 no_1 no_2 = let no : false ≡ true = later in cc
+expression_past_5 (expressions.RegExpLiteral b) later no_0 no_1 no_2 = let no : false ≡ true = later in cc
+expression_past_5 (expressions.ParenthesizedExpression b) later no_0 no_1 no_2 = let no : false ≡ true = later in cc
+expression_past_5 (expressions.BinaryExpression b) later no_0 no_1 no_2 = let no : false ≡ true = later in cc
+expression_past_5 (expressions.LogicalExpression b) later no_0 no_1 no_2 = let no : false ≡ true = later in cc
+expression_past_5 (expressions.StaticMemberExpression b) later no_0 no_1 no_2 = let no : false ≡ true = later in cc
+expression_past_5 (expressions.ComputedMemberExpression b) later no_0 no_1 no_2 = let no : false ≡ true = later in cc
+expression_past_5 (expressions.CallExpression b) later no_0 no_1 no_2 = let no : false ≡ true = later in cc
+expression_past_5 (expressions.ChainExpression b) later no_0 no_1 no_2 = let no : false ≡ true = later in cc
+expression_past_5 (expressions.ArrayExpression b) later no_0 no_1 no_2 = let no : false ≡ true = later in cc
+expression_past_5 (expressions.ObjectExpression b) later no_0 no_1 no_2 = let no : false ≡ true = later in cc
+expression_past_5 (expressions.UnaryExpression b) later no_0 no_1 no_2 = let no : false ≡ true = later in cc
+expression_past_5 (expressions.NewTarget b) later no_0 no_1 no_2 = let no : false ≡ true = later in cc
+expression_past_5 (expressions.UpdateExpression b) later no_0 no_1 no_2 = let no : false ≡ true = later in cc
+expression_past_5 (expressions.NewExpression b) later no_0 no_1 no_2 = let no : false ≡ true = later in cc
+expression_past_5 (expressions.Super b) later no_0 no_1 no_2 = let no : false ≡ true = later in cc
+expression_past_5 (expressions.ImportMeta b) later no_0 no_1 no_2 = let no : false ≡ true = later in cc
+expression_past_5 (expressions.ConditionalExpression b) later no_0 no_1 no_2 = let no : false ≡ true = later in cc
+expression_past_5 (expressions.SequenceExpression b) later no_0 no_1 no_2 = let no : false ≡ true = later in cc
+expression_past_5 (expressions.AssignmentExpression b) later no_0 no_1 no_2 = let no : false ≡ true = later in cc
+expression_past_5 (expressions.Function b) later no_0 no_1 no_2 = let no : false ≡ true = later in cc
+expression_past_5 (expressions.ArrowFunctionExpression b) later no_0 no_1 no_2 = let no : false ≡ true = later in cc
+expression_past_5 (expressions.PrivateFieldExpression b) later no_0 no_1 no_2 = absurd (no_0 b refl)
+expression_past_5 (expressions.PrivateInExpression b) later no_0 no_1 no_2 = absurd (no_1 b refl)
+expression_past_5 (expressions.Class b) later no_0 no_1 no_2 = absurd (no_2 b refl)
 
 pub declaration_past_0 : {N : Type 0} (n : Declaration N) → IsNot n declarations.VariableDeclaration → nat_le 1 (declaration_part n) ≡ true
 declaration_past_0 (declarations.VariableDeclaration b) no_0 = absurd (no_0 b refl)
 declaration_past_0 n no_0 = refl
 
-pub declaration_past_1 : {N : Type 0} (n : Declaration N) → nat_le 1 (declaration_part n) ≡ true → IsNot n declarations.Function → ⊥
+pub declaration_past_1 : {N : Type 0} (n : Declaration N) → nat_le 1 (declaration_part n) ≡ true → IsNot n declarations.Function → nat_le 2 (declaration_part n) ≡ true
 declaration_past_1 (declarations.VariableDeclaration b) later no_0 = let no : false ≡ true = later in cc
 declaration_past_1 (declarations.Function b) later no_0 = absurd (no_0 b refl)
+declaration_past_1 n later no_0 = refl
+
+pub declaration_past_2 : {N : Type 0} (n : Declaration N) → nat_le 2 (declaration_part n) ≡ true → IsNot n declarations.Class → ⊥
+declaration_past_2 (declarations.VariableDeclaration b) later no_0 = let no : false ≡ true = later in cc
+declaration_past_2 (declarations.Function b) later no_0 = let no : false ≡ true = later in cc
+declaration_past_2 (declarations.Class b) later no_0 = absurd (no_0 b refl)
 
 pub statement_past_0 : {N : Type 0} (n : Statement N) → IsNot n statements.Declaration → nat_le 1 (statement_part n) ≡ true
 statement_past_0 (statements.Declaration b) no_0 = absurd (no_0 b refl)

@@ -39,10 +39,14 @@ expression_part (expression.SequenceExpression b) = 3
 expression_part (expression.AssignmentExpression b) = 3
 expression_part (expression.Function b) = 4
 expression_part (expression.ArrowFunctionExpression b) = 4
+expression_part (expression.PrivateFieldExpression b) = 5
+expression_part (expression.PrivateInExpression b) = 5
+expression_part (expression.Class b) = 5
 
 abbrev pub declaration_part : {N : Type 0} → Declaration N → ℕ
 declaration_part (declaration.VariableDeclaration b) = 0
 declaration_part (declaration.Function b) = 1
+declaration_part (declaration.Class b) = 2
 
 abbrev pub statement_part : {N : Type 0} → Statement N → ℕ
 statement_part (statement.Declaration b) = 0

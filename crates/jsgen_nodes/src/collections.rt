@@ -9,13 +9,14 @@ ghost use Rattle.jsgen_tree.specs.Rows.{array_expression_row, in_array_expressio
 ghost use Rattle.jsgen_place.specs.Place.{in_brackets};
 ghost use Rattle.jsgen_model.specs.Punctuator.{Square, Brace, colon};
 ghost use Rattle.jsgen_model.specs.Items.{◌⊕◌, brackets, punctuator, soft_space};
-ghost use Rattle.jsgen_model.specs.Spell.{spell, spell_method, are_more, object_inside, spell_elements, ends_in_hole, comma_if, key_text, accessor_word, before_value, string_in};
+ghost use Rattle.jsgen_model.specs.Spell.{spell, spell_method, are_more, object_inside, spell_elements, ends_in_hole, comma_if, key_text, key_items, accessor_word, before_value, string_in};
 ghost use Rattle.jsgen_printer.specs.Printer.{pen_of};
 ghost use Rattle.jsgen_printer.specs.Steps.{Lays};
 ghost use Rattle.jsgen_nodes.specs.Keys.{is_string, is_number, is_said, is_value_alone, key_of};
 
 use crate::PrintNode;
 use crate::inside::Inside;
+use jsgen_classes::print_private_identifier;
 use jsgen_lists::{PrintElement, print_accessor_word, print_array, print_object};
 use jsgen_place::Place;
 use jsgen_printer::{Bracket, Printer};
@@ -190,6 +191,7 @@ pub fn key_name<N: PrintNode>(key: &PropertyKey<N>) -> Option<&str>
 {
     match key {
         PropertyKey::IdentifierName(node) => Some(node.name.as_str()),
+        PropertyKey::PrivateIdentifier(_) => None,
         PropertyKey::Expression(node) => node.get().written_name(),
     }
 }
@@ -200,8 +202,15 @@ pub fn key_name<N: PrintNode>(key: &PropertyKey<N>) -> Option<&str>
 pub fn print_key<N: PrintNode>(key: &PropertyKey<N>, computed: bool, p: &mut Printer<'_>)
     ensures { Lays p.old p.new (key_of computed (in_property_key N.plain key.now)) }
 {
+    print_key_if(needs_brackets(computed, is_negative_key(key)), key, p);
+}
+
+/// In brackets where the test holds.
+pub fn print_key_if<N: PrintNode>(bracketed: bool, key: &PropertyKey<N>, p: &mut Printer<'_>)
+    ensures { Lays p.old p.new (key_items bracketed (in_property_key N.plain key.now) (spell (in_property_key N.plain key.now) (in_brackets Comma))) }
+{
     let within = Place::in_brackets(Precedence::Comma);
-    if needs_brackets(computed, is_negative_key(key)) {
+    if bracketed {
         p.print_opening(Bracket::Square);
         print_key_text(key, p, within);
         p.print_closing(Bracket::Square);
@@ -215,6 +224,7 @@ fn is_negative_key<N: PrintNode>(key: &PropertyKey<N>) -> bool
 {
     match key {
         PropertyKey::IdentifierName(_) => false,
+        PropertyKey::PrivateIdentifier(_) => false,
         PropertyKey::Expression(node) => is_negative_number(node.get()),
     }
 }
@@ -241,6 +251,7 @@ pub fn print_key_text<N: PrintNode>(key: &PropertyKey<N>, p: &mut Printer<'_>, p
 {
     match key {
         PropertyKey::IdentifierName(node) => print_identifier_name(node, p, place),
+        PropertyKey::PrivateIdentifier(node) => print_private_identifier(node, p, place),
         PropertyKey::Expression(node) => print_key_expression(node, p, place),
     }
 }

@@ -8,6 +8,7 @@ ghost use Rattle.jsgen_nodes.specs.Calls.{from_callee};
 use crate::PrintNode;
 use crate::inside::Inside;
 use crate::quotes::{is_mark, plain_quotes};
+use jsgen_classes::print_private_field_expression;
 use jsgen_inside::Nested;
 use jsgen_lists::{PrintMember, print_arguments, print_bracket_link, print_named_member};
 use jsgen_place::Place;
@@ -190,6 +191,9 @@ fn print_chain_element<N: PrintNode>(node: &ChainElement<N>, p: &mut Printer<'_>
             node, p, place,
         ),
         ChainElement::ComputedMemberExpression(node) => print_computed_member_expression(
+            node, p, place,
+        ),
+        ChainElement::PrivateFieldExpression(node) => print_private_field_expression::<_, Inside>(
             node, p, place,
         ),
         ChainElement::CallExpression(node) => print_call_expression(node, p, place),

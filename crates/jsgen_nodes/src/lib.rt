@@ -3,6 +3,7 @@
 
 pub mod assignments;
 pub mod choices;
+pub mod classes;
 pub mod collections;
 pub mod expressions;
 pub mod functions;
@@ -37,7 +38,10 @@ use jsgen_syntax::JsStr;
 use jsgen_tree::{
     BindingIdentifier, Declaration, Expression, IdentifierReference, Node, NodeType, Statement,
 };
-use sets::{print_binding_pattern, print_declaration, print_expression, print_statement};
+use sets::{
+    print_binding_pattern, print_class_element, print_declaration, print_expression,
+    print_statement,
+};
 
 /// Where trees nest: what the print functions ask of a child. Only `Node` implements it.
 pub trait PrintNode {
@@ -113,6 +117,7 @@ impl PrintNode for Node {
             Node::Statement(node) => print_statement(node, p, place),
             Node::Declaration(node) => print_declaration(node, p, place),
             Node::BindingPattern(node) => print_binding_pattern(node, p, place),
+            Node::ClassElement(node) => print_class_element(node, p, place),
         }
     }
 
@@ -132,6 +137,7 @@ impl PrintNode for Node {
                 _ => {}
             },
             Node::BindingPattern(_) => {}
+            Node::ClassElement(_) => {}
         }
     }
 

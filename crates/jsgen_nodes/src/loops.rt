@@ -15,6 +15,7 @@ use crate::PrintNode;
 use crate::expressions::{print_computed_member_expression, print_static_member_expression};
 use crate::inside::Inside;
 use crate::statements::Statements;
+use jsgen_classes::print_private_field_expression;
 use jsgen_inside::{Nested, print_body, print_identifier_reference, shape_of};
 use jsgen_lists::{PrintMember, print_apart, print_deeper_body, print_if_given};
 use jsgen_place::{Place, Shape};
@@ -168,6 +169,9 @@ pub fn print_left<N: PrintNode>(left: &ForStatementLeft<N>, p: &mut Printer<'_>)
         ForStatementLeft::ComputedMemberExpression(node) => print_computed_member_expression(
             node, p, target,
         ),
+        ForStatementLeft::PrivateFieldExpression(node) => {
+            print_private_field_expression::<_, Inside>(node, p, target)
+        }
     }
 }
 

@@ -1,7 +1,7 @@
 // Generated from tools/nodes/table.txt; edit that and run tools/nodes/generate.
 // A set prints as its member does.
 ghost use Rattle.std.specs.Prelude.{◌≡◌, true, nat_le};
-ghost use Rattle.jsgen_tree.specs.Rows.{in_simple_assignment_target, in_assignment_target, expression_plain, declaration_plain, statement_plain, binding_pattern_plain};
+ghost use Rattle.jsgen_tree.specs.Rows.{in_simple_assignment_target, in_assignment_target, expression_plain, declaration_plain, statement_plain, binding_pattern_plain, class_element_plain};
 ghost use Rattle.jsgen_printer.specs.Steps.{Lays};
 ghost use Rattle.jsgen_model.specs.Spell.{spell};
 ghost use Rattle.jsgen_nodes.specs.Parts.{expression_part, declaration_part, statement_part, binding_pattern_part};
@@ -22,8 +22,12 @@ use crate::operations::{print_new_expression, print_update_expression};
 use crate::patterns::{print_array_pattern, print_object_pattern};
 use crate::statements::{print_block_statement, print_if_statement};
 use crate::{Inside, PrintNode};
+use jsgen_classes::{
+    print_class, print_method_definition, print_private_field_expression,
+    print_private_in_expression, print_property_definition, print_static_block,
+};
 use jsgen_inside::{print_binding_identifier, print_identifier_reference};
-use jsgen_patterns::print_assignment_pattern;
+use jsgen_patterns::{print_array_pattern, print_assignment_pattern, print_object_pattern};
 use jsgen_place::Place;
 use jsgen_printer::Printer;
 use jsgen_spelled::{
@@ -35,7 +39,8 @@ use jsgen_spelled::{
     print_variable_declaration, print_while_statement,
 };
 use jsgen_tree::{
-    AssignmentTarget, BindingPattern, Declaration, Expression, SimpleAssignmentTarget, Statement,
+    AssignmentTarget, BindingPattern, ClassElement, Declaration, Expression,
+    SimpleAssignmentTarget, Statement,
 };
 
 pub fn print_expression<N: PrintNode>(node: &Expression<N>, p: &mut Printer<'_>, place: Place)
@@ -132,6 +137,26 @@ fn print_expression_in_functions<N: PrintNode>(
         Expression::ArrowFunctionExpression(node) => print_arrow_function_expression(
             node, p, place,
         ),
+        _ => print_expression_in_classes(node, p, place),
+    }
+}
+
+fn print_expression_in_classes<N: PrintNode>(
+    node: &Expression<N>,
+    p: &mut Printer<'_>,
+    place: Place,
+)
+    requires { nat_le 5 (expression_part node.now) ≡ true }
+    ensures { Lays p.old p.new (spell (expression_plain N.plain node.now) place) }
+{
+    match node {
+        Expression::PrivateFieldExpression(node) => print_private_field_expression::<_, Inside>(
+            node, p, place,
+        ),
+        Expression::PrivateInExpression(node) => print_private_in_expression::<_, Inside>(
+            node, p, place,
+        ),
+        Expression::Class(node) => print_class::<_, Inside>(node, p, place),
         _ => unreachable!(),
     }
 }
@@ -157,6 +182,20 @@ fn print_declaration_in_functions<N: PrintNode>(
 {
     match node {
         Declaration::Function(node) => print_function(node, p, place),
+        _ => print_declaration_in_classes(node, p, place),
+    }
+}
+
+fn print_declaration_in_classes<N: PrintNode>(
+    node: &Declaration<N>,
+    p: &mut Printer<'_>,
+    place: Place,
+)
+    requires { nat_le 2 (declaration_part node.now) ≡ true }
+    ensures { Lays p.old p.new (spell (declaration_plain N.plain node.now) place) }
+{
+    match node {
+        Declaration::Class(node) => print_class::<_, Inside>(node, p, place),
         _ => unreachable!(),
     }
 }
@@ -242,12 +281,26 @@ fn print_binding_pattern_in_patterns<N: PrintNode>(
     ensures { Lays p.old p.new (spell (binding_pattern_plain N.plain node.now) place) }
 {
     match node {
-        BindingPattern::ObjectPattern(node) => print_object_pattern(node, p, place),
-        BindingPattern::ArrayPattern(node) => print_array_pattern(node, p, place),
+        BindingPattern::ObjectPattern(node) => print_object_pattern::<_, Inside>(node, p, place),
+        BindingPattern::ArrayPattern(node) => print_array_pattern::<_, Inside>(node, p, place),
         BindingPattern::AssignmentPattern(node) => print_assignment_pattern::<_, Inside>(
             node, p, place,
         ),
         _ => unreachable!(),
+    }
+}
+
+pub fn print_class_element<N: PrintNode>(node: &ClassElement<N>, p: &mut Printer<'_>, place: Place)
+    ensures { Lays p.old p.new (spell (class_element_plain N.plain node.now) place) }
+{
+    match node {
+        ClassElement::StaticBlock(node) => print_static_block::<_, Inside>(node, p, place),
+        ClassElement::MethodDefinition(node) => print_method_definition::<_, Inside>(
+            node, p, place,
+        ),
+        ClassElement::PropertyDefinition(node) => print_property_definition::<_, Inside>(
+            node, p, place,
+        ),
     }
 }
 
@@ -268,6 +321,10 @@ pub fn print_simple_assignment_target<N: PrintNode>(
         SimpleAssignmentTarget::ComputedMemberExpression(node) => print_computed_member_expression(
             node, p, place,
         ),
+        SimpleAssignmentTarget::PrivateFieldExpression(node) => print_private_field_expression::<
+            _,
+            Inside,
+        >(node, p, place),
     }
 }
 
@@ -286,5 +343,9 @@ pub fn print_assignment_target<N: PrintNode>(
         AssignmentTarget::ComputedMemberExpression(node) => print_computed_member_expression(
             node, p, place,
         ),
+        AssignmentTarget::PrivateFieldExpression(node) => print_private_field_expression::<
+            _,
+            Inside,
+        >(node, p, place),
     }
 }

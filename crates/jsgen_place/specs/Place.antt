@@ -3,7 +3,7 @@ use Rattle.std.specs.Prelude.{Bool, true, false, not, ◌&&◌, ◌||◌, ◌==�
 use Rattle.jsgen_syntax.specs.Precedence.{rank}
 use Rattle.jsgen_syntax.specs.Operator.{binary_level, logical_level}
 use Rattle.jsgen_syntax.specs.declared.precedence.Precedence.{Precedence}
-use Rattle.jsgen_syntax.specs.declared.precedence.Precedence.TheVariants.{Lowest, Assign, Prefix, Postfix, New}
+use Rattle.jsgen_syntax.specs.declared.precedence.Precedence.TheVariants.{Lowest, Assign, Compare, Prefix, Postfix, New}
 use Rattle.jsgen_syntax.specs.declared.operator.BinaryOperator.{BinaryOperator}
 use Rattle.jsgen_syntax.specs.declared.operator.BinaryOperator.TheVariants as operators
 use Rattle.jsgen_syntax.specs.declared.operator.LogicalOperator.{LogicalOperator}
@@ -38,6 +38,14 @@ within_statement = in_brackets Lowest
 -- what stands first in the head of a loop, where `in` is forbidden (ECMA-262, 14.7.4)
 abbrev pub loop_head : Place
 loop_head = at_level Lowest (record free { forbids_in = true })
+
+-- a member of a class, among others
+abbrev pub member : Place → Place
+member place = record (child Lowest place) { in_list = true }
+
+-- what stands behind the `in` of a private name, where no other `in` may stand
+abbrev pub behind_private : Place
+behind_private = at_level Compare (record free { forbids_in = true })
 
 -- calls may stand there
 abbrev pub with_calls : Place → Place

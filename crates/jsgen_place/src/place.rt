@@ -1,6 +1,6 @@
 // Where a node is printed.
 ghost use Rattle.std.specs.Prelude.{◌≡◌};
-ghost use Rattle.jsgen_place.specs.Place.{free, at_level, child, left_operand, in_brackets, among_statements, within_statement, loop_head, with_calls, quoted_plainly, linked, called, constructed, within, wraps, update_level, is_forbidden, binary_wraps, continues_chain, logical_wraps, call_wraps, chain_wraps, chain_place, arrow_wraps};
+ghost use Rattle.jsgen_place.specs.Place.{free, at_level, child, left_operand, in_brackets, among_statements, within_statement, loop_head, member, behind_private, with_calls, quoted_plainly, linked, called, constructed, within, wraps, update_level, is_forbidden, binary_wraps, continues_chain, logical_wraps, call_wraps, chain_wraps, chain_place, arrow_wraps};
 
 use jsgen_syntax::{BinaryOperator, GetPrecedence, LogicalOperator, Precedence};
 
@@ -97,6 +97,27 @@ impl Place {
             ..Context::FREE
         };
         Place::at_level(Precedence::Lowest, context)
+    }
+
+    /// The place of a member of a class, among others.
+    pub fn member(self) -> Place
+        ensures { result ≡ member self }
+    {
+        Place {
+            in_list: true,
+            ..self.child(Precedence::Lowest)
+        }
+    }
+
+    /// The place of what stands behind the `in` of a private name, where no other `in` may stand.
+    pub fn behind_private() -> Place
+        ensures { result ≡ behind_private }
+    {
+        let context = Context {
+            forbids_in: true,
+            ..Context::FREE
+        };
+        Place::at_level(Precedence::Compare, context)
     }
 
     /// The same place, where calls may stand.

@@ -2,16 +2,18 @@
 use Rattle.std.proofs.Common.{◌≡◌, false, None, refl}
 use Rattle.jsgen_tree.specs.Inside.{ends_open}
 use Rattle.jsgen_tree.specs.Plain.{node_plain}
-use Rattle.jsgen_tree.specs.Rows.{expression_plain, statement_plain, declaration_plain, binding_pattern_plain}
+use Rattle.jsgen_tree.specs.Rows.{expression_plain, statement_plain, declaration_plain, binding_pattern_plain, class_element_plain}
 use Rattle.jsgen_tree.specs.declared.nodes.Node.{Node}
 use Rattle.jsgen_tree.specs.declared.sets.Expression.{Expression}
 use Rattle.jsgen_tree.specs.declared.sets.Statement.{Statement}
 use Rattle.jsgen_tree.specs.declared.sets.Declaration.{Declaration}
 use Rattle.jsgen_tree.specs.declared.sets.BindingPattern.{BindingPattern}
+use Rattle.jsgen_tree.specs.declared.sets.ClassElement.{ClassElement}
 use Rattle.jsgen_tree.specs.declared.sets.Expression.TheVariants as expressions
 use Rattle.jsgen_tree.specs.declared.sets.Statement.TheVariants as statements
 use Rattle.jsgen_tree.specs.declared.sets.Declaration.TheVariants as declarations
 use Rattle.jsgen_tree.specs.declared.sets.BindingPattern.TheVariants as binding_patterns
+use Rattle.jsgen_tree.specs.declared.sets.ClassElement.TheVariants as class_elements
 use Rattle.jsgen_model.specs.Spell.{string_statement}
 
 -- a member of a set is none of a type
@@ -27,12 +29,18 @@ no_open_expression n = refl
 pub no_open_declaration : (n : Declaration Node) → false ≡ ends_open (declaration_plain node_plain n)
 no_open_declaration (declarations.VariableDeclaration b) = refl
 no_open_declaration (declarations.Function b) = refl
+no_open_declaration (declarations.Class b) = refl
 
 pub no_open_pattern : (n : BindingPattern Node) → false ≡ ends_open (binding_pattern_plain node_plain n)
 no_open_pattern (binding_patterns.BindingIdentifier b) = refl
 no_open_pattern (binding_patterns.ObjectPattern b) = refl
 no_open_pattern (binding_patterns.ArrayPattern b) = refl
 no_open_pattern (binding_patterns.AssignmentPattern b) = refl
+
+pub no_open_element : (n : ClassElement Node) → false ≡ ends_open (class_element_plain node_plain n)
+no_open_element (class_elements.StaticBlock b) = refl
+no_open_element (class_elements.MethodDefinition b) = refl
+no_open_element (class_elements.PropertyDefinition b) = refl
 
 pub no_open_statement : (n : Statement Node) → IsNot n statements.Declaration → IsNot n statements.IfStatement → IsNot n statements.ForStatement → IsNot n statements.ForInStatement → IsNot n statements.ForOfStatement → IsNot n statements.WhileStatement → IsNot n statements.LabeledStatement → false ≡ ends_open (statement_plain node_plain n)
 no_open_statement (statements.Declaration b) no_declaration no_if no_for no_for_in no_for_of no_while no_label = absurd (no_declaration b refl)
@@ -53,12 +61,18 @@ no_expression_string n = refl
 pub no_declaration_string : (n : Declaration Node) → None ≡ string_statement (declaration_plain node_plain n)
 no_declaration_string (declarations.VariableDeclaration b) = refl
 no_declaration_string (declarations.Function b) = refl
+no_declaration_string (declarations.Class b) = refl
 
 pub no_pattern_string : (n : BindingPattern Node) → None ≡ string_statement (binding_pattern_plain node_plain n)
 no_pattern_string (binding_patterns.BindingIdentifier b) = refl
 no_pattern_string (binding_patterns.ObjectPattern b) = refl
 no_pattern_string (binding_patterns.ArrayPattern b) = refl
 no_pattern_string (binding_patterns.AssignmentPattern b) = refl
+
+pub no_element_string : (n : ClassElement Node) → None ≡ string_statement (class_element_plain node_plain n)
+no_element_string (class_elements.StaticBlock b) = refl
+no_element_string (class_elements.MethodDefinition b) = refl
+no_element_string (class_elements.PropertyDefinition b) = refl
 
 pub no_string_statement : (n : Statement Node) → IsNot n statements.Declaration → IsNot n statements.ExpressionStatement → None ≡ string_statement (statement_plain node_plain n)
 no_string_statement (statements.Declaration b) no_declaration no_expression = absurd (no_declaration b refl)

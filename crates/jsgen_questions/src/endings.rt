@@ -27,6 +27,7 @@ pub fn ends_open(node: &Node) -> bool
         Node::Expression(_) => false,
         Node::Declaration(_) => false,
         Node::BindingPattern(_) => false,
+        Node::ClassElement(_) => false,
         Node::Statement(statement) => match statement {
             Statement::Declaration(node) => ends_open(node.get()),
             Statement::IfStatement(node) => if_ends_open(alternate_ends_open(node)),

@@ -73,6 +73,7 @@ pub fn is_member(node: &Node, object: &str, name: &str) -> bool
         },
         Node::Declaration(_) => false,
         Node::BindingPattern(_) => false,
+        Node::ClassElement(_) => false,
     }
 }
 
@@ -94,5 +95,6 @@ pub fn is_binding_name(node: &Node) -> bool
             BindingPattern::ArrayPattern(_) => false,
             BindingPattern::AssignmentPattern(_) => false,
         },
+        Node::ClassElement(_) => false,
     }
 }

@@ -38,6 +38,7 @@ pub fn string_statement(node: &Node) -> Option<&JsStr>
         Node::Expression(_) => None,
         Node::Declaration(_) => None,
         Node::BindingPattern(_) => None,
+        Node::ClassElement(_) => None,
         Node::Statement(statement) => match statement {
             Statement::Declaration(node) => string_statement(node.get()),
             Statement::ExpressionStatement(node) => string(node.expression.get()),

@@ -6,7 +6,7 @@ use Rattle.std.proofs.lemmas.Bool.{both_ways, and_parts, and_from, not-true, ltb
 use Rattle.jsgen_tree.specs.Atom.{Atom, text}
 use Rattle.jsgen_tree.specs.Tree.{Tree, node, Maybe, absent, given, Trees, no_trees, more, hole, Atoms, type_of, span_of}
 use Rattle.jsgen_tree.specs.Nodes as tree
-use Rattle.jsgen_tree.specs.Values.{as_text, directive_directive, identifier_name_name, numeric_literal_kind, numeric_literal_text, big_int_literal_value, variable_declaration_kind, variable_declaration_declare, label_identifier_name, object_property_kind, object_property_shorthand, object_property_computed, function_kind, function_is_async, function_generator, function_declare, object_property_method}
+use Rattle.jsgen_tree.specs.Values.{as_text, directive_directive, identifier_name_name, numeric_literal_kind, numeric_literal_text, big_int_literal_value, variable_declaration_kind, variable_declaration_declare, label_identifier_name, object_property_kind, object_property_shorthand, object_property_computed, function_kind, class_kind, function_is_async, function_generator, function_declare, object_property_method}
 use Rattle.jsgen_tree.specs.Number.{NumericKind, Whole, Raw}
 use Rattle.jsgen_tree.specs.Job.{Tables}
 use Rattle.jsgen_tree.specs.Named.{Named, printed_name}
@@ -27,7 +27,7 @@ use Rattle.jsgen_model.specs.Plain.{IsPlain, is_plain_row, has_plain_flags, is_n
 use Rattle.jsgen_model.specs.Normal.{or_none, directive_units}
 use Rattle.jsgen_tree.specs.declared.functions.FunctionKind.{FunctionKind}
 use Rattle.jsgen_tree.specs.declared.functions.FunctionKind.TheVariants as kinds
-use Rattle.jsgen_model.specs.Valid.{Surroundings, ChildPlace, is_super, is_default, has_place, may_stand, breaches, in_maybe, in_trees, fault_if, fits_kind, set_faults, span_faults, body_faults, is_in_tables, name_faults, directive_faults, written_name_faults, number_faults, big_integer_faults, is_literal_key, may_be_key, key_faults, method_faults, shorthand_faults, takes_optional_link, link_faults, super_faults, is_one_name, is_lexical_word, label_faults, try_faults, stands_among, same_kind, function_faults, fits_method, declaration_faults}
+use Rattle.jsgen_model.specs.Valid.{Surroundings, ChildPlace, is_super, is_default, has_place, may_stand, breaches, in_maybe, in_trees, fault_if, fits_kind, set_faults, span_faults, body_faults, is_in_tables, name_faults, directive_faults, written_name_faults, number_faults, big_integer_faults, is_literal_key, may_be_key, key_faults, method_faults, shorthand_faults, takes_optional_link, link_faults, super_faults, is_one_name, is_lexical_word, label_faults, try_faults, stands_among, same_kind, function_faults, fits_method, declaration_faults, takes_super, as_function_kind}
 use Rattle.jsgen_reading_laws.proofs.Families.{has_value, IsLink, IsExpression, IsChain, IsChainBase, IsKey, IsRest, IsBinding, AreDeclarators, IsStatement, IsLeft, IsLabel, AreEndsOfTry, IsHandler, IsBlock, IsItem, AreDirectives, HasName, IsSynchronous, IsProperty}
 use Rattle.jsgen_reading_laws.proofs.Families as family
 
@@ -62,9 +62,10 @@ stands_at s t e =
     let k = and_parts (may_stand s (type_of t)) (fits_kind s t) (none_unless (may_stand s (type_of t) && fits_kind s t) (faults.Place (span_of t).start) h.0) in
     (k.0, none_if (not (takes_optional_link s) && has_optional_link t) (faults.Place (span_of t).start) h.1, k.1)
 
--- a function that may stand at the place is an expression there, if it may stand in an expression
+-- a function or a class that may stand at the place is an expression there, if it may stand in an expression
 pub fits_expression : (s : NodeSet) (t : Tree) → stands_among s ≡ kinds.Expression → fits_kind s t ≡ true → fits_kind sets.Expression t ≡ true
 fits_expression s (tree.function a id ps body) e f = subst (λ k. same_kind (function_kind a) k ≡ true) e f
+fits_expression s (tree.class a id heritage body) e f = subst (λ k. same_kind (as_function_kind (class_kind a)) k ≡ true) e f
 fits_expression s t e f = refl
 
 -- and so may the others
@@ -134,10 +135,12 @@ pub target_stands : (type : NodeType) → is_simple_assignment_target type ≡ t
 target_stands types.IdentifierReference h = refl
 target_stands types.StaticMemberExpression h = refl
 target_stands types.ComputedMemberExpression h = refl
+target_stands types.PrivateFieldExpression h = refl
 target_stands type h = absurd (no_truth h)
 
 pub target_fits : (t : Tree) → is_simple_assignment_target (type_of t) ≡ true → fits_kind sets.Expression t ≡ true
 target_fits (tree.function a id ps body) h = absurd (no_truth h)
+target_fits (tree.class a id heritage body) h = absurd (no_truth h)
 target_fits t h = refl
 
 -- what may be given a value may be changed as it stands
@@ -145,6 +148,7 @@ pub target_is_simple : (type : NodeType) → is_assignment_target type ≡ true 
 target_is_simple types.IdentifierReference h = refl
 target_is_simple types.StaticMemberExpression h = refl
 target_is_simple types.ComputedMemberExpression h = refl
+target_is_simple types.PrivateFieldExpression h = refl
 target_is_simple type h = absurd (no_truth h)
 
 -- what a link goes on from is `super`, or may stand anywhere

@@ -4,8 +4,9 @@ ghost use Rattle.std.specs.Prelude.{◌≡◌};
 ghost use Rattle.serde_json.specs.View.{view};
 ghost use Rattle.jsgen_fields.specs.Reads.{Gives, read_typed};
 ghost use Rattle.jsgen_pool.specs.Pool.{entries};
-ghost use Rattle.jsgen_fields.specs.Parts.{is_in_statements, is_in_expressions, is_in_collections, is_in_operations, is_in_assignments, is_in_functions, is_in_loops, is_in_choices};
+ghost use Rattle.jsgen_fields.specs.Parts.{is_in_statements, is_in_expressions, is_in_collections, is_in_operations, is_in_assignments, is_in_functions, is_in_loops, is_in_choices, is_in_patterns};
 
+use jsgen_class_rows::classes::read_in_classes;
 use jsgen_expression_rows::assignments::read_in_assignments;
 use jsgen_expression_rows::collections::read_in_collections;
 use jsgen_expression_rows::expressions::read_in_expressions;
@@ -148,6 +149,19 @@ fn is_in_choices(node_type: NodeType) -> bool
     )
 }
 
+fn is_in_patterns(node_type: NodeType) -> bool
+    ensures { result ≡ is_in_patterns node_type }
+{
+    matches!(
+        &node_type,
+        NodeType::ObjectPattern
+            | NodeType::BindingProperty
+            | NodeType::BindingRestElement
+            | NodeType::ArrayPattern
+            | NodeType::AssignmentPattern
+    )
+}
+
 /// The row of a type.
 pub fn read_typed<N: ReadNode + Drop, R: RowOf<N> + Drop>(
     alloc: Global,
@@ -184,5 +198,8 @@ pub fn read_typed<N: ReadNode + Drop, R: RowOf<N> + Drop>(
     if is_in_choices(node_type) {
         return read_in_choices::<N, R>(alloc, kept, node_type, number, span, row);
     }
-    read_in_patterns::<N, R>(alloc, kept, node_type, number, span, row)
+    if is_in_patterns(node_type) {
+        return read_in_patterns::<N, R>(alloc, kept, node_type, number, span, row);
+    }
+    read_in_classes::<N, R>(alloc, kept, node_type, number, span, row)
 }

@@ -7,13 +7,16 @@ ghost use Rattle.jsgen_model.specs.Valid.{directive_faults, raw_number_faults, b
 ghost use Rattle.jsgen_model.specs.declared.fault.TreeFault.TheVariants as faults;
 ghost use Rattle.jsgen_rules.specs.Verdict.{verdict};
 
+mod classes;
 mod comments;
 mod functions;
 mod names;
 mod regular_expressions;
+mod private;
 mod spans;
 mod statements;
 
+pub use classes::{as_property, check_class, class_fits, is_private};
 pub use comments::check_comment;
 pub use functions::{check_function, check_return, fits_accessor, function_fits};
 use jsgen_model::TreeFault;
@@ -23,6 +26,7 @@ use jsgen_text::spells_string;
 use jsgen_tree::{NodeSet, NodeType};
 pub use names::{check_binding, check_label, check_reference, check_written_name};
 pub use regular_expressions::check_regular_expression;
+pub use private::check_private_name;
 pub use spans::{check_source, check_span};
 pub use statements::{check_body, check_defaults, check_ends, check_one_name, is_declaration};
 

@@ -46,6 +46,11 @@ use Rattle.jsgen_tree.specs.declared.patterns.ObjectPattern.{ObjectPattern}
 use Rattle.jsgen_tree.specs.declared.patterns.BindingProperty.{BindingProperty}
 use Rattle.jsgen_tree.specs.declared.patterns.BindingRestElement.{BindingRestElement}
 use Rattle.jsgen_tree.specs.declared.patterns.ArrayPattern.{ArrayPattern}
+use Rattle.jsgen_tree.specs.declared.classes.PrivateIdentifier.{PrivateIdentifier}
+use Rattle.jsgen_tree.specs.declared.classes.PrivateFieldExpression.{PrivateFieldExpression}
+use Rattle.jsgen_tree.specs.declared.classes.Class.{Class}
+use Rattle.jsgen_tree.specs.declared.classes.MethodDefinition.{MethodDefinition}
+use Rattle.jsgen_tree.specs.declared.classes.PropertyDefinition.{PropertyDefinition}
 use Rattle.jsgen_tree.specs.declared.sets.Argument.TheVariants as arguments
 use Rattle.jsgen_tree.specs.declared.sets.ArrayExpressionElement.TheVariants as array_expression_elements
 use Rattle.jsgen_tree.specs.declared.sets.ChainElement.TheVariants as chain_elements
@@ -67,20 +72,23 @@ pub with_array_expression_element : {N : Type 0} (P : ArrayExpressionElement N �
 with_array_expression_element P of_spread_element of_expression (array_expression_elements.SpreadElement b) = of_spread_element b
 with_array_expression_element P of_spread_element of_expression (array_expression_elements.Expression b) = of_expression b
 
-pub with_chain_element : {N : Type 0} (P : ChainElement N → Type 0) → ((b : Box (StaticMemberExpression N) Global) → P (chain_elements.StaticMemberExpression b)) → ((b : Box (ComputedMemberExpression N) Global) → P (chain_elements.ComputedMemberExpression b)) → ((b : Box (CallExpression N) Global) → P (chain_elements.CallExpression b)) → (n : ChainElement N) → P n
-with_chain_element P of_static_member_expression of_computed_member_expression of_call_expression (chain_elements.StaticMemberExpression b) = of_static_member_expression b
-with_chain_element P of_static_member_expression of_computed_member_expression of_call_expression (chain_elements.ComputedMemberExpression b) = of_computed_member_expression b
-with_chain_element P of_static_member_expression of_computed_member_expression of_call_expression (chain_elements.CallExpression b) = of_call_expression b
+pub with_chain_element : {N : Type 0} (P : ChainElement N → Type 0) → ((b : Box (StaticMemberExpression N) Global) → P (chain_elements.StaticMemberExpression b)) → ((b : Box (ComputedMemberExpression N) Global) → P (chain_elements.ComputedMemberExpression b)) → ((b : Box (PrivateFieldExpression N) Global) → P (chain_elements.PrivateFieldExpression b)) → ((b : Box (CallExpression N) Global) → P (chain_elements.CallExpression b)) → (n : ChainElement N) → P n
+with_chain_element P of_static_member_expression of_computed_member_expression of_private_field_expression of_call_expression (chain_elements.StaticMemberExpression b) = of_static_member_expression b
+with_chain_element P of_static_member_expression of_computed_member_expression of_private_field_expression of_call_expression (chain_elements.ComputedMemberExpression b) = of_computed_member_expression b
+with_chain_element P of_static_member_expression of_computed_member_expression of_private_field_expression of_call_expression (chain_elements.PrivateFieldExpression b) = of_private_field_expression b
+with_chain_element P of_static_member_expression of_computed_member_expression of_private_field_expression of_call_expression (chain_elements.CallExpression b) = of_call_expression b
 
-pub with_simple_assignment_target : {N : Type 0} (P : SimpleAssignmentTarget N → Type 0) → ((b : Box IdentifierReference Global) → P (simple_assignment_targets.IdentifierReference b)) → ((b : Box (StaticMemberExpression N) Global) → P (simple_assignment_targets.StaticMemberExpression b)) → ((b : Box (ComputedMemberExpression N) Global) → P (simple_assignment_targets.ComputedMemberExpression b)) → (n : SimpleAssignmentTarget N) → P n
-with_simple_assignment_target P of_identifier_reference of_static_member_expression of_computed_member_expression (simple_assignment_targets.IdentifierReference b) = of_identifier_reference b
-with_simple_assignment_target P of_identifier_reference of_static_member_expression of_computed_member_expression (simple_assignment_targets.StaticMemberExpression b) = of_static_member_expression b
-with_simple_assignment_target P of_identifier_reference of_static_member_expression of_computed_member_expression (simple_assignment_targets.ComputedMemberExpression b) = of_computed_member_expression b
+pub with_simple_assignment_target : {N : Type 0} (P : SimpleAssignmentTarget N → Type 0) → ((b : Box IdentifierReference Global) → P (simple_assignment_targets.IdentifierReference b)) → ((b : Box (StaticMemberExpression N) Global) → P (simple_assignment_targets.StaticMemberExpression b)) → ((b : Box (ComputedMemberExpression N) Global) → P (simple_assignment_targets.ComputedMemberExpression b)) → ((b : Box (PrivateFieldExpression N) Global) → P (simple_assignment_targets.PrivateFieldExpression b)) → (n : SimpleAssignmentTarget N) → P n
+with_simple_assignment_target P of_identifier_reference of_static_member_expression of_computed_member_expression of_private_field_expression (simple_assignment_targets.IdentifierReference b) = of_identifier_reference b
+with_simple_assignment_target P of_identifier_reference of_static_member_expression of_computed_member_expression of_private_field_expression (simple_assignment_targets.StaticMemberExpression b) = of_static_member_expression b
+with_simple_assignment_target P of_identifier_reference of_static_member_expression of_computed_member_expression of_private_field_expression (simple_assignment_targets.ComputedMemberExpression b) = of_computed_member_expression b
+with_simple_assignment_target P of_identifier_reference of_static_member_expression of_computed_member_expression of_private_field_expression (simple_assignment_targets.PrivateFieldExpression b) = of_private_field_expression b
 
-pub with_assignment_target : {N : Type 0} (P : AssignmentTarget N → Type 0) → ((b : Box IdentifierReference Global) → P (assignment_targets.IdentifierReference b)) → ((b : Box (StaticMemberExpression N) Global) → P (assignment_targets.StaticMemberExpression b)) → ((b : Box (ComputedMemberExpression N) Global) → P (assignment_targets.ComputedMemberExpression b)) → (n : AssignmentTarget N) → P n
-with_assignment_target P of_identifier_reference of_static_member_expression of_computed_member_expression (assignment_targets.IdentifierReference b) = of_identifier_reference b
-with_assignment_target P of_identifier_reference of_static_member_expression of_computed_member_expression (assignment_targets.StaticMemberExpression b) = of_static_member_expression b
-with_assignment_target P of_identifier_reference of_static_member_expression of_computed_member_expression (assignment_targets.ComputedMemberExpression b) = of_computed_member_expression b
+pub with_assignment_target : {N : Type 0} (P : AssignmentTarget N → Type 0) → ((b : Box IdentifierReference Global) → P (assignment_targets.IdentifierReference b)) → ((b : Box (StaticMemberExpression N) Global) → P (assignment_targets.StaticMemberExpression b)) → ((b : Box (ComputedMemberExpression N) Global) → P (assignment_targets.ComputedMemberExpression b)) → ((b : Box (PrivateFieldExpression N) Global) → P (assignment_targets.PrivateFieldExpression b)) → (n : AssignmentTarget N) → P n
+with_assignment_target P of_identifier_reference of_static_member_expression of_computed_member_expression of_private_field_expression (assignment_targets.IdentifierReference b) = of_identifier_reference b
+with_assignment_target P of_identifier_reference of_static_member_expression of_computed_member_expression of_private_field_expression (assignment_targets.StaticMemberExpression b) = of_static_member_expression b
+with_assignment_target P of_identifier_reference of_static_member_expression of_computed_member_expression of_private_field_expression (assignment_targets.ComputedMemberExpression b) = of_computed_member_expression b
+with_assignment_target P of_identifier_reference of_static_member_expression of_computed_member_expression of_private_field_expression (assignment_targets.PrivateFieldExpression b) = of_private_field_expression b
 
 pub with_arrow_function_body : {N : Type 0} (P : ArrowFunctionBody N → Type 0) → ((b : Box (FunctionBody N) Global) → P (arrow_function_bodys.FunctionBody b)) → ((b : Box (ExpressionNode N) Global) → P (arrow_function_bodys.Expression b)) → (n : ArrowFunctionBody N) → P n
 with_arrow_function_body P of_function_body of_expression (arrow_function_bodys.FunctionBody b) = of_function_body b
@@ -90,19 +98,21 @@ pub with_for_statement_init : {N : Type 0} (P : ForStatementInit N → Type 0) �
 with_for_statement_init P of_variable_declaration of_expression (for_statement_inits.VariableDeclaration b) = of_variable_declaration b
 with_for_statement_init P of_variable_declaration of_expression (for_statement_inits.Expression b) = of_expression b
 
-pub with_for_statement_left : {N : Type 0} (P : ForStatementLeft N → Type 0) → ((b : Box (VariableDeclaration N) Global) → P (for_statement_lefts.VariableDeclaration b)) → ((b : Box IdentifierReference Global) → P (for_statement_lefts.IdentifierReference b)) → ((b : Box (StaticMemberExpression N) Global) → P (for_statement_lefts.StaticMemberExpression b)) → ((b : Box (ComputedMemberExpression N) Global) → P (for_statement_lefts.ComputedMemberExpression b)) → (n : ForStatementLeft N) → P n
-with_for_statement_left P of_variable_declaration of_identifier_reference of_static_member_expression of_computed_member_expression (for_statement_lefts.VariableDeclaration b) = of_variable_declaration b
-with_for_statement_left P of_variable_declaration of_identifier_reference of_static_member_expression of_computed_member_expression (for_statement_lefts.IdentifierReference b) = of_identifier_reference b
-with_for_statement_left P of_variable_declaration of_identifier_reference of_static_member_expression of_computed_member_expression (for_statement_lefts.StaticMemberExpression b) = of_static_member_expression b
-with_for_statement_left P of_variable_declaration of_identifier_reference of_static_member_expression of_computed_member_expression (for_statement_lefts.ComputedMemberExpression b) = of_computed_member_expression b
+pub with_for_statement_left : {N : Type 0} (P : ForStatementLeft N → Type 0) → ((b : Box (VariableDeclaration N) Global) → P (for_statement_lefts.VariableDeclaration b)) → ((b : Box IdentifierReference Global) → P (for_statement_lefts.IdentifierReference b)) → ((b : Box (StaticMemberExpression N) Global) → P (for_statement_lefts.StaticMemberExpression b)) → ((b : Box (ComputedMemberExpression N) Global) → P (for_statement_lefts.ComputedMemberExpression b)) → ((b : Box (PrivateFieldExpression N) Global) → P (for_statement_lefts.PrivateFieldExpression b)) → (n : ForStatementLeft N) → P n
+with_for_statement_left P of_variable_declaration of_identifier_reference of_static_member_expression of_computed_member_expression of_private_field_expression (for_statement_lefts.VariableDeclaration b) = of_variable_declaration b
+with_for_statement_left P of_variable_declaration of_identifier_reference of_static_member_expression of_computed_member_expression of_private_field_expression (for_statement_lefts.IdentifierReference b) = of_identifier_reference b
+with_for_statement_left P of_variable_declaration of_identifier_reference of_static_member_expression of_computed_member_expression of_private_field_expression (for_statement_lefts.StaticMemberExpression b) = of_static_member_expression b
+with_for_statement_left P of_variable_declaration of_identifier_reference of_static_member_expression of_computed_member_expression of_private_field_expression (for_statement_lefts.ComputedMemberExpression b) = of_computed_member_expression b
+with_for_statement_left P of_variable_declaration of_identifier_reference of_static_member_expression of_computed_member_expression of_private_field_expression (for_statement_lefts.PrivateFieldExpression b) = of_private_field_expression b
 
 pub with_object_property_kind : {N : Type 0} (P : ObjectPropertyKind N → Type 0) → ((b : Box (ObjectProperty N) Global) → P (object_property_kinds.ObjectProperty b)) → ((b : Box (SpreadElement N) Global) → P (object_property_kinds.SpreadElement b)) → (n : ObjectPropertyKind N) → P n
 with_object_property_kind P of_object_property of_spread_element (object_property_kinds.ObjectProperty b) = of_object_property b
 with_object_property_kind P of_object_property of_spread_element (object_property_kinds.SpreadElement b) = of_spread_element b
 
-pub with_property_key : {N : Type 0} (P : PropertyKey N → Type 0) → ((b : Box IdentifierName Global) → P (property_keys.IdentifierName b)) → ((b : Box (ExpressionNode N) Global) → P (property_keys.Expression b)) → (n : PropertyKey N) → P n
-with_property_key P of_identifier_name of_expression (property_keys.IdentifierName b) = of_identifier_name b
-with_property_key P of_identifier_name of_expression (property_keys.Expression b) = of_expression b
+pub with_property_key : {N : Type 0} (P : PropertyKey N → Type 0) → ((b : Box IdentifierName Global) → P (property_keys.IdentifierName b)) → ((b : Box PrivateIdentifier Global) → P (property_keys.PrivateIdentifier b)) → ((b : Box (ExpressionNode N) Global) → P (property_keys.Expression b)) → (n : PropertyKey N) → P n
+with_property_key P of_identifier_name of_private_identifier of_expression (property_keys.IdentifierName b) = of_identifier_name b
+with_property_key P of_identifier_name of_private_identifier of_expression (property_keys.PrivateIdentifier b) = of_private_identifier b
+with_property_key P of_identifier_name of_private_identifier of_expression (property_keys.Expression b) = of_expression b
 
 -- ---- a struct with an optional child, and without it
 
@@ -112,20 +122,20 @@ variable_declarator_by_init P none some n = elim n.init as (λ o. P (record n { 
 pub if_statement_by_alternate : {N : Type 0} (P : IfStatement N → Type 0) → ((n : IfStatement N) → P (record n { alternate = None })) → ((c : StatementNode N) (n : IfStatement N) → P (record n { alternate = Some c })) → (n : IfStatement N) → P n
 if_statement_by_alternate P none some n = elim n.alternate as (λ o. P (record n { alternate = o })) [ None ↦ none n | Some c ↦ some c n ]
 
-pub chain_expression_by_expression : {N : Type 0} (P : ChainExpression N → Type 0) → ((b : Box (StaticMemberExpression N) Global) (n : ChainExpression N) → P (record n { expression = (chain_elements.StaticMemberExpression b) })) → ((b : Box (ComputedMemberExpression N) Global) (n : ChainExpression N) → P (record n { expression = (chain_elements.ComputedMemberExpression b) })) → ((b : Box (CallExpression N) Global) (n : ChainExpression N) → P (record n { expression = (chain_elements.CallExpression b) })) → (n : ChainExpression N) → P n
-chain_expression_by_expression P of_static_member_expression of_computed_member_expression of_call_expression n = elim n.expression as (λ o. P (record n { expression = o })) [ chain_elements.StaticMemberExpression b ↦ of_static_member_expression b n | chain_elements.ComputedMemberExpression b ↦ of_computed_member_expression b n | chain_elements.CallExpression b ↦ of_call_expression b n ]
+pub chain_expression_by_expression : {N : Type 0} (P : ChainExpression N → Type 0) → ((b : Box (StaticMemberExpression N) Global) (n : ChainExpression N) → P (record n { expression = (chain_elements.StaticMemberExpression b) })) → ((b : Box (ComputedMemberExpression N) Global) (n : ChainExpression N) → P (record n { expression = (chain_elements.ComputedMemberExpression b) })) → ((b : Box (PrivateFieldExpression N) Global) (n : ChainExpression N) → P (record n { expression = (chain_elements.PrivateFieldExpression b) })) → ((b : Box (CallExpression N) Global) (n : ChainExpression N) → P (record n { expression = (chain_elements.CallExpression b) })) → (n : ChainExpression N) → P n
+chain_expression_by_expression P of_static_member_expression of_computed_member_expression of_private_field_expression of_call_expression n = elim n.expression as (λ o. P (record n { expression = o })) [ chain_elements.StaticMemberExpression b ↦ of_static_member_expression b n | chain_elements.ComputedMemberExpression b ↦ of_computed_member_expression b n | chain_elements.PrivateFieldExpression b ↦ of_private_field_expression b n | chain_elements.CallExpression b ↦ of_call_expression b n ]
 
-pub object_property_by_key : {N : Type 0} (P : ObjectProperty N → Type 0) → ((b : Box IdentifierName Global) (n : ObjectProperty N) → P (record n { key = (property_keys.IdentifierName b) })) → ((b : Box (ExpressionNode N) Global) (n : ObjectProperty N) → P (record n { key = (property_keys.Expression b) })) → (n : ObjectProperty N) → P n
-object_property_by_key P of_identifier_name of_expression n = elim n.key as (λ o. P (record n { key = o })) [ property_keys.IdentifierName b ↦ of_identifier_name b n | property_keys.Expression b ↦ of_expression b n ]
+pub object_property_by_key : {N : Type 0} (P : ObjectProperty N → Type 0) → ((b : Box IdentifierName Global) (n : ObjectProperty N) → P (record n { key = (property_keys.IdentifierName b) })) → ((b : Box PrivateIdentifier Global) (n : ObjectProperty N) → P (record n { key = (property_keys.PrivateIdentifier b) })) → ((b : Box (ExpressionNode N) Global) (n : ObjectProperty N) → P (record n { key = (property_keys.Expression b) })) → (n : ObjectProperty N) → P n
+object_property_by_key P of_identifier_name of_private_identifier of_expression n = elim n.key as (λ o. P (record n { key = o })) [ property_keys.IdentifierName b ↦ of_identifier_name b n | property_keys.PrivateIdentifier b ↦ of_private_identifier b n | property_keys.Expression b ↦ of_expression b n ]
 
-pub boxed_object_property_by_key : {N : Type 0} (P : Box (ObjectProperty N) Global → Type 0) → ((b : Box IdentifierName Global) (n : Box (ObjectProperty N) Global) → P (record n { value = record n.value { key = (property_keys.IdentifierName b) } })) → ((b : Box (ExpressionNode N) Global) (n : Box (ObjectProperty N) Global) → P (record n { value = record n.value { key = (property_keys.Expression b) } })) → (n : Box (ObjectProperty N) Global) → P n
-boxed_object_property_by_key P of_identifier_name of_expression n = elim n.value.key as (λ o. P (record n { value = record n.value { key = o } })) [ property_keys.IdentifierName b ↦ of_identifier_name b n | property_keys.Expression b ↦ of_expression b n ]
+pub boxed_object_property_by_key : {N : Type 0} (P : Box (ObjectProperty N) Global → Type 0) → ((b : Box IdentifierName Global) (n : Box (ObjectProperty N) Global) → P (record n { value = record n.value { key = (property_keys.IdentifierName b) } })) → ((b : Box PrivateIdentifier Global) (n : Box (ObjectProperty N) Global) → P (record n { value = record n.value { key = (property_keys.PrivateIdentifier b) } })) → ((b : Box (ExpressionNode N) Global) (n : Box (ObjectProperty N) Global) → P (record n { value = record n.value { key = (property_keys.Expression b) } })) → (n : Box (ObjectProperty N) Global) → P n
+boxed_object_property_by_key P of_identifier_name of_private_identifier of_expression n = elim n.value.key as (λ o. P (record n { value = record n.value { key = o } })) [ property_keys.IdentifierName b ↦ of_identifier_name b n | property_keys.PrivateIdentifier b ↦ of_private_identifier b n | property_keys.Expression b ↦ of_expression b n ]
 
-pub update_expression_by_argument : {N : Type 0} (P : UpdateExpression N → Type 0) → ((b : Box IdentifierReference Global) (n : UpdateExpression N) → P (record n { argument = (simple_assignment_targets.IdentifierReference b) })) → ((b : Box (StaticMemberExpression N) Global) (n : UpdateExpression N) → P (record n { argument = (simple_assignment_targets.StaticMemberExpression b) })) → ((b : Box (ComputedMemberExpression N) Global) (n : UpdateExpression N) → P (record n { argument = (simple_assignment_targets.ComputedMemberExpression b) })) → (n : UpdateExpression N) → P n
-update_expression_by_argument P of_identifier_reference of_static_member_expression of_computed_member_expression n = elim n.argument as (λ o. P (record n { argument = o })) [ simple_assignment_targets.IdentifierReference b ↦ of_identifier_reference b n | simple_assignment_targets.StaticMemberExpression b ↦ of_static_member_expression b n | simple_assignment_targets.ComputedMemberExpression b ↦ of_computed_member_expression b n ]
+pub update_expression_by_argument : {N : Type 0} (P : UpdateExpression N → Type 0) → ((b : Box IdentifierReference Global) (n : UpdateExpression N) → P (record n { argument = (simple_assignment_targets.IdentifierReference b) })) → ((b : Box (StaticMemberExpression N) Global) (n : UpdateExpression N) → P (record n { argument = (simple_assignment_targets.StaticMemberExpression b) })) → ((b : Box (ComputedMemberExpression N) Global) (n : UpdateExpression N) → P (record n { argument = (simple_assignment_targets.ComputedMemberExpression b) })) → ((b : Box (PrivateFieldExpression N) Global) (n : UpdateExpression N) → P (record n { argument = (simple_assignment_targets.PrivateFieldExpression b) })) → (n : UpdateExpression N) → P n
+update_expression_by_argument P of_identifier_reference of_static_member_expression of_computed_member_expression of_private_field_expression n = elim n.argument as (λ o. P (record n { argument = o })) [ simple_assignment_targets.IdentifierReference b ↦ of_identifier_reference b n | simple_assignment_targets.StaticMemberExpression b ↦ of_static_member_expression b n | simple_assignment_targets.ComputedMemberExpression b ↦ of_computed_member_expression b n | simple_assignment_targets.PrivateFieldExpression b ↦ of_private_field_expression b n ]
 
-pub assignment_expression_by_left : {N : Type 0} (P : AssignmentExpression N → Type 0) → ((b : Box IdentifierReference Global) (n : AssignmentExpression N) → P (record n { left = (assignment_targets.IdentifierReference b) })) → ((b : Box (StaticMemberExpression N) Global) (n : AssignmentExpression N) → P (record n { left = (assignment_targets.StaticMemberExpression b) })) → ((b : Box (ComputedMemberExpression N) Global) (n : AssignmentExpression N) → P (record n { left = (assignment_targets.ComputedMemberExpression b) })) → (n : AssignmentExpression N) → P n
-assignment_expression_by_left P of_identifier_reference of_static_member_expression of_computed_member_expression n = elim n.left as (λ o. P (record n { left = o })) [ assignment_targets.IdentifierReference b ↦ of_identifier_reference b n | assignment_targets.StaticMemberExpression b ↦ of_static_member_expression b n | assignment_targets.ComputedMemberExpression b ↦ of_computed_member_expression b n ]
+pub assignment_expression_by_left : {N : Type 0} (P : AssignmentExpression N → Type 0) → ((b : Box IdentifierReference Global) (n : AssignmentExpression N) → P (record n { left = (assignment_targets.IdentifierReference b) })) → ((b : Box (StaticMemberExpression N) Global) (n : AssignmentExpression N) → P (record n { left = (assignment_targets.StaticMemberExpression b) })) → ((b : Box (ComputedMemberExpression N) Global) (n : AssignmentExpression N) → P (record n { left = (assignment_targets.ComputedMemberExpression b) })) → ((b : Box (PrivateFieldExpression N) Global) (n : AssignmentExpression N) → P (record n { left = (assignment_targets.PrivateFieldExpression b) })) → (n : AssignmentExpression N) → P n
+assignment_expression_by_left P of_identifier_reference of_static_member_expression of_computed_member_expression of_private_field_expression n = elim n.left as (λ o. P (record n { left = o })) [ assignment_targets.IdentifierReference b ↦ of_identifier_reference b n | assignment_targets.StaticMemberExpression b ↦ of_static_member_expression b n | assignment_targets.ComputedMemberExpression b ↦ of_computed_member_expression b n | assignment_targets.PrivateFieldExpression b ↦ of_private_field_expression b n ]
 
 pub formal_parameter_by_initializer : {N : Type 0} (P : FormalParameter N → Type 0) → ((n : FormalParameter N) → P (record n { initializer = None })) → ((c : ExpressionNode N) (n : FormalParameter N) → P (record n { initializer = Some c })) → (n : FormalParameter N) → P n
 formal_parameter_by_initializer P none some n = elim n.initializer as (λ o. P (record n { initializer = o })) [ None ↦ none n | Some c ↦ some c n ]
@@ -139,8 +149,14 @@ boxed_formal_parameters_by_rest P none some n = elim n.value.rest as (λ o. P (r
 pub function_by_params : {N : Type 0} (P : Function N → Type 0) → ((c : Box (FormalParameters N) Global) (n : Function N) → P (record n { params = c })) → (n : Function N) → P n
 function_by_params P all n = all n.params n
 
+pub boxed_function_by_params : {N : Type 0} (P : Box (Function N) Global → Type 0) → ((c : Box (FormalParameters N) Global) (n : Box (Function N) Global) → P (record n { value = record n.value { params = c } })) → (n : Box (Function N) Global) → P n
+boxed_function_by_params P all n = all n.value.params n
+
 pub function_by_body : {N : Type 0} (P : Function N → Type 0) → ((n : Function N) → P (record n { body = None })) → ((c : Box (FunctionBody N) Global) (n : Function N) → P (record n { body = Some c })) → (n : Function N) → P n
 function_by_body P none some n = elim n.body as (λ o. P (record n { body = o })) [ None ↦ none n | Some c ↦ some c n ]
+
+pub boxed_function_by_body : {N : Type 0} (P : Box (Function N) Global → Type 0) → ((n : Box (Function N) Global) → P (record n { value = record n.value { body = None } })) → ((c : Box (FunctionBody N) Global) (n : Box (Function N) Global) → P (record n { value = record n.value { body = Some c } })) → (n : Box (Function N) Global) → P n
+boxed_function_by_body P none some n = elim n.value.body as (λ o. P (record n { value = record n.value { body = o } })) [ None ↦ none n | Some c ↦ some c n ]
 
 pub arrow_function_expression_by_params : {N : Type 0} (P : ArrowFunctionExpression N → Type 0) → ((c : Box (FormalParameters N) Global) (n : ArrowFunctionExpression N) → P (record n { params = c })) → (n : ArrowFunctionExpression N) → P n
 arrow_function_expression_by_params P all n = all n.params n
@@ -157,11 +173,11 @@ for_statement_by_test P none some n = elim n.test as (λ o. P (record n { test =
 pub for_statement_by_update : {N : Type 0} (P : ForStatement N → Type 0) → ((n : ForStatement N) → P (record n { update = None })) → ((c : ExpressionNode N) (n : ForStatement N) → P (record n { update = Some c })) → (n : ForStatement N) → P n
 for_statement_by_update P none some n = elim n.update as (λ o. P (record n { update = o })) [ None ↦ none n | Some c ↦ some c n ]
 
-pub for_in_statement_by_left : {N : Type 0} (P : ForInStatement N → Type 0) → ((b : Box (VariableDeclaration N) Global) (n : ForInStatement N) → P (record n { left = (for_statement_lefts.VariableDeclaration b) })) → ((b : Box IdentifierReference Global) (n : ForInStatement N) → P (record n { left = (for_statement_lefts.IdentifierReference b) })) → ((b : Box (StaticMemberExpression N) Global) (n : ForInStatement N) → P (record n { left = (for_statement_lefts.StaticMemberExpression b) })) → ((b : Box (ComputedMemberExpression N) Global) (n : ForInStatement N) → P (record n { left = (for_statement_lefts.ComputedMemberExpression b) })) → (n : ForInStatement N) → P n
-for_in_statement_by_left P of_variable_declaration of_identifier_reference of_static_member_expression of_computed_member_expression n = elim n.left as (λ o. P (record n { left = o })) [ for_statement_lefts.VariableDeclaration b ↦ of_variable_declaration b n | for_statement_lefts.IdentifierReference b ↦ of_identifier_reference b n | for_statement_lefts.StaticMemberExpression b ↦ of_static_member_expression b n | for_statement_lefts.ComputedMemberExpression b ↦ of_computed_member_expression b n ]
+pub for_in_statement_by_left : {N : Type 0} (P : ForInStatement N → Type 0) → ((b : Box (VariableDeclaration N) Global) (n : ForInStatement N) → P (record n { left = (for_statement_lefts.VariableDeclaration b) })) → ((b : Box IdentifierReference Global) (n : ForInStatement N) → P (record n { left = (for_statement_lefts.IdentifierReference b) })) → ((b : Box (StaticMemberExpression N) Global) (n : ForInStatement N) → P (record n { left = (for_statement_lefts.StaticMemberExpression b) })) → ((b : Box (ComputedMemberExpression N) Global) (n : ForInStatement N) → P (record n { left = (for_statement_lefts.ComputedMemberExpression b) })) → ((b : Box (PrivateFieldExpression N) Global) (n : ForInStatement N) → P (record n { left = (for_statement_lefts.PrivateFieldExpression b) })) → (n : ForInStatement N) → P n
+for_in_statement_by_left P of_variable_declaration of_identifier_reference of_static_member_expression of_computed_member_expression of_private_field_expression n = elim n.left as (λ o. P (record n { left = o })) [ for_statement_lefts.VariableDeclaration b ↦ of_variable_declaration b n | for_statement_lefts.IdentifierReference b ↦ of_identifier_reference b n | for_statement_lefts.StaticMemberExpression b ↦ of_static_member_expression b n | for_statement_lefts.ComputedMemberExpression b ↦ of_computed_member_expression b n | for_statement_lefts.PrivateFieldExpression b ↦ of_private_field_expression b n ]
 
-pub for_of_statement_by_left : {N : Type 0} (P : ForOfStatement N → Type 0) → ((b : Box (VariableDeclaration N) Global) (n : ForOfStatement N) → P (record n { left = (for_statement_lefts.VariableDeclaration b) })) → ((b : Box IdentifierReference Global) (n : ForOfStatement N) → P (record n { left = (for_statement_lefts.IdentifierReference b) })) → ((b : Box (StaticMemberExpression N) Global) (n : ForOfStatement N) → P (record n { left = (for_statement_lefts.StaticMemberExpression b) })) → ((b : Box (ComputedMemberExpression N) Global) (n : ForOfStatement N) → P (record n { left = (for_statement_lefts.ComputedMemberExpression b) })) → (n : ForOfStatement N) → P n
-for_of_statement_by_left P of_variable_declaration of_identifier_reference of_static_member_expression of_computed_member_expression n = elim n.left as (λ o. P (record n { left = o })) [ for_statement_lefts.VariableDeclaration b ↦ of_variable_declaration b n | for_statement_lefts.IdentifierReference b ↦ of_identifier_reference b n | for_statement_lefts.StaticMemberExpression b ↦ of_static_member_expression b n | for_statement_lefts.ComputedMemberExpression b ↦ of_computed_member_expression b n ]
+pub for_of_statement_by_left : {N : Type 0} (P : ForOfStatement N → Type 0) → ((b : Box (VariableDeclaration N) Global) (n : ForOfStatement N) → P (record n { left = (for_statement_lefts.VariableDeclaration b) })) → ((b : Box IdentifierReference Global) (n : ForOfStatement N) → P (record n { left = (for_statement_lefts.IdentifierReference b) })) → ((b : Box (StaticMemberExpression N) Global) (n : ForOfStatement N) → P (record n { left = (for_statement_lefts.StaticMemberExpression b) })) → ((b : Box (ComputedMemberExpression N) Global) (n : ForOfStatement N) → P (record n { left = (for_statement_lefts.ComputedMemberExpression b) })) → ((b : Box (PrivateFieldExpression N) Global) (n : ForOfStatement N) → P (record n { left = (for_statement_lefts.PrivateFieldExpression b) })) → (n : ForOfStatement N) → P n
+for_of_statement_by_left P of_variable_declaration of_identifier_reference of_static_member_expression of_computed_member_expression of_private_field_expression n = elim n.left as (λ o. P (record n { left = o })) [ for_statement_lefts.VariableDeclaration b ↦ of_variable_declaration b n | for_statement_lefts.IdentifierReference b ↦ of_identifier_reference b n | for_statement_lefts.StaticMemberExpression b ↦ of_static_member_expression b n | for_statement_lefts.ComputedMemberExpression b ↦ of_computed_member_expression b n | for_statement_lefts.PrivateFieldExpression b ↦ of_private_field_expression b n ]
 
 pub return_statement_by_argument : {N : Type 0} (P : ReturnStatement N → Type 0) → ((n : ReturnStatement N) → P (record n { argument = None })) → ((c : ExpressionNode N) (n : ReturnStatement N) → P (record n { argument = Some c })) → (n : ReturnStatement N) → P n
 return_statement_by_argument P none some n = elim n.argument as (λ o. P (record n { argument = o })) [ None ↦ none n | Some c ↦ some c n ]
@@ -184,8 +200,23 @@ boxed_catch_clause_by_param P none some n = elim n.value.param as (λ o. P (reco
 pub object_pattern_by_rest : {N : Type 0} (P : ObjectPattern N → Type 0) → ((n : ObjectPattern N) → P (record n { rest = None })) → ((c : Box (BindingRestElement N) Global) (n : ObjectPattern N) → P (record n { rest = Some c })) → (n : ObjectPattern N) → P n
 object_pattern_by_rest P none some n = elim n.rest as (λ o. P (record n { rest = o })) [ None ↦ none n | Some c ↦ some c n ]
 
-pub binding_property_by_key : {N : Type 0} (P : BindingProperty N → Type 0) → ((b : Box IdentifierName Global) (n : BindingProperty N) → P (record n { key = (property_keys.IdentifierName b) })) → ((b : Box (ExpressionNode N) Global) (n : BindingProperty N) → P (record n { key = (property_keys.Expression b) })) → (n : BindingProperty N) → P n
-binding_property_by_key P of_identifier_name of_expression n = elim n.key as (λ o. P (record n { key = o })) [ property_keys.IdentifierName b ↦ of_identifier_name b n | property_keys.Expression b ↦ of_expression b n ]
+pub binding_property_by_key : {N : Type 0} (P : BindingProperty N → Type 0) → ((b : Box IdentifierName Global) (n : BindingProperty N) → P (record n { key = (property_keys.IdentifierName b) })) → ((b : Box PrivateIdentifier Global) (n : BindingProperty N) → P (record n { key = (property_keys.PrivateIdentifier b) })) → ((b : Box (ExpressionNode N) Global) (n : BindingProperty N) → P (record n { key = (property_keys.Expression b) })) → (n : BindingProperty N) → P n
+binding_property_by_key P of_identifier_name of_private_identifier of_expression n = elim n.key as (λ o. P (record n { key = o })) [ property_keys.IdentifierName b ↦ of_identifier_name b n | property_keys.PrivateIdentifier b ↦ of_private_identifier b n | property_keys.Expression b ↦ of_expression b n ]
 
 pub array_pattern_by_rest : {N : Type 0} (P : ArrayPattern N → Type 0) → ((n : ArrayPattern N) → P (record n { rest = None })) → ((c : Box (BindingRestElement N) Global) (n : ArrayPattern N) → P (record n { rest = Some c })) → (n : ArrayPattern N) → P n
 array_pattern_by_rest P none some n = elim n.rest as (λ o. P (record n { rest = o })) [ None ↦ none n | Some c ↦ some c n ]
+
+pub class_by_heritage : {N : Type 0} (P : Class N → Type 0) → ((n : Class N) → P (record n { heritage = None })) → ((c : ExpressionNode N) (n : Class N) → P (record n { heritage = Some c })) → (n : Class N) → P n
+class_by_heritage P none some n = elim n.heritage as (λ o. P (record n { heritage = o })) [ None ↦ none n | Some c ↦ some c n ]
+
+pub method_definition_by_key : {N : Type 0} (P : MethodDefinition N → Type 0) → ((b : Box IdentifierName Global) (n : MethodDefinition N) → P (record n { key = (property_keys.IdentifierName b) })) → ((b : Box PrivateIdentifier Global) (n : MethodDefinition N) → P (record n { key = (property_keys.PrivateIdentifier b) })) → ((b : Box (ExpressionNode N) Global) (n : MethodDefinition N) → P (record n { key = (property_keys.Expression b) })) → (n : MethodDefinition N) → P n
+method_definition_by_key P of_identifier_name of_private_identifier of_expression n = elim n.key as (λ o. P (record n { key = o })) [ property_keys.IdentifierName b ↦ of_identifier_name b n | property_keys.PrivateIdentifier b ↦ of_private_identifier b n | property_keys.Expression b ↦ of_expression b n ]
+
+pub method_definition_by_value : {N : Type 0} (P : MethodDefinition N → Type 0) → ((c : Box (Function N) Global) (n : MethodDefinition N) → P (record n { value = c })) → (n : MethodDefinition N) → P n
+method_definition_by_value P all n = all n.value n
+
+pub property_definition_by_key : {N : Type 0} (P : PropertyDefinition N → Type 0) → ((b : Box IdentifierName Global) (n : PropertyDefinition N) → P (record n { key = (property_keys.IdentifierName b) })) → ((b : Box PrivateIdentifier Global) (n : PropertyDefinition N) → P (record n { key = (property_keys.PrivateIdentifier b) })) → ((b : Box (ExpressionNode N) Global) (n : PropertyDefinition N) → P (record n { key = (property_keys.Expression b) })) → (n : PropertyDefinition N) → P n
+property_definition_by_key P of_identifier_name of_private_identifier of_expression n = elim n.key as (λ o. P (record n { key = o })) [ property_keys.IdentifierName b ↦ of_identifier_name b n | property_keys.PrivateIdentifier b ↦ of_private_identifier b n | property_keys.Expression b ↦ of_expression b n ]
+
+pub property_definition_by_value : {N : Type 0} (P : PropertyDefinition N → Type 0) → ((n : PropertyDefinition N) → P (record n { value = None })) → ((c : ExpressionNode N) (n : PropertyDefinition N) → P (record n { value = Some c })) → (n : PropertyDefinition N) → P n
+property_definition_by_value P none some n = elim n.value as (λ o. P (record n { value = o })) [ None ↦ none n | Some c ↦ some c n ]

@@ -13,6 +13,8 @@ use Rattle.jsgen_syntax.specs.declared.operator.UnaryOperator.{UnaryOperator}
 use Rattle.jsgen_syntax.specs.declared.operator.UpdateOperator.{UpdateOperator}
 use Rattle.jsgen_syntax.specs.declared.operator.AssignmentOperator.{AssignmentOperator}
 use Rattle.jsgen_tree.specs.declared.functions.FunctionKind.{FunctionKind}
+use Rattle.jsgen_tree.specs.declared.classes.ClassKind.{ClassKind}
+use Rattle.jsgen_tree.specs.declared.classes.MethodDefinitionKind.{MethodDefinitionKind}
 
 pub data Atom : Type 0 where
   -- of a field that is absent
@@ -35,3 +37,5 @@ pub data Atom : Type 0 where
   update_operator : UpdateOperator → Atom
   assignment_operator : AssignmentOperator → Atom
   kind_of_function : FunctionKind → Atom
+  class_form : ClassKind → Atom
+  kind_of_method : MethodDefinitionKind → Atom

@@ -19,6 +19,8 @@ use Rattle.jsgen_syntax.specs.declared.operator.UnaryOperator.TheVariants as una
 use Rattle.jsgen_syntax.specs.declared.operator.UpdateOperator.TheVariants as update_operators
 use Rattle.jsgen_syntax.specs.declared.operator.AssignmentOperator.TheVariants as assignment_operators
 use Rattle.jsgen_tree.specs.declared.functions.FunctionKind.TheVariants as kind_of_functions
+use Rattle.jsgen_tree.specs.declared.classes.ClassKind.TheVariants as class_forms
+use Rattle.jsgen_tree.specs.declared.classes.MethodDefinitionKind.TheVariants as kind_of_methods
 
 -- ---- words
 
@@ -57,6 +59,12 @@ assignment_operator_words = means (codes "=") (atoms.assignment_operator assignm
 
 abbrev pub kind_of_function_words : List Word
 kind_of_function_words = means (codes "declaration") (atoms.kind_of_function kind_of_functions.Declaration) ∷ means (codes "expression") (atoms.kind_of_function kind_of_functions.Expression) ∷ []
+
+abbrev pub class_form_words : List Word
+class_form_words = means (codes "declaration") (atoms.class_form class_forms.Declaration) ∷ means (codes "expression") (atoms.class_form class_forms.Expression) ∷ []
+
+abbrev pub kind_of_method_words : List Word
+kind_of_method_words = means (codes "constructor") (atoms.kind_of_method kind_of_methods.Constructor) ∷ means (codes "method") (atoms.kind_of_method kind_of_methods.Method) ∷ means (codes "get") (atoms.kind_of_method kind_of_methods.Get) ∷ means (codes "set") (atoms.kind_of_method kind_of_methods.Set) ∷ []
 
 -- ---- fields: one list for each type, in the order of their numbers, from 2 on
 
@@ -127,3 +135,11 @@ fields types.BindingProperty = needs (codes "key") (sorts.child sets.PropertyKey
 fields types.BindingRestElement = needs (codes "argument") (sorts.child sets.BindingPattern) ∷ []
 fields types.ArrayPattern = may_have (codes "elements") (sorts.children_or_holes sets.BindingPattern) ∷ may_have (codes "rest") (sorts.child sets.BindingRestElement) ∷ []
 fields types.AssignmentPattern = needs (codes "left") (sorts.child sets.BindingPattern) ∷ needs (codes "right") (sorts.child sets.Expression) ∷ []
+fields types.PrivateIdentifier = needs (codes "name") sorts.text ∷ []
+fields types.PrivateFieldExpression = needs (codes "object") (sorts.child sets.Expression) ∷ has_by_default (atoms.flag false) (codes "optional") sorts.flag ∷ needs (codes "field") (sorts.child sets.PrivateIdentifier) ∷ []
+fields types.PrivateInExpression = needs (codes "left") (sorts.child sets.PrivateIdentifier) ∷ needs (codes "right") (sorts.child sets.Expression) ∷ []
+fields types.Class = needs (codes "kind") (sorts.word class_form_words) ∷ not_yet (codes "decorators") sorts.unread_child ∷ may_have (codes "id") (sorts.child sets.BindingIdentifier) ∷ not_yet (codes "declare") sorts.flag ∷ not_yet (codes "is_abstract") sorts.flag ∷ not_yet (codes "type_parameters") sorts.unread_child ∷ may_have (codes "heritage") (sorts.child sets.Expression) ∷ not_yet (codes "heritage_arguments") sorts.unread_child ∷ not_yet (codes "implements") sorts.unread_child ∷ needs (codes "body") (sorts.child sets.ClassBody) ∷ []
+fields types.ClassBody = may_have (codes "body") (sorts.children sets.ClassElement) ∷ []
+fields types.StaticBlock = may_have (codes "body") (sorts.children sets.Statement) ∷ []
+fields types.MethodDefinition = not_yet (codes "decorators") sorts.unread_child ∷ needs (codes "kind") (sorts.word kind_of_method_words) ∷ needs (codes "key") (sorts.child sets.PropertyKey) ∷ needs (codes "value") (sorts.child sets.Function) ∷ not_yet (codes "accessibility") sorts.unread_child ∷ has_by_default (atoms.flag false) (codes "computed") sorts.flag ∷ has_by_default (atoms.flag false) (codes "is_static") sorts.flag ∷ not_yet (codes "is_override") sorts.flag ∷ not_yet (codes "is_abstract") sorts.flag ∷ not_yet (codes "optional") sorts.flag ∷ []
+fields types.PropertyDefinition = not_yet (codes "decorators") sorts.unread_child ∷ needs (codes "key") (sorts.child sets.PropertyKey) ∷ not_yet (codes "accessibility") sorts.unread_child ∷ has_by_default (atoms.flag false) (codes "computed") sorts.flag ∷ not_yet (codes "declare") sorts.flag ∷ not_yet (codes "is_abstract") sorts.flag ∷ has_by_default (atoms.flag false) (codes "is_static") sorts.flag ∷ not_yet (codes "is_override") sorts.flag ∷ not_yet (codes "readonly") sorts.flag ∷ not_yet (codes "optional") sorts.flag ∷ not_yet (codes "definite") sorts.flag ∷ not_yet (codes "type_annotation") sorts.unread_child ∷ may_have (codes "value") (sorts.child sets.Expression) ∷ []

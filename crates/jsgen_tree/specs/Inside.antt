@@ -2,13 +2,14 @@
 use Rattle.std.specs.Prelude.{◌≡◌, ◌==◌, ℕ, List, [], ◌∷◌, Bool, true, false, Option, Some, None, is_some, option_and_then, codes, if◌then◌else◌, ◌||◌}
 use Rattle.std.specs.Str.{bytes_eq}
 use Rattle.jsgen_tree.specs.Tree.{Tree, Atoms, absent, given, type_of}
-use Rattle.jsgen_tree.specs.Nodes.{parenthesized, if_statement, for_statement, for_in_statement, for_of_statement, while_statement, labeled_statement, variable_declaration, function, identifier_reference, identifier_name, numeric_literal, big_int_literal, static_member, computed_member, call, binding_identifier, assignment_pattern}
+use Rattle.jsgen_tree.specs.Nodes.{parenthesized, if_statement, for_statement, for_in_statement, for_of_statement, while_statement, labeled_statement, variable_declaration, function, identifier_reference, identifier_name, numeric_literal, big_int_literal, static_member, computed_member, call, binding_identifier, assignment_pattern, private_member, class}
 use Rattle.jsgen_tree.specs.Named.{Named, looked_up, bound}
-use Rattle.jsgen_tree.specs.Values.{variable_declaration_kind, identifier_reference_name, identifier_reference_reference, binding_identifier_name, binding_identifier_symbol, identifier_name_name, numeric_literal_negative, big_int_literal_value, static_member_expression_optional, computed_member_expression_optional, call_expression_optional}
+use Rattle.jsgen_tree.specs.Values.{variable_declaration_kind, identifier_reference_name, identifier_reference_reference, binding_identifier_name, binding_identifier_symbol, identifier_name_name, numeric_literal_negative, big_int_literal_value, static_member_expression_optional, computed_member_expression_optional, call_expression_optional, private_field_expression_optional, class_kind}
 use Rattle.jsgen_tree.specs.Sets.{is_expression}
 use Rattle.jsgen_tree.specs.Characters.{characters}
 use Rattle.jsgen_tree.specs.declared.collections.PropertyKind.{PropertyKind}
 use Rattle.jsgen_tree.specs.declared.collections.PropertyKind.TheVariants as property_kinds
+use Rattle.jsgen_tree.specs.declared.classes.ClassKind.{ClassKind}
 use Rattle.jsgen_tree.specs.declared.types.NodeType.{NodeType}
 use Rattle.jsgen_tree.specs.declared.types.NodeType.TheVariants as types
 use Rattle.jsgen_tree.specs.declared.expressions.IdentifierReference.{IdentifierReference}
@@ -31,6 +32,11 @@ abbrev pub function_in : Tree → Option Tree
 function_in (function a id params body) = Some (function a id params body)
 function_in t = None
 
+-- of which kind a class is
+abbrev pub class_kind_in : Tree → Option ClassKind
+class_kind_in (class a id heritage body) = Some (class_kind a)
+class_kind_in t = None
+
 -- a property is a method or an accessor, whose function follows its key (ECMA-262, 15.4)
 abbrev pub is_method : PropertyKind → Bool → Bool
 is_method property_kinds.Init method = method
@@ -41,18 +47,19 @@ abbrev pub declared_kind : Tree → Option VariableDeclarationKind
 declared_kind (variable_declaration a declarations) = Some (variable_declaration_kind a)
 declared_kind t = None
 
--- the type is one of expressions, and of nothing else: a function may be a declaration too
+-- the type is one of expressions, and of nothing else: a function or a class may be a declaration too
 abbrev pub is_only_expression : NodeType → Bool
 is_only_expression types.Function = false
+is_only_expression types.Class = false
 is_only_expression type = is_expression type
 
--- What stands within the parentheses that an expression may have round it. Round a function they stay, which is one for all that is
+-- What stands within the parentheses that an expression may have round it. Round a function or a class they stay, which is one for all that is
 -- asked of what stands there
 abbrev pub without_parentheses : Tree → Tree
 without_parentheses (parenthesized a expression) = if is_only_expression (type_of expression) then without_parentheses expression else parenthesized a expression
 without_parentheses t = t
 
--- an expression that is no function, and what stands within its parentheses
+-- an expression that is no function or class, and what stands within its parentheses
 abbrev pub IsInside : Tree → Tree → Type 0
 IsInside outer inner = (is_only_expression (type_of outer) ≡ true) × (inner ≡ without_parentheses outer)
 
@@ -61,6 +68,7 @@ abbrev pub has_optional_link : Tree → Bool
 has_optional_link (static_member a object property) = static_member_expression_optional a || has_optional_link object
 has_optional_link (computed_member a object expression) = computed_member_expression_optional a || has_optional_link object
 has_optional_link (call a callee arguments) = call_expression_optional a || has_optional_link callee
+has_optional_link (private_member a object field) = private_field_expression_optional a || has_optional_link object
 has_optional_link t = false
 
 -- ---- names

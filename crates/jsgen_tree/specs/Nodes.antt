@@ -200,3 +200,27 @@ array_pattern a elements rest = node types.ArrayPattern a (many elements (maybe 
 
 pattern abbrev pub assignment_pattern : Atoms → Tree → Tree → Tree
 assignment_pattern a left right = node types.AssignmentPattern a (one left (one right no_slots))
+
+pattern abbrev pub private_identifier : Atoms → Tree
+private_identifier a = node types.PrivateIdentifier a no_slots
+
+pattern abbrev pub private_member : Atoms → Tree → Tree → Tree
+private_member a object field = node types.PrivateFieldExpression a (one object (one field no_slots))
+
+pattern abbrev pub private_in : Atoms → Tree → Tree → Tree
+private_in a left right = node types.PrivateInExpression a (one left (one right no_slots))
+
+pattern abbrev pub class : Atoms → Maybe → Maybe → Tree → Tree
+class a id heritage body = node types.Class a (maybe id (maybe heritage (one body no_slots)))
+
+pattern abbrev pub class_body : Atoms → Trees → Tree
+class_body a body = node types.ClassBody a (many body no_slots)
+
+pattern abbrev pub static_block : Atoms → Trees → Tree
+static_block a body = node types.StaticBlock a (many body no_slots)
+
+pattern abbrev pub method_definition : Atoms → Tree → Tree → Tree
+method_definition a key value = node types.MethodDefinition a (one key (one value no_slots))
+
+pattern abbrev pub property_definition : Atoms → Tree → Maybe → Tree
+property_definition a key value = node types.PropertyDefinition a (one key (maybe value no_slots))

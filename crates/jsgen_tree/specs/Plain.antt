@@ -1,7 +1,7 @@
 -- Generated from tools/nodes/table.txt; edit that and run tools/nodes/generate.
 -- The plain data of the recursive type.
 use Rattle.jsgen_tree.specs.Tree.{Tree}
-use Rattle.jsgen_tree.specs.Rows.{program_row, expression_plain, declaration_plain, statement_plain, binding_pattern_plain}
+use Rattle.jsgen_tree.specs.Rows.{program_row, expression_plain, declaration_plain, statement_plain, binding_pattern_plain, class_element_plain}
 use Rattle.jsgen_tree.specs.declared.statements.Program.{Program}
 use Rattle.jsgen_tree.specs.declared.nodes.Node.{Node, Node-F, fold-Node}
 use Rattle.jsgen_tree.specs.declared.nodes.Node.TheOpen as layers
@@ -12,6 +12,7 @@ layer (layers.Expression b) = expression_plain (λ t. t) b
 layer (layers.Declaration b) = declaration_plain (λ t. t) b
 layer (layers.Statement b) = statement_plain (λ t. t) b
 layer (layers.BindingPattern b) = binding_pattern_plain (λ t. t) b
+layer (layers.ClassElement b) = class_element_plain (λ t. t) b
 
 unfoldable pub node_plain : Node → Tree
 node_plain = fold-Node Tree layer

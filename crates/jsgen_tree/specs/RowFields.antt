@@ -202,3 +202,27 @@ array_pattern_fields = fields types.ArrayPattern
 
 abbrev pub assignment_pattern_fields : List Field
 assignment_pattern_fields = fields types.AssignmentPattern
+
+abbrev pub private_identifier_fields : List Field
+private_identifier_fields = fields types.PrivateIdentifier
+
+abbrev pub private_field_expression_fields : List Field
+private_field_expression_fields = fields types.PrivateFieldExpression
+
+abbrev pub private_in_expression_fields : List Field
+private_in_expression_fields = fields types.PrivateInExpression
+
+abbrev pub class_fields : List Field
+class_fields = fields types.Class
+
+abbrev pub class_body_fields : List Field
+class_body_fields = fields types.ClassBody
+
+abbrev pub static_block_fields : List Field
+static_block_fields = fields types.StaticBlock
+
+abbrev pub method_definition_fields : List Field
+method_definition_fields = fields types.MethodDefinition
+
+abbrev pub property_definition_fields : List Field
+property_definition_fields = fields types.PropertyDefinition

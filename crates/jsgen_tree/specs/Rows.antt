@@ -4,12 +4,13 @@ use Rattle.std.specs.Prelude.{[], ◌∷◌, map, option_map}
 use Rattle.jsgen_syntax.specs.Units.{js_units}
 use Rattle.jsgen_tree.specs.Characters.{characters, number_if_given, numeric_values}
 use Rattle.jsgen_tree.specs.Tree.{Tree, optional, trees, holed}
-use Rattle.jsgen_tree.specs.Atom.{no_value, text, units, number, flag, kind_of_comment, content_of_comment, source_kind, declaration_kind, binary_operator, logical_operator, property_kind, unary_operator, update_operator, assignment_operator, kind_of_function}
-use Rattle.jsgen_tree.specs.Nodes.{program, comment, directive, variable_declaration, variable_declarator, binding_identifier, expression_statement, block, if_statement, empty_statement, identifier_reference, this_expression, null_literal, boolean_literal, numeric_literal, big_int_literal, string_literal, reg_exp_literal, parenthesized, binary, logical, identifier_name, static_member, computed_member, call, chain, spread, array, object_property, object_expression, unary, new_target, update, new_expression, super, import_meta, conditional, sequence, assignment, formal_parameter, formal_parameter_rest, formal_parameters, function, function_body, arrow_function, for_statement, for_in_statement, for_of_statement, while_statement, do_while_statement, label_identifier, labeled_statement, continue_statement, break_statement, return_statement, throw_statement, debugger_statement, switch_statement, switch_case, try_statement, catch_clause, object_pattern, binding_property, binding_rest_element, array_pattern, assignment_pattern}
+use Rattle.jsgen_tree.specs.Atom.{no_value, text, units, number, flag, kind_of_comment, content_of_comment, source_kind, declaration_kind, binary_operator, logical_operator, property_kind, unary_operator, update_operator, assignment_operator, kind_of_function, class_form, kind_of_method}
+use Rattle.jsgen_tree.specs.Nodes.{program, comment, directive, variable_declaration, variable_declarator, binding_identifier, expression_statement, block, if_statement, empty_statement, identifier_reference, this_expression, null_literal, boolean_literal, numeric_literal, big_int_literal, string_literal, reg_exp_literal, parenthesized, binary, logical, identifier_name, static_member, computed_member, call, chain, spread, array, object_property, object_expression, unary, new_target, update, new_expression, super, import_meta, conditional, sequence, assignment, formal_parameter, formal_parameter_rest, formal_parameters, function, function_body, arrow_function, for_statement, for_in_statement, for_of_statement, while_statement, do_while_statement, label_identifier, labeled_statement, continue_statement, break_statement, return_statement, throw_statement, debugger_statement, switch_statement, switch_case, try_statement, catch_clause, object_pattern, binding_property, binding_rest_element, array_pattern, assignment_pattern, private_identifier, private_member, private_in, class, class_body, static_block, method_definition, property_definition}
 use Rattle.jsgen_tree.specs.declared.nodes.ExpressionNode.{ExpressionNode}
 use Rattle.jsgen_tree.specs.declared.nodes.DeclarationNode.{DeclarationNode}
 use Rattle.jsgen_tree.specs.declared.nodes.StatementNode.{StatementNode}
 use Rattle.jsgen_tree.specs.declared.nodes.BindingPatternNode.{BindingPatternNode}
+use Rattle.jsgen_tree.specs.declared.nodes.ClassElementNode.{ClassElementNode}
 use Rattle.jsgen_tree.specs.declared.statements.Program.{Program}
 use Rattle.jsgen_tree.specs.declared.statements.Comment.{Comment}
 use Rattle.jsgen_tree.specs.declared.statements.Directive.{Directive}
@@ -76,6 +77,14 @@ use Rattle.jsgen_tree.specs.declared.patterns.BindingProperty.{BindingProperty}
 use Rattle.jsgen_tree.specs.declared.patterns.BindingRestElement.{BindingRestElement}
 use Rattle.jsgen_tree.specs.declared.patterns.ArrayPattern.{ArrayPattern}
 use Rattle.jsgen_tree.specs.declared.patterns.AssignmentPattern.{AssignmentPattern}
+use Rattle.jsgen_tree.specs.declared.classes.PrivateIdentifier.{PrivateIdentifier}
+use Rattle.jsgen_tree.specs.declared.classes.PrivateFieldExpression.{PrivateFieldExpression}
+use Rattle.jsgen_tree.specs.declared.classes.PrivateInExpression.{PrivateInExpression}
+use Rattle.jsgen_tree.specs.declared.classes.Class.{Class}
+use Rattle.jsgen_tree.specs.declared.classes.ClassBody.{ClassBody}
+use Rattle.jsgen_tree.specs.declared.classes.StaticBlock.{StaticBlock}
+use Rattle.jsgen_tree.specs.declared.classes.MethodDefinition.{MethodDefinition}
+use Rattle.jsgen_tree.specs.declared.classes.PropertyDefinition.{PropertyDefinition}
 use Rattle.jsgen_tree.specs.declared.sets.Expression.{Expression}
 use Rattle.jsgen_tree.specs.declared.sets.Argument.{Argument}
 use Rattle.jsgen_tree.specs.declared.sets.ArrayExpressionElement.{ArrayExpressionElement}
@@ -90,6 +99,7 @@ use Rattle.jsgen_tree.specs.declared.sets.PropertyKey.{PropertyKey}
 use Rattle.jsgen_tree.specs.declared.sets.Declaration.{Declaration}
 use Rattle.jsgen_tree.specs.declared.sets.Statement.{Statement}
 use Rattle.jsgen_tree.specs.declared.sets.BindingPattern.{BindingPattern}
+use Rattle.jsgen_tree.specs.declared.sets.ClassElement.{ClassElement}
 use Rattle.jsgen_tree.specs.declared.sets.Expression.TheVariants as expression
 use Rattle.jsgen_tree.specs.declared.sets.Argument.TheVariants as argument
 use Rattle.jsgen_tree.specs.declared.sets.ArrayExpressionElement.TheVariants as array_expression_element
@@ -104,6 +114,7 @@ use Rattle.jsgen_tree.specs.declared.sets.PropertyKey.TheVariants as property_ke
 use Rattle.jsgen_tree.specs.declared.sets.Declaration.TheVariants as declaration
 use Rattle.jsgen_tree.specs.declared.sets.Statement.TheVariants as statement
 use Rattle.jsgen_tree.specs.declared.sets.BindingPattern.TheVariants as binding_pattern
+use Rattle.jsgen_tree.specs.declared.sets.ClassElement.TheVariants as class_element
 
 -- ---- children that nest
 
@@ -118,6 +129,9 @@ in_statement plain n = plain n.node
 
 abbrev pub in_binding_pattern : {N : Type 0} → (N → Tree) → BindingPatternNode N → Tree
 in_binding_pattern plain n = plain n.node
+
+abbrev pub in_class_element : {N : Type 0} → (N → Tree) → ClassElementNode N → Tree
+in_class_element plain n = plain n.node
 
 -- ---- structs, and sets that don't nest
 
@@ -203,9 +217,16 @@ in_argument plain (argument.Expression b) = in_expression plain b.value
 abbrev pub call_expression_row : {N : Type 0} → (N → Tree) → CallExpression N → Tree
 call_expression_row plain n = call (record { span = n.span; values = flag n.optional ∷ flag n.pure ∷ [] }) (in_expression plain n.callee) (trees (map (in_argument plain) n.arguments.items))
 
+abbrev pub private_identifier_row : PrivateIdentifier → Tree
+private_identifier_row n = private_identifier (record { span = n.span; values = text (characters n.name) ∷ [] })
+
+abbrev pub private_field_expression_row : {N : Type 0} → (N → Tree) → PrivateFieldExpression N → Tree
+private_field_expression_row plain n = private_member (record { span = n.span; values = flag n.optional ∷ [] }) (in_expression plain n.object) (private_identifier_row n.field.value)
+
 abbrev pub in_chain_element : {N : Type 0} → (N → Tree) → ChainElement N → Tree
 in_chain_element plain (chain_element.StaticMemberExpression b) = static_member_expression_row plain b.value
 in_chain_element plain (chain_element.ComputedMemberExpression b) = computed_member_expression_row plain b.value
+in_chain_element plain (chain_element.PrivateFieldExpression b) = private_field_expression_row plain b.value
 in_chain_element plain (chain_element.CallExpression b) = call_expression_row plain b.value
 
 abbrev pub chain_expression_row : {N : Type 0} → (N → Tree) → ChainExpression N → Tree
@@ -220,6 +241,7 @@ array_expression_row plain n = array (record { span = n.span; values = [] }) (ho
 
 abbrev pub in_property_key : {N : Type 0} → (N → Tree) → PropertyKey N → Tree
 in_property_key plain (property_key.IdentifierName b) = identifier_name_row b.value
+in_property_key plain (property_key.PrivateIdentifier b) = private_identifier_row b.value
 in_property_key plain (property_key.Expression b) = in_expression plain b.value
 
 abbrev pub object_property_row : {N : Type 0} → (N → Tree) → ObjectProperty N → Tree
@@ -242,6 +264,7 @@ abbrev pub in_simple_assignment_target : {N : Type 0} → (N → Tree) → Simpl
 in_simple_assignment_target plain (simple_assignment_target.IdentifierReference b) = identifier_reference_row b.value
 in_simple_assignment_target plain (simple_assignment_target.StaticMemberExpression b) = static_member_expression_row plain b.value
 in_simple_assignment_target plain (simple_assignment_target.ComputedMemberExpression b) = computed_member_expression_row plain b.value
+in_simple_assignment_target plain (simple_assignment_target.PrivateFieldExpression b) = private_field_expression_row plain b.value
 
 abbrev pub update_expression_row : {N : Type 0} → (N → Tree) → UpdateExpression N → Tree
 update_expression_row plain n = update (record { span = n.span; values = update_operator n.operator ∷ flag n.prefix ∷ [] }) (in_simple_assignment_target plain n.argument)
@@ -265,6 +288,7 @@ abbrev pub in_assignment_target : {N : Type 0} → (N → Tree) → AssignmentTa
 in_assignment_target plain (assignment_target.IdentifierReference b) = identifier_reference_row b.value
 in_assignment_target plain (assignment_target.StaticMemberExpression b) = static_member_expression_row plain b.value
 in_assignment_target plain (assignment_target.ComputedMemberExpression b) = computed_member_expression_row plain b.value
+in_assignment_target plain (assignment_target.PrivateFieldExpression b) = private_field_expression_row plain b.value
 
 abbrev pub assignment_expression_row : {N : Type 0} → (N → Tree) → AssignmentExpression N → Tree
 assignment_expression_row plain n = assignment (record { span = n.span; values = assignment_operator n.operator ∷ [] }) (in_assignment_target plain n.left) (in_expression plain n.right)
@@ -303,6 +327,7 @@ in_for_statement_left plain (for_statement_left.VariableDeclaration b) = variabl
 in_for_statement_left plain (for_statement_left.IdentifierReference b) = identifier_reference_row b.value
 in_for_statement_left plain (for_statement_left.StaticMemberExpression b) = static_member_expression_row plain b.value
 in_for_statement_left plain (for_statement_left.ComputedMemberExpression b) = computed_member_expression_row plain b.value
+in_for_statement_left plain (for_statement_left.PrivateFieldExpression b) = private_field_expression_row plain b.value
 
 abbrev pub for_in_statement_row : {N : Type 0} → (N → Tree) → ForInStatement N → Tree
 for_in_statement_row plain n = for_in_statement (record { span = n.span; values = [] }) (in_for_statement_left plain n.left) (in_expression plain n.right) (in_statement plain n.body)
@@ -364,6 +389,24 @@ array_pattern_row plain n = array_pattern (record { span = n.span; values = [] }
 abbrev pub assignment_pattern_row : {N : Type 0} → (N → Tree) → AssignmentPattern N → Tree
 assignment_pattern_row plain n = assignment_pattern (record { span = n.span; values = [] }) (in_binding_pattern plain n.left) (in_expression plain n.right)
 
+abbrev pub private_in_expression_row : {N : Type 0} → (N → Tree) → PrivateInExpression N → Tree
+private_in_expression_row plain n = private_in (record { span = n.span; values = [] }) (private_identifier_row n.left.value) (in_expression plain n.right)
+
+abbrev pub class_body_row : {N : Type 0} → (N → Tree) → ClassBody N → Tree
+class_body_row plain n = class_body (record { span = n.span; values = [] }) (trees (map (in_class_element plain) n.body.items))
+
+abbrev pub class_row : {N : Type 0} → (N → Tree) → Class N → Tree
+class_row plain n = class (record { span = n.span; values = class_form n.kind ∷ no_value ∷ no_value ∷ [] }) (optional (option_map (λ b. binding_identifier_row b.value) n.id)) (optional (option_map (in_expression plain) n.heritage)) (class_body_row plain n.body.value)
+
+abbrev pub static_block_row : {N : Type 0} → (N → Tree) → StaticBlock N → Tree
+static_block_row plain n = static_block (record { span = n.span; values = [] }) (trees (map (in_statement plain) n.body.items))
+
+abbrev pub method_definition_row : {N : Type 0} → (N → Tree) → MethodDefinition N → Tree
+method_definition_row plain n = method_definition (record { span = n.span; values = kind_of_method n.kind ∷ flag n.computed ∷ flag n.is_static ∷ no_value ∷ no_value ∷ no_value ∷ [] }) (in_property_key plain n.key) (function_row plain n.value.value)
+
+abbrev pub property_definition_row : {N : Type 0} → (N → Tree) → PropertyDefinition N → Tree
+property_definition_row plain n = property_definition (record { span = n.span; values = flag n.computed ∷ no_value ∷ no_value ∷ flag n.is_static ∷ no_value ∷ no_value ∷ no_value ∷ no_value ∷ [] }) (in_property_key plain n.key) (optional (option_map (in_expression plain) n.value))
+
 -- ---- sets that nest
 
 abbrev pub expression_plain : {N : Type 0} → (N → Tree) → Expression N → Tree
@@ -395,10 +438,14 @@ expression_plain plain (expression.SequenceExpression b) = sequence_expression_r
 expression_plain plain (expression.AssignmentExpression b) = assignment_expression_row plain b.value
 expression_plain plain (expression.Function b) = function_row plain b.value
 expression_plain plain (expression.ArrowFunctionExpression b) = arrow_function_expression_row plain b.value
+expression_plain plain (expression.Class b) = class_row plain b.value
+expression_plain plain (expression.PrivateFieldExpression b) = private_field_expression_row plain b.value
+expression_plain plain (expression.PrivateInExpression b) = private_in_expression_row plain b.value
 
 abbrev pub declaration_plain : {N : Type 0} → (N → Tree) → Declaration N → Tree
 declaration_plain plain (declaration.VariableDeclaration b) = variable_declaration_row plain b.value
 declaration_plain plain (declaration.Function b) = function_row plain b.value
+declaration_plain plain (declaration.Class b) = class_row plain b.value
 
 abbrev pub statement_plain : {N : Type 0} → (N → Tree) → Statement N → Tree
 statement_plain plain (statement.Declaration b) = in_declaration plain b.value
@@ -425,3 +472,8 @@ binding_pattern_plain plain (binding_pattern.BindingIdentifier b) = binding_iden
 binding_pattern_plain plain (binding_pattern.ObjectPattern b) = object_pattern_row plain b.value
 binding_pattern_plain plain (binding_pattern.ArrayPattern b) = array_pattern_row plain b.value
 binding_pattern_plain plain (binding_pattern.AssignmentPattern b) = assignment_pattern_row plain b.value
+
+abbrev pub class_element_plain : {N : Type 0} → (N → Tree) → ClassElement N → Tree
+class_element_plain plain (class_element.StaticBlock b) = static_block_row plain b.value
+class_element_plain plain (class_element.MethodDefinition b) = method_definition_row plain b.value
+class_element_plain plain (class_element.PropertyDefinition b) = property_definition_row plain b.value

@@ -35,6 +35,9 @@ is_expression types.SequenceExpression = true
 is_expression types.AssignmentExpression = true
 is_expression types.Function = true
 is_expression types.ArrowFunctionExpression = true
+is_expression types.Class = true
+is_expression types.PrivateFieldExpression = true
+is_expression types.PrivateInExpression = true
 is_expression type = false
 
 abbrev pub is_argument : NodeType → Bool
@@ -48,6 +51,7 @@ is_array_expression_element type = is_expression type
 abbrev pub is_chain_element : NodeType → Bool
 is_chain_element types.StaticMemberExpression = true
 is_chain_element types.ComputedMemberExpression = true
+is_chain_element types.PrivateFieldExpression = true
 is_chain_element types.CallExpression = true
 is_chain_element type = false
 
@@ -55,12 +59,14 @@ abbrev pub is_simple_assignment_target : NodeType → Bool
 is_simple_assignment_target types.IdentifierReference = true
 is_simple_assignment_target types.StaticMemberExpression = true
 is_simple_assignment_target types.ComputedMemberExpression = true
+is_simple_assignment_target types.PrivateFieldExpression = true
 is_simple_assignment_target type = false
 
 abbrev pub is_assignment_target : NodeType → Bool
 is_assignment_target types.IdentifierReference = true
 is_assignment_target types.StaticMemberExpression = true
 is_assignment_target types.ComputedMemberExpression = true
+is_assignment_target types.PrivateFieldExpression = true
 is_assignment_target type = false
 
 abbrev pub is_arrow_function_body : NodeType → Bool
@@ -76,6 +82,7 @@ is_for_statement_left types.VariableDeclaration = true
 is_for_statement_left types.IdentifierReference = true
 is_for_statement_left types.StaticMemberExpression = true
 is_for_statement_left types.ComputedMemberExpression = true
+is_for_statement_left types.PrivateFieldExpression = true
 is_for_statement_left type = false
 
 abbrev pub is_object_property_kind : NodeType → Bool
@@ -85,11 +92,13 @@ is_object_property_kind type = false
 
 abbrev pub is_property_key : NodeType → Bool
 is_property_key types.IdentifierName = true
+is_property_key types.PrivateIdentifier = true
 is_property_key type = is_expression type
 
 abbrev pub is_declaration : NodeType → Bool
 is_declaration types.VariableDeclaration = true
 is_declaration types.Function = true
+is_declaration types.Class = true
 is_declaration type = false
 
 abbrev pub is_statement : NodeType → Bool
@@ -118,6 +127,12 @@ is_binding_pattern types.ObjectPattern = true
 is_binding_pattern types.ArrayPattern = true
 is_binding_pattern types.AssignmentPattern = true
 is_binding_pattern type = false
+
+abbrev pub is_class_element : NodeType → Bool
+is_class_element types.StaticBlock = true
+is_class_element types.MethodDefinition = true
+is_class_element types.PropertyDefinition = true
+is_class_element type = false
 
 abbrev pub is_comment : NodeType → Bool
 is_comment types.Comment = true
@@ -179,6 +194,18 @@ abbrev pub is_binding_rest_element : NodeType → Bool
 is_binding_rest_element types.BindingRestElement = true
 is_binding_rest_element type = false
 
+abbrev pub is_private_identifier : NodeType → Bool
+is_private_identifier types.PrivateIdentifier = true
+is_private_identifier type = false
+
+abbrev pub is_class_body : NodeType → Bool
+is_class_body types.ClassBody = true
+is_class_body type = false
+
+abbrev pub is_function : NodeType → Bool
+is_function types.Function = true
+is_function type = false
+
 abbrev pub in_set : NodeSet → NodeType → Bool
 in_set sets.Comment t = is_comment t
 in_set sets.Directive t = is_directive t
@@ -208,5 +235,9 @@ in_set sets.BlockStatement t = is_block_statement t
 in_set sets.CatchClause t = is_catch_clause t
 in_set sets.BindingProperty t = is_binding_property t
 in_set sets.BindingRestElement t = is_binding_rest_element t
+in_set sets.PrivateIdentifier t = is_private_identifier t
+in_set sets.ClassBody t = is_class_body t
+in_set sets.ClassElement t = is_class_element t
+in_set sets.Function t = is_function t
 in_set sets.Link t = is_expression t
 in_set sets.BindingElement t = is_binding_pattern t

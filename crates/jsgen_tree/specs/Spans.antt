@@ -15,6 +15,7 @@ use Rattle.jsgen_tree.specs.declared.sets.PropertyKey.{PropertyKey}
 use Rattle.jsgen_tree.specs.declared.sets.Declaration.{Declaration}
 use Rattle.jsgen_tree.specs.declared.sets.Statement.{Statement}
 use Rattle.jsgen_tree.specs.declared.sets.BindingPattern.{BindingPattern}
+use Rattle.jsgen_tree.specs.declared.sets.ClassElement.{ClassElement}
 use Rattle.jsgen_tree.specs.declared.sets.Expression.TheVariants as expression
 use Rattle.jsgen_tree.specs.declared.sets.Argument.TheVariants as argument
 use Rattle.jsgen_tree.specs.declared.sets.ArrayExpressionElement.TheVariants as array_expression_element
@@ -29,6 +30,7 @@ use Rattle.jsgen_tree.specs.declared.sets.PropertyKey.TheVariants as property_ke
 use Rattle.jsgen_tree.specs.declared.sets.Declaration.TheVariants as declaration
 use Rattle.jsgen_tree.specs.declared.sets.Statement.TheVariants as statement
 use Rattle.jsgen_tree.specs.declared.sets.BindingPattern.TheVariants as binding_pattern
+use Rattle.jsgen_tree.specs.declared.sets.ClassElement.TheVariants as class_element
 
 abbrev pub expression_span : {N : Type 0} → Expression N → Span
 expression_span (expression.IdentifierReference b) = b.value.span
@@ -59,6 +61,9 @@ expression_span (expression.SequenceExpression b) = b.value.span
 expression_span (expression.AssignmentExpression b) = b.value.span
 expression_span (expression.Function b) = b.value.span
 expression_span (expression.ArrowFunctionExpression b) = b.value.span
+expression_span (expression.Class b) = b.value.span
+expression_span (expression.PrivateFieldExpression b) = b.value.span
+expression_span (expression.PrivateInExpression b) = b.value.span
 
 abbrev pub argument_span : {N : Type 0} → (N → Span) → Argument N → Span
 argument_span own (argument.SpreadElement b) = b.value.span
@@ -71,17 +76,20 @@ array_expression_element_span own (array_expression_element.Expression b) = own 
 abbrev pub chain_element_span : {N : Type 0} → ChainElement N → Span
 chain_element_span (chain_element.StaticMemberExpression b) = b.value.span
 chain_element_span (chain_element.ComputedMemberExpression b) = b.value.span
+chain_element_span (chain_element.PrivateFieldExpression b) = b.value.span
 chain_element_span (chain_element.CallExpression b) = b.value.span
 
 abbrev pub simple_assignment_target_span : {N : Type 0} → SimpleAssignmentTarget N → Span
 simple_assignment_target_span (simple_assignment_target.IdentifierReference b) = b.value.span
 simple_assignment_target_span (simple_assignment_target.StaticMemberExpression b) = b.value.span
 simple_assignment_target_span (simple_assignment_target.ComputedMemberExpression b) = b.value.span
+simple_assignment_target_span (simple_assignment_target.PrivateFieldExpression b) = b.value.span
 
 abbrev pub assignment_target_span : {N : Type 0} → AssignmentTarget N → Span
 assignment_target_span (assignment_target.IdentifierReference b) = b.value.span
 assignment_target_span (assignment_target.StaticMemberExpression b) = b.value.span
 assignment_target_span (assignment_target.ComputedMemberExpression b) = b.value.span
+assignment_target_span (assignment_target.PrivateFieldExpression b) = b.value.span
 
 abbrev pub arrow_function_body_span : {N : Type 0} → (N → Span) → ArrowFunctionBody N → Span
 arrow_function_body_span own (arrow_function_body.FunctionBody b) = b.value.span
@@ -96,6 +104,7 @@ for_statement_left_span (for_statement_left.VariableDeclaration b) = b.value.spa
 for_statement_left_span (for_statement_left.IdentifierReference b) = b.value.span
 for_statement_left_span (for_statement_left.StaticMemberExpression b) = b.value.span
 for_statement_left_span (for_statement_left.ComputedMemberExpression b) = b.value.span
+for_statement_left_span (for_statement_left.PrivateFieldExpression b) = b.value.span
 
 abbrev pub object_property_kind_span : {N : Type 0} → ObjectPropertyKind N → Span
 object_property_kind_span (object_property_kind.ObjectProperty b) = b.value.span
@@ -103,11 +112,13 @@ object_property_kind_span (object_property_kind.SpreadElement b) = b.value.span
 
 abbrev pub property_key_span : {N : Type 0} → (N → Span) → PropertyKey N → Span
 property_key_span own (property_key.IdentifierName b) = b.value.span
+property_key_span own (property_key.PrivateIdentifier b) = b.value.span
 property_key_span own (property_key.Expression b) = own b.value.node
 
 abbrev pub declaration_span : {N : Type 0} → Declaration N → Span
 declaration_span (declaration.VariableDeclaration b) = b.value.span
 declaration_span (declaration.Function b) = b.value.span
+declaration_span (declaration.Class b) = b.value.span
 
 abbrev pub statement_span : {N : Type 0} → (N → Span) → Statement N → Span
 statement_span own (statement.Declaration b) = own b.value.node
@@ -134,3 +145,8 @@ binding_pattern_span (binding_pattern.BindingIdentifier b) = b.value.span
 binding_pattern_span (binding_pattern.ObjectPattern b) = b.value.span
 binding_pattern_span (binding_pattern.ArrayPattern b) = b.value.span
 binding_pattern_span (binding_pattern.AssignmentPattern b) = b.value.span
+
+abbrev pub class_element_span : {N : Type 0} → ClassElement N → Span
+class_element_span (class_element.StaticBlock b) = b.value.span
+class_element_span (class_element.MethodDefinition b) = b.value.span
+class_element_span (class_element.PropertyDefinition b) = b.value.span

@@ -13,7 +13,9 @@ use Rattle.jsgen_syntax.specs.declared.operator.UnaryOperator.{UnaryOperator}
 use Rattle.jsgen_syntax.specs.declared.operator.UpdateOperator.{UpdateOperator}
 use Rattle.jsgen_syntax.specs.declared.operator.AssignmentOperator.{AssignmentOperator}
 use Rattle.jsgen_tree.specs.declared.functions.FunctionKind.{FunctionKind}
-use Rattle.jsgen_tree.specs.Atom.{Atom, text, units, digits, number, flag, kind_of_comment, content_of_comment, source_kind, declaration_kind, numeric_kind, binary_operator, logical_operator, property_kind, unary_operator, update_operator, assignment_operator, kind_of_function}
+use Rattle.jsgen_tree.specs.declared.classes.ClassKind.{ClassKind}
+use Rattle.jsgen_tree.specs.declared.classes.MethodDefinitionKind.{MethodDefinitionKind}
+use Rattle.jsgen_tree.specs.Atom.{Atom, text, units, digits, number, flag, kind_of_comment, content_of_comment, source_kind, declaration_kind, numeric_kind, binary_operator, logical_operator, property_kind, unary_operator, update_operator, assignment_operator, kind_of_function, class_form, kind_of_method}
 use Rattle.jsgen_tree.specs.Tree.{Atoms}
 use Rattle.jsgen_tree.specs.Places.{value_at}
 use Rattle.jsgen_tree.specs.declared.statements.CommentKind.TheVariants as kind_of_comments
@@ -28,6 +30,8 @@ use Rattle.jsgen_syntax.specs.declared.operator.UnaryOperator.TheVariants as una
 use Rattle.jsgen_syntax.specs.declared.operator.UpdateOperator.TheVariants as update_operators
 use Rattle.jsgen_syntax.specs.declared.operator.AssignmentOperator.TheVariants as assignment_operators
 use Rattle.jsgen_tree.specs.declared.functions.FunctionKind.TheVariants as kind_of_functions
+use Rattle.jsgen_tree.specs.declared.classes.ClassKind.TheVariants as class_forms
+use Rattle.jsgen_tree.specs.declared.classes.MethodDefinitionKind.TheVariants as kind_of_methods
 
 -- ---- kinds of values; where the value is of another kind, any
 
@@ -98,6 +102,14 @@ as_assignment_operator v = assignment_operators.Assign
 abbrev pub as_kind_of_function : Atom → FunctionKind
 as_kind_of_function (kind_of_function x) = x
 as_kind_of_function v = kind_of_functions.Declaration
+
+abbrev pub as_class_form : Atom → ClassKind
+as_class_form (class_form x) = x
+as_class_form v = class_forms.Declaration
+
+abbrev pub as_kind_of_method : Atom → MethodDefinitionKind
+as_kind_of_method (kind_of_method x) = x
+as_kind_of_method v = kind_of_methods.Constructor
 
 abbrev pub as_number_if_given : Atom → Option ℕ
 as_number_if_given (number x) = Some x
@@ -291,3 +303,71 @@ label_identifier_name a = as_text (value_at 0 a.values)
 
 abbrev pub binding_property_computed : Atoms → Bool
 binding_property_computed a = as_flag (value_at 0 a.values)
+
+abbrev pub private_identifier_name : Atoms → List ℕ
+private_identifier_name a = as_text (value_at 0 a.values)
+
+abbrev pub private_field_expression_optional : Atoms → Bool
+private_field_expression_optional a = as_flag (value_at 0 a.values)
+
+abbrev pub class_kind : Atoms → ClassKind
+class_kind a = as_class_form (value_at 0 a.values)
+
+-- not read yet
+abbrev pub class_declare : Atoms → Bool
+class_declare a = as_flag (value_at 1 a.values)
+
+-- not read yet
+abbrev pub class_is_abstract : Atoms → Bool
+class_is_abstract a = as_flag (value_at 2 a.values)
+
+abbrev pub method_definition_kind : Atoms → MethodDefinitionKind
+method_definition_kind a = as_kind_of_method (value_at 0 a.values)
+
+abbrev pub method_definition_computed : Atoms → Bool
+method_definition_computed a = as_flag (value_at 1 a.values)
+
+abbrev pub method_definition_is_static : Atoms → Bool
+method_definition_is_static a = as_flag (value_at 2 a.values)
+
+-- not read yet
+abbrev pub method_definition_is_override : Atoms → Bool
+method_definition_is_override a = as_flag (value_at 3 a.values)
+
+-- not read yet
+abbrev pub method_definition_is_abstract : Atoms → Bool
+method_definition_is_abstract a = as_flag (value_at 4 a.values)
+
+-- not read yet
+abbrev pub method_definition_optional : Atoms → Bool
+method_definition_optional a = as_flag (value_at 5 a.values)
+
+abbrev pub property_definition_computed : Atoms → Bool
+property_definition_computed a = as_flag (value_at 0 a.values)
+
+-- not read yet
+abbrev pub property_definition_declare : Atoms → Bool
+property_definition_declare a = as_flag (value_at 1 a.values)
+
+-- not read yet
+abbrev pub property_definition_is_abstract : Atoms → Bool
+property_definition_is_abstract a = as_flag (value_at 2 a.values)
+
+abbrev pub property_definition_is_static : Atoms → Bool
+property_definition_is_static a = as_flag (value_at 3 a.values)
+
+-- not read yet
+abbrev pub property_definition_is_override : Atoms → Bool
+property_definition_is_override a = as_flag (value_at 4 a.values)
+
+-- not read yet
+abbrev pub property_definition_readonly : Atoms → Bool
+property_definition_readonly a = as_flag (value_at 5 a.values)
+
+-- not read yet
+abbrev pub property_definition_optional : Atoms → Bool
+property_definition_optional a = as_flag (value_at 6 a.values)
+
+-- not read yet
+abbrev pub property_definition_definite : Atoms → Bool
+property_definition_definite a = as_flag (value_at 7 a.values)

@@ -6,11 +6,15 @@ use Rattle.jsgen_tree.specs.declared.statements.CommentContent.{CommentContent}
 use Rattle.jsgen_tree.specs.declared.statements.VariableDeclarationKind.{VariableDeclarationKind}
 use Rattle.jsgen_tree.specs.declared.collections.PropertyKind.{PropertyKind}
 use Rattle.jsgen_tree.specs.declared.functions.FunctionKind.{FunctionKind}
+use Rattle.jsgen_tree.specs.declared.classes.ClassKind.{ClassKind}
+use Rattle.jsgen_tree.specs.declared.classes.MethodDefinitionKind.{MethodDefinitionKind}
 use Rattle.jsgen_tree.specs.declared.statements.CommentKind.TheVariants as kind_of_comments
 use Rattle.jsgen_tree.specs.declared.statements.CommentContent.TheVariants as content_of_comments
 use Rattle.jsgen_tree.specs.declared.statements.VariableDeclarationKind.TheVariants as declaration_kinds
 use Rattle.jsgen_tree.specs.declared.collections.PropertyKind.TheVariants as property_kinds
 use Rattle.jsgen_tree.specs.declared.functions.FunctionKind.TheVariants as kind_of_functions
+use Rattle.jsgen_tree.specs.declared.classes.ClassKind.TheVariants as class_forms
+use Rattle.jsgen_tree.specs.declared.classes.MethodDefinitionKind.TheVariants as kind_of_methods
 
 abbrev pub kind_of_comment_word : CommentKind → List ℕ
 kind_of_comment_word kind_of_comments.Line = codes "line"
@@ -45,3 +49,13 @@ property_word property_kinds.Set = codes "set"
 abbrev pub function_word : FunctionKind → List ℕ
 function_word kind_of_functions.Declaration = codes "declaration"
 function_word kind_of_functions.Expression = codes "expression"
+
+abbrev pub class_word : ClassKind → List ℕ
+class_word class_forms.Declaration = codes "declaration"
+class_word class_forms.Expression = codes "expression"
+
+abbrev pub method_word : MethodDefinitionKind → List ℕ
+method_word kind_of_methods.Constructor = codes "constructor"
+method_word kind_of_methods.Method = codes "method"
+method_word kind_of_methods.Get = codes "get"
+method_word kind_of_methods.Set = codes "set"

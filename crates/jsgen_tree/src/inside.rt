@@ -9,7 +9,7 @@ use crate::nodes::Node;
 use crate::sets::{Expression, Statement};
 
 impl Node {
-    /// The expression that stands there, without the parentheses that it may have round it, if it is one and no function.
+    /// The expression that stands there, without the parentheses that it may have round it, if it is one and no function or class.
     /// No declaration's wrapper holds an expression, which the proof doesn't know.
     #[cycle(inner)]
     pub fn inner_expression(&self) -> Option<&Expression>
@@ -18,8 +18,9 @@ impl Node {
     {
         match self {
             Node::Expression(expression) => match expression {
-                // A function may be a declaration too.
+                // A function or a class may be a declaration too.
                 Expression::Function(_) => None,
+                Expression::Class(_) => None,
                 _ => Some(expression.without_parentheses()),
             },
             Node::Statement(statement) => match statement {
@@ -28,12 +29,13 @@ impl Node {
             },
             Node::Declaration(_) => None,
             Node::BindingPattern(_) => None,
+            Node::ClassElement(_) => None,
         }
     }
 }
 
 impl Expression {
-    /// What stands within the parentheses that the expression may have round it. Round a function they stay.
+    /// What stands within the parentheses that the expression may have round it. Round a function or a class they stay.
     #[cycle(inner)]
     pub fn without_parentheses(&self) -> &Expression
         ensures { expression_plain node_plain result.now

@@ -1,9 +1,10 @@
-// Which kind of declaration a node is, and which function.
+// Which kind of declaration a node is, which function, and of which kind a class is.
 ghost use Rattle.std.specs.Prelude.{◌≡◌, option_map};
-ghost use Rattle.jsgen_tree.specs.Inside.{declared_kind, function_in, is_method};
+ghost use Rattle.jsgen_tree.specs.Inside.{declared_kind, function_in, class_kind_in, is_method};
 ghost use Rattle.jsgen_tree.specs.Rows.{function_row};
 ghost use Rattle.jsgen_tree.specs.Plain.{node_plain};
 
+use crate::classes::ClassKind;
 use crate::collections::{ObjectProperty, PropertyKind};
 use crate::functions::Function;
 use crate::nodes::Node;
@@ -27,6 +28,7 @@ impl Node {
                 _ => None,
             },
             Node::BindingPattern(_) => None,
+            Node::ClassElement(_) => None,
         }
     }
 
@@ -49,6 +51,30 @@ impl Node {
                 _ => None,
             },
             Node::BindingPattern(_) => None,
+            Node::ClassElement(_) => None,
+        }
+    }
+
+    /// Of which kind it is, where it is a class.
+    #[cycle(class_kind)]
+    pub fn class_kind(&self) -> Option<ClassKind>
+        ensures { result ≡ class_kind_in (node_plain self.now) }
+    {
+        match self {
+            Node::Expression(expression) => match expression {
+                Expression::Class(node) => Some(node.kind),
+                _ => None,
+            },
+            Node::Statement(statement) => match statement {
+                Statement::Declaration(node) => node.get().class_kind(),
+                _ => None,
+            },
+            Node::Declaration(declaration) => match declaration {
+                Declaration::Class(node) => Some(node.kind),
+                _ => None,
+            },
+            Node::BindingPattern(_) => None,
+            Node::ClassElement(_) => None,
         }
     }
 }

@@ -71,6 +71,7 @@ impl Node {
             },
             Node::Declaration(_) => None,
             Node::BindingPattern(_) => None,
+            Node::ClassElement(_) => None,
         }
     }
 }

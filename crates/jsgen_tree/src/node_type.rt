@@ -2,14 +2,14 @@
 // The type of a member of each set.
 ghost use Rattle.std.specs.Prelude.{◌≡◌};
 ghost use Rattle.jsgen_tree.specs.Tree.{type_of};
-ghost use Rattle.jsgen_tree.specs.Rows.{expression_plain, declaration_plain, statement_plain, binding_pattern_plain, in_argument, in_array_expression_element, in_chain_element, in_simple_assignment_target, in_assignment_target, in_arrow_function_body, in_for_statement_init, in_for_statement_left, in_object_property_kind, in_property_key};
+ghost use Rattle.jsgen_tree.specs.Rows.{expression_plain, declaration_plain, statement_plain, binding_pattern_plain, class_element_plain, in_argument, in_array_expression_element, in_chain_element, in_simple_assignment_target, in_assignment_target, in_arrow_function_body, in_for_statement_init, in_for_statement_left, in_object_property_kind, in_property_key};
 ghost use Rattle.jsgen_tree.specs.Plain.{node_plain};
 
 use crate::nodes::Node;
 use crate::sets::{
     Argument, ArrayExpressionElement, ArrowFunctionBody, AssignmentTarget, BindingPattern,
-    ChainElement, Declaration, Expression, ForStatementInit, ForStatementLeft, ObjectPropertyKind,
-    PropertyKey, SimpleAssignmentTarget, Statement,
+    ChainElement, ClassElement, Declaration, Expression, ForStatementInit, ForStatementLeft,
+    ObjectPropertyKind, PropertyKey, SimpleAssignmentTarget, Statement,
 };
 use crate::types::NodeType;
 
@@ -47,6 +47,9 @@ impl Expression {
             Expression::AssignmentExpression(_) => NodeType::AssignmentExpression,
             Expression::Function(_) => NodeType::Function,
             Expression::ArrowFunctionExpression(_) => NodeType::ArrowFunctionExpression,
+            Expression::Class(_) => NodeType::Class,
+            Expression::PrivateFieldExpression(_) => NodeType::PrivateFieldExpression,
+            Expression::PrivateInExpression(_) => NodeType::PrivateInExpression,
         }
     }
 }
@@ -83,6 +86,7 @@ impl ChainElement {
         match self {
             ChainElement::StaticMemberExpression(_) => NodeType::StaticMemberExpression,
             ChainElement::ComputedMemberExpression(_) => NodeType::ComputedMemberExpression,
+            ChainElement::PrivateFieldExpression(_) => NodeType::PrivateFieldExpression,
             ChainElement::CallExpression(_) => NodeType::CallExpression,
         }
     }
@@ -98,6 +102,7 @@ impl SimpleAssignmentTarget {
             SimpleAssignmentTarget::StaticMemberExpression(_) => NodeType::StaticMemberExpression,
             SimpleAssignmentTarget::ComputedMemberExpression(_) =>
                 NodeType::ComputedMemberExpression,
+            SimpleAssignmentTarget::PrivateFieldExpression(_) => NodeType::PrivateFieldExpression,
         }
     }
 }
@@ -111,6 +116,7 @@ impl AssignmentTarget {
             AssignmentTarget::IdentifierReference(_) => NodeType::IdentifierReference,
             AssignmentTarget::StaticMemberExpression(_) => NodeType::StaticMemberExpression,
             AssignmentTarget::ComputedMemberExpression(_) => NodeType::ComputedMemberExpression,
+            AssignmentTarget::PrivateFieldExpression(_) => NodeType::PrivateFieldExpression,
         }
     }
 }
@@ -149,6 +155,7 @@ impl ForStatementLeft {
             ForStatementLeft::IdentifierReference(_) => NodeType::IdentifierReference,
             ForStatementLeft::StaticMemberExpression(_) => NodeType::StaticMemberExpression,
             ForStatementLeft::ComputedMemberExpression(_) => NodeType::ComputedMemberExpression,
+            ForStatementLeft::PrivateFieldExpression(_) => NodeType::PrivateFieldExpression,
         }
     }
 }
@@ -172,6 +179,7 @@ impl PropertyKey {
     {
         match self {
             PropertyKey::IdentifierName(_) => NodeType::IdentifierName,
+            PropertyKey::PrivateIdentifier(_) => NodeType::PrivateIdentifier,
             PropertyKey::Expression(node) => node.get().node_type(),
         }
     }
@@ -185,6 +193,7 @@ impl Declaration {
         match self {
             Declaration::VariableDeclaration(_) => NodeType::VariableDeclaration,
             Declaration::Function(_) => NodeType::Function,
+            Declaration::Class(_) => NodeType::Class,
         }
     }
 }
@@ -232,6 +241,19 @@ impl BindingPattern {
     }
 }
 
+impl ClassElement {
+    /// The type of the node.
+    pub fn node_type(&self) -> NodeType
+        ensures { result ≡ type_of (class_element_plain node_plain self.now) }
+    {
+        match self {
+            ClassElement::StaticBlock(_) => NodeType::StaticBlock,
+            ClassElement::MethodDefinition(_) => NodeType::MethodDefinition,
+            ClassElement::PropertyDefinition(_) => NodeType::PropertyDefinition,
+        }
+    }
+}
+
 impl Node {
     /// The type of the node.
     #[cycle(node_type)]
@@ -243,6 +265,7 @@ impl Node {
             Node::Declaration(node) => node.node_type(),
             Node::Statement(node) => node.node_type(),
             Node::BindingPattern(node) => node.node_type(),
+            Node::ClassElement(node) => node.node_type(),
         }
     }
 }

@@ -3,7 +3,7 @@
 ghost use Rattle.std.specs.Prelude.{◌≡◌};
 ghost use Rattle.jsgen_tree.specs.declared.nodes.Node.TheVariants as nodes;
 
-use crate::sets::{BindingPattern, Declaration, Expression, Statement};
+use crate::sets::{BindingPattern, ClassElement, Declaration, Expression, Statement};
 
 /// A node at a place where trees nest. It has a variant for each set that children nest through.
 pub enum Node {
@@ -11,6 +11,7 @@ pub enum Node {
     Declaration(Declaration),
     Statement(Statement),
     BindingPattern(BindingPattern),
+    ClassElement(ClassElement),
 }
 
 /// A child that is an expression. It is made from one, and from nothing else.
@@ -37,6 +38,12 @@ pub struct BindingPatternNode<N = Node> {
     node: N,
 }
 
+/// A child that is a class element. It is made from one, and from nothing else.
+#[derive(Drop)]
+pub struct ClassElementNode<N = Node> {
+    node: N,
+}
+
 // Written out, so that it is proved here alone: a derived one is proved again, for all types, in each crate that lets go of a tree.
 impl Drop for Node {
     #[cycle(node)]
@@ -52,6 +59,9 @@ impl Drop for Node {
                 let _ = member;
             }
             Node::BindingPattern(member) => {
+                let _ = member;
+            }
+            Node::ClassElement(member) => {
                 let _ = member;
             }
         }
@@ -98,6 +108,16 @@ impl From<BindingPattern> for BindingPatternNode {
     }
 }
 
+impl From<ClassElement> for ClassElementNode {
+    ghost from_gives = { λ x y. y.node ≡ nodes.ClassElement x };
+
+    fn from(member: ClassElement) -> ClassElementNode {
+        ClassElementNode {
+            node: Node::ClassElement(member),
+        }
+    }
+}
+
 impl<N> ExpressionNode<N> {
     /// The node inside.
     pub fn get(&self) -> &N
@@ -126,6 +146,15 @@ impl<N> StatementNode<N> {
 }
 
 impl<N> BindingPatternNode<N> {
+    /// The node inside.
+    pub fn get(&self) -> &N
+        ensures { result.now ≡ self.now.node }
+    {
+        &self.node
+    }
+}
+
+impl<N> ClassElementNode<N> {
     /// The node inside.
     pub fn get(&self) -> &N
         ensures { result.now ≡ self.now.node }

@@ -3,6 +3,10 @@
 
 use crate::assignments::{AssignmentExpression, ConditionalExpression, SequenceExpression};
 use crate::choices::{SwitchStatement, TryStatement};
+use crate::classes::{
+    Class, MethodDefinition, PrivateFieldExpression, PrivateIdentifier, PrivateInExpression,
+    PropertyDefinition, StaticBlock,
+};
 use crate::collections::{ArrayExpression, ObjectExpression, ObjectProperty, SpreadElement};
 use crate::expressions::{
     BigIntLiteral, BinaryExpression, BooleanLiteral, CallExpression, ChainExpression,
@@ -56,6 +60,9 @@ pub enum Expression<N = Node> {
     AssignmentExpression(Box<AssignmentExpression<N>>),
     Function(Box<Function<N>>),
     ArrowFunctionExpression(Box<ArrowFunctionExpression<N>>),
+    Class(Box<Class<N>>),
+    PrivateFieldExpression(Box<PrivateFieldExpression<N>>),
+    PrivateInExpression(Box<PrivateInExpression<N>>),
 }
 
 /// What a call is given.
@@ -77,6 +84,7 @@ pub enum ArrayExpressionElement<N = Node> {
 pub enum ChainElement<N = Node> {
     StaticMemberExpression(Box<StaticMemberExpression<N>>),
     ComputedMemberExpression(Box<ComputedMemberExpression<N>>),
+    PrivateFieldExpression(Box<PrivateFieldExpression<N>>),
     CallExpression(Box<CallExpression<N>>),
 }
 
@@ -86,6 +94,7 @@ pub enum SimpleAssignmentTarget<N = Node> {
     IdentifierReference(Box<IdentifierReference>),
     StaticMemberExpression(Box<StaticMemberExpression<N>>),
     ComputedMemberExpression(Box<ComputedMemberExpression<N>>),
+    PrivateFieldExpression(Box<PrivateFieldExpression<N>>),
 }
 
 /// What may be given a value: so far what may be changed as it stands.
@@ -94,6 +103,7 @@ pub enum AssignmentTarget<N = Node> {
     IdentifierReference(Box<IdentifierReference>),
     StaticMemberExpression(Box<StaticMemberExpression<N>>),
     ComputedMemberExpression(Box<ComputedMemberExpression<N>>),
+    PrivateFieldExpression(Box<PrivateFieldExpression<N>>),
 }
 
 /// What an arrow function does: its statements, or an expression whose value is the result.
@@ -117,6 +127,7 @@ pub enum ForStatementLeft<N = Node> {
     IdentifierReference(Box<IdentifierReference>),
     StaticMemberExpression(Box<StaticMemberExpression<N>>),
     ComputedMemberExpression(Box<ComputedMemberExpression<N>>),
+    PrivateFieldExpression(Box<PrivateFieldExpression<N>>),
 }
 
 /// What may stand in an object.
@@ -130,6 +141,7 @@ pub enum ObjectPropertyKind<N = Node> {
 #[derive(Drop)]
 pub enum PropertyKey<N = Node> {
     IdentifierName(Box<IdentifierName>),
+    PrivateIdentifier(Box<PrivateIdentifier>),
     Expression(Box<ExpressionNode<N>>),
 }
 
@@ -137,6 +149,7 @@ pub enum PropertyKey<N = Node> {
 pub enum Declaration<N = Node> {
     VariableDeclaration(Box<VariableDeclaration<N>>),
     Function(Box<Function<N>>),
+    Class(Box<Class<N>>),
 }
 
 #[derive(Drop)]
@@ -167,4 +180,11 @@ pub enum BindingPattern<N = Node> {
     ObjectPattern(Box<ObjectPattern<N>>),
     ArrayPattern(Box<ArrayPattern<N>>),
     AssignmentPattern(Box<AssignmentPattern<N>>),
+}
+
+#[derive(Drop)]
+pub enum ClassElement<N = Node> {
+    StaticBlock(Box<StaticBlock<N>>),
+    MethodDefinition(Box<MethodDefinition<N>>),
+    PropertyDefinition(Box<PropertyDefinition<N>>),
 }

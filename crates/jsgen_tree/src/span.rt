@@ -3,10 +3,14 @@
 ghost use Rattle.std.specs.Prelude.{◌≡◌};
 ghost use Rattle.jsgen_tree.specs.Tree.{span_of};
 ghost use Rattle.jsgen_tree.specs.Plain.{node_plain};
-ghost use Rattle.jsgen_tree.specs.Spans.{expression_span, argument_span, array_expression_element_span, chain_element_span, simple_assignment_target_span, assignment_target_span, arrow_function_body_span, for_statement_init_span, for_statement_left_span, object_property_kind_span, property_key_span, declaration_span, statement_span, binding_pattern_span};
+ghost use Rattle.jsgen_tree.specs.Spans.{expression_span, argument_span, array_expression_element_span, chain_element_span, simple_assignment_target_span, assignment_target_span, arrow_function_body_span, for_statement_init_span, for_statement_left_span, object_property_kind_span, property_key_span, declaration_span, statement_span, binding_pattern_span, class_element_span};
 
 use crate::assignments::{AssignmentExpression, ConditionalExpression, SequenceExpression};
 use crate::choices::{CatchClause, SwitchCase, SwitchStatement, TryStatement};
+use crate::classes::{
+    Class, ClassBody, MethodDefinition, PrivateFieldExpression, PrivateIdentifier,
+    PrivateInExpression, PropertyDefinition, StaticBlock,
+};
 use crate::collections::{ArrayExpression, ObjectExpression, ObjectProperty, SpreadElement};
 use crate::expressions::{
     BigIntLiteral, BinaryExpression, BooleanLiteral, CallExpression, ChainExpression,
@@ -32,8 +36,8 @@ use crate::patterns::{
 };
 use crate::sets::{
     Argument, ArrayExpressionElement, ArrowFunctionBody, AssignmentTarget, BindingPattern,
-    ChainElement, Declaration, Expression, ForStatementInit, ForStatementLeft, ObjectPropertyKind,
-    PropertyKey, SimpleAssignmentTarget, Statement,
+    ChainElement, ClassElement, Declaration, Expression, ForStatementInit, ForStatementLeft,
+    ObjectPropertyKind, PropertyKey, SimpleAssignmentTarget, Statement,
 };
 use crate::statements::{
     BindingIdentifier, BlockStatement, Comment, Directive, EmptyStatement, ExpressionStatement,
@@ -579,6 +583,70 @@ impl<N> GetSpan for AssignmentPattern<N> {
     }
 }
 
+impl GetSpan for PrivateIdentifier {
+    ghost own_span = { λ n. n.span };
+
+    fn span(&self) -> Span {
+        self.span
+    }
+}
+
+impl<N> GetSpan for PrivateFieldExpression<N> {
+    ghost own_span = { λ n. n.span };
+
+    fn span(&self) -> Span {
+        self.span
+    }
+}
+
+impl<N> GetSpan for PrivateInExpression<N> {
+    ghost own_span = { λ n. n.span };
+
+    fn span(&self) -> Span {
+        self.span
+    }
+}
+
+impl<N> GetSpan for Class<N> {
+    ghost own_span = { λ n. n.span };
+
+    fn span(&self) -> Span {
+        self.span
+    }
+}
+
+impl<N> GetSpan for ClassBody<N> {
+    ghost own_span = { λ n. n.span };
+
+    fn span(&self) -> Span {
+        self.span
+    }
+}
+
+impl<N> GetSpan for StaticBlock<N> {
+    ghost own_span = { λ n. n.span };
+
+    fn span(&self) -> Span {
+        self.span
+    }
+}
+
+impl<N> GetSpan for MethodDefinition<N> {
+    ghost own_span = { λ n. n.span };
+
+    fn span(&self) -> Span {
+        self.span
+    }
+}
+
+impl<N> GetSpan for PropertyDefinition<N> {
+    ghost own_span = { λ n. n.span };
+
+    fn span(&self) -> Span {
+        self.span
+    }
+}
+
 impl<N> GetSpan for Expression<N> {
     ghost own_span = { λ n. expression_span n };
 
@@ -612,6 +680,9 @@ impl<N> GetSpan for Expression<N> {
             Expression::AssignmentExpression(node) => node.span,
             Expression::Function(node) => node.span,
             Expression::ArrowFunctionExpression(node) => node.span,
+            Expression::Class(node) => node.span,
+            Expression::PrivateFieldExpression(node) => node.span,
+            Expression::PrivateInExpression(node) => node.span,
         }
     }
 }
@@ -645,6 +716,7 @@ impl<N> GetSpan for ChainElement<N> {
         match self {
             ChainElement::StaticMemberExpression(node) => node.span,
             ChainElement::ComputedMemberExpression(node) => node.span,
+            ChainElement::PrivateFieldExpression(node) => node.span,
             ChainElement::CallExpression(node) => node.span,
         }
     }
@@ -658,6 +730,7 @@ impl<N> GetSpan for SimpleAssignmentTarget<N> {
             SimpleAssignmentTarget::IdentifierReference(node) => node.span,
             SimpleAssignmentTarget::StaticMemberExpression(node) => node.span,
             SimpleAssignmentTarget::ComputedMemberExpression(node) => node.span,
+            SimpleAssignmentTarget::PrivateFieldExpression(node) => node.span,
         }
     }
 }
@@ -670,6 +743,7 @@ impl<N> GetSpan for AssignmentTarget<N> {
             AssignmentTarget::IdentifierReference(node) => node.span,
             AssignmentTarget::StaticMemberExpression(node) => node.span,
             AssignmentTarget::ComputedMemberExpression(node) => node.span,
+            AssignmentTarget::PrivateFieldExpression(node) => node.span,
         }
     }
 }
@@ -705,6 +779,7 @@ impl<N> GetSpan for ForStatementLeft<N> {
             ForStatementLeft::IdentifierReference(node) => node.span,
             ForStatementLeft::StaticMemberExpression(node) => node.span,
             ForStatementLeft::ComputedMemberExpression(node) => node.span,
+            ForStatementLeft::PrivateFieldExpression(node) => node.span,
         }
     }
 }
@@ -726,6 +801,7 @@ impl<N: GetSpan> GetSpan for PropertyKey<N> {
     fn span(&self) -> Span {
         match self {
             PropertyKey::IdentifierName(node) => node.span,
+            PropertyKey::PrivateIdentifier(node) => node.span,
             PropertyKey::Expression(node) => node.get().span(),
         }
     }
@@ -738,6 +814,7 @@ impl<N> GetSpan for Declaration<N> {
         match self {
             Declaration::VariableDeclaration(node) => node.span,
             Declaration::Function(node) => node.span,
+            Declaration::Class(node) => node.span,
         }
     }
 }
@@ -782,6 +859,18 @@ impl<N> GetSpan for BindingPattern<N> {
     }
 }
 
+impl<N> GetSpan for ClassElement<N> {
+    ghost own_span = { λ n. class_element_span n };
+
+    fn span(&self) -> Span {
+        match self {
+            ClassElement::StaticBlock(node) => node.span,
+            ClassElement::MethodDefinition(node) => node.span,
+            ClassElement::PropertyDefinition(node) => node.span,
+        }
+    }
+}
+
 impl GetSpan for Node {
     ghost own_span = { λ n. span_of (node_plain n) };
 
@@ -792,6 +881,7 @@ impl GetSpan for Node {
             Node::Declaration(node) => node.span(),
             Node::Statement(node) => node.span(),
             Node::BindingPattern(node) => node.span(),
+            Node::ClassElement(node) => node.span(),
         }
     }
 }

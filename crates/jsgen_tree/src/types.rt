@@ -1,7 +1,7 @@
 // Generated from tools/nodes/table.txt; edit that and run tools/nodes/generate.
 // The types of nodes, and the sets that a field's child may be of.
 ghost use Rattle.std.specs.Prelude.{◌≡◌};
-ghost use Rattle.jsgen_tree.specs.Sets.{in_set, is_expression, is_argument, is_array_expression_element, is_chain_element, is_simple_assignment_target, is_assignment_target, is_arrow_function_body, is_for_statement_init, is_for_statement_left, is_object_property_kind, is_property_key, is_declaration, is_statement, is_binding_pattern};
+ghost use Rattle.jsgen_tree.specs.Sets.{in_set, is_expression, is_argument, is_array_expression_element, is_chain_element, is_simple_assignment_target, is_assignment_target, is_arrow_function_body, is_for_statement_init, is_for_statement_left, is_object_property_kind, is_property_key, is_declaration, is_statement, is_binding_pattern, is_class_element};
 
 /// The type of a node.
 #[derive(Clone, Copy, Debug, PartialEq, Eq)]
@@ -72,6 +72,14 @@ pub enum NodeType {
     BindingRestElement,
     ArrayPattern,
     AssignmentPattern,
+    PrivateIdentifier,
+    PrivateFieldExpression,
+    PrivateInExpression,
+    Class,
+    ClassBody,
+    StaticBlock,
+    MethodDefinition,
+    PropertyDefinition,
 }
 
 /// What the child of a field may be: a member of a set, or a node of one type.
@@ -105,6 +113,10 @@ pub enum NodeSet {
     CatchClause,
     BindingProperty,
     BindingRestElement,
+    PrivateIdentifier,
+    ClassBody,
+    ClassElement,
+    Function,
     Link,
     BindingElement,
 }
@@ -143,6 +155,10 @@ impl NodeType {
             NodeSet::CatchClause => matches!(&self, NodeType::CatchClause),
             NodeSet::BindingProperty => matches!(&self, NodeType::BindingProperty),
             NodeSet::BindingRestElement => matches!(&self, NodeType::BindingRestElement),
+            NodeSet::PrivateIdentifier => matches!(&self, NodeType::PrivateIdentifier),
+            NodeSet::ClassBody => matches!(&self, NodeType::ClassBody),
+            NodeSet::ClassElement => self.is_class_element(),
+            NodeSet::Function => matches!(&self, NodeType::Function),
             NodeSet::Link => self.is_expression(),
             NodeSet::BindingElement => self.is_binding_pattern(),
         }
@@ -182,6 +198,9 @@ impl NodeType {
                 | NodeType::AssignmentExpression
                 | NodeType::Function
                 | NodeType::ArrowFunctionExpression
+                | NodeType::Class
+                | NodeType::PrivateFieldExpression
+                | NodeType::PrivateInExpression
         )
     }
 
@@ -220,6 +239,9 @@ impl NodeType {
                 | NodeType::AssignmentExpression
                 | NodeType::Function
                 | NodeType::ArrowFunctionExpression
+                | NodeType::Class
+                | NodeType::PrivateFieldExpression
+                | NodeType::PrivateInExpression
         )
     }
 
@@ -258,6 +280,9 @@ impl NodeType {
                 | NodeType::AssignmentExpression
                 | NodeType::Function
                 | NodeType::ArrowFunctionExpression
+                | NodeType::Class
+                | NodeType::PrivateFieldExpression
+                | NodeType::PrivateInExpression
         )
     }
 
@@ -269,6 +294,7 @@ impl NodeType {
             &self,
             NodeType::StaticMemberExpression
                 | NodeType::ComputedMemberExpression
+                | NodeType::PrivateFieldExpression
                 | NodeType::CallExpression
         )
     }
@@ -282,6 +308,7 @@ impl NodeType {
             NodeType::IdentifierReference
                 | NodeType::StaticMemberExpression
                 | NodeType::ComputedMemberExpression
+                | NodeType::PrivateFieldExpression
         )
     }
 
@@ -294,6 +321,7 @@ impl NodeType {
             NodeType::IdentifierReference
                 | NodeType::StaticMemberExpression
                 | NodeType::ComputedMemberExpression
+                | NodeType::PrivateFieldExpression
         )
     }
 
@@ -332,6 +360,9 @@ impl NodeType {
                 | NodeType::AssignmentExpression
                 | NodeType::Function
                 | NodeType::ArrowFunctionExpression
+                | NodeType::Class
+                | NodeType::PrivateFieldExpression
+                | NodeType::PrivateInExpression
         )
     }
 
@@ -370,6 +401,9 @@ impl NodeType {
                 | NodeType::AssignmentExpression
                 | NodeType::Function
                 | NodeType::ArrowFunctionExpression
+                | NodeType::Class
+                | NodeType::PrivateFieldExpression
+                | NodeType::PrivateInExpression
         )
     }
 
@@ -383,6 +417,7 @@ impl NodeType {
                 | NodeType::IdentifierReference
                 | NodeType::StaticMemberExpression
                 | NodeType::ComputedMemberExpression
+                | NodeType::PrivateFieldExpression
         )
     }
 
@@ -400,6 +435,7 @@ impl NodeType {
         matches!(
             &self,
             NodeType::IdentifierName
+                | NodeType::PrivateIdentifier
                 | NodeType::IdentifierReference
                 | NodeType::ThisExpression
                 | NodeType::NullLiteral
@@ -428,6 +464,9 @@ impl NodeType {
                 | NodeType::AssignmentExpression
                 | NodeType::Function
                 | NodeType::ArrowFunctionExpression
+                | NodeType::Class
+                | NodeType::PrivateFieldExpression
+                | NodeType::PrivateInExpression
         )
     }
 
@@ -435,7 +474,10 @@ impl NodeType {
     pub fn is_declaration(self) -> bool
         ensures { result ≡ is_declaration self }
     {
-        matches!(&self, NodeType::VariableDeclaration | NodeType::Function)
+        matches!(
+            &self,
+            NodeType::VariableDeclaration | NodeType::Function | NodeType::Class
+        )
     }
 
     /// Whether nodes of this type are in `Statement`.
@@ -446,6 +488,7 @@ impl NodeType {
             &self,
             NodeType::VariableDeclaration
                 | NodeType::Function
+                | NodeType::Class
                 | NodeType::ExpressionStatement
                 | NodeType::BlockStatement
                 | NodeType::IfStatement
@@ -476,6 +519,16 @@ impl NodeType {
                 | NodeType::ObjectPattern
                 | NodeType::ArrayPattern
                 | NodeType::AssignmentPattern
+        )
+    }
+
+    /// Whether nodes of this type are in `ClassElement`.
+    pub fn is_class_element(self) -> bool
+        ensures { result ≡ is_class_element self }
+    {
+        matches!(
+            &self,
+            NodeType::StaticBlock | NodeType::MethodDefinition | NodeType::PropertyDefinition
         )
     }
 }

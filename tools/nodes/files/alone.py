@@ -29,7 +29,7 @@ PLACES = {"itself": ("(at_level Lowest context)", "Place::at_level(Precedence::L
           "head": ("loop_head", "Place::loop_head()", "loop_head")}
 
 # What is printed by itself by a function of another form; and what has no children but a label.
-OTHERWISE, LABELLED = ("PropertyKey", "ForStatementLeft", "SwitchCase"), ("ContinueStatement", "BreakStatement")
+OTHERWISE, LABELLED = ("PropertyKey", "ForStatementLeft", "SwitchCase", "ClassElement"), ("ContinueStatement", "BreakStatement")
 
 
 def at_level(name):
@@ -107,7 +107,7 @@ def of_file(table, types):
     ghosts += [("Rattle.jsgen_syntax.specs.declared.precedence.Precedence.TheVariants", ["Lowest", "Comma"]),
                ("Rattle.jsgen_place.specs.Place", ["at_level", "in_brackets", "among_statements", "loop_head"]),
                ("Rattle.jsgen_model.specs.Items", ["◌⊕◌", "due_semicolon"]),
-               ("Rattle.jsgen_model.specs.Spell", ["spell", "key_text", "left_place"])]
+               ("Rattle.jsgen_model.specs.Spell", ["spell", "key_text", "left_place", "element_end"])]
     homes = print_functions(table, "jsgen_nodes")
     homes += [("jsgen_nodes::sets", [f"print_{snake(s.name)}" for s in table.nesting() + chosen(table)]),
               ("crate", ["PrintAlone", "PrintAtLevel"]), ("jsgen_nodes", ["Inside", "PrintNode"]),
@@ -158,6 +158,8 @@ def spelled(table, name):
     items = f"spell {tree} {PLACES[place(name)][0]}"
     if name == "SwitchCase":
         return f"due_semicolon ⊕ {items}"
+    if name == "ClassElement":
+        return f"{items} ⊕ element_end (type_of {tree})"
     return f"key_text {tree} ({items})" if name == "PropertyKey" else items
 
 
@@ -168,6 +170,8 @@ def body(table, name, at):
         return "print_left(self, p);"
     if name == "SwitchCase":
         return f"p.print_due_semicolon();\n        print_switch_case(self, p, {at});"
+    if name == "ClassElement":
+        return f"print_ended_element(self, p, {at});"
     if not is_chosen_here(table, name):
         return f"print_{snake(name)}{turbofish(table, name)}(self, p, {at});"
     arms = "".join(f"            {name}::{m}(node) => {printed(table, m)},\n" for m in table.sets[name].members)

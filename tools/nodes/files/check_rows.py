@@ -13,7 +13,9 @@ PROOFS = "Rattle.jsgen_check.proofs"
 VERDICT = "Rattle.jsgen_check.specs.Verdict"
 AROUND = "around: &Surroundings<'_>"
 STEPS = ["no_rules", "two_children", "last_child", "of_row", "none_before", "turn", "turn_copied", "turns_end", "turn_or_hole", "turns_or_holes_end"]
-BODIES = ["FunctionBody"]  # what surrounds their children differs, by `within_body` of crates/jsgen_check/src/surroundings.rt
+# What surrounds their children differs, by these functions of crates/jsgen_check/src/surroundings.rt.
+BODIES = {"FunctionBody": "within_body", "StaticBlock": "within_static_block"}
+OF_KINDS = ["Function"]  # a child of such a type alone is checked by a function by hand, since its place asks for one of its kinds
 PROGRAM = "Program"  # its row stands by hand, in crates/jsgen_check/src/program.rt
 RESULT = "Result<u64, TreeFault>"
 LISTS_THAT_ARE_TYPES = ["FormalParameter"]  # the plural of its name is the name of another type
@@ -81,7 +83,7 @@ def rust(table, about, body):
     checks["crate::children"] += [check(s.name) for s in table.sets.values() if not s.nests]
     checks["crate::rules"] = [rules(n) for n in table.nodes.values() if n.rules]
     here = [(m, [n for n in ns if f"fn {n}(" not in body and f"fn {n}<" not in body]) for m, ns in checks.items()]
-    homes = here + [("crate", ["CheckNode", "Surroundings", "check_child"]), ("crate::heights", ["check_node", "higher"]),
+    homes = here + [("crate::kinds", [f"check_{snake(kind)}_expression" for kind in OF_KINDS]), ("crate", ["CheckNode", "Surroundings", "check_child"]), ("crate::heights", ["check_node", "higher"]),
                     ("jsgen_model", ["TreeFault"]), ("jsgen_tree", tree)]
     aliases = [(f"{SPECS}.declared.types.NodeSet.TheVariants", "sets")]
     return layout.rust(about, ghosts, aliases, homes, body)
@@ -127,8 +129,9 @@ def calls(table, n):
         elif nests(table, f.kind):
             found.append((f.rust, f"check_child({here}.get(), NodeSet::{asked}, {around})", "get", None))
         else:
-            of_type = f.kind if f.kind in table.nodes else None
-            found.append((f.rust, f"{check(f.kind)}(&{here}, {around})", "deref" if of_type else None, of_type))
+            of_type = f.kind if f.kind in table.nodes and f.kind not in OF_KINDS else None
+            call = f"check_{snake(f.kind)}_expression" if f.kind in OF_KINDS else check(f.kind)
+            found.append((f.rust, f"{call}(&{here}, {around})", "deref" if f.kind in table.nodes else None, of_type))
     return found
 
 
@@ -141,7 +144,7 @@ def of_row(table, n):
     of, parameter = typed(table, n.name)
     below = calls(table, n)
     body = f"    let rules = {rules(n)}(node, around);\n" if n.rules else ""
-    body += "    let within = around.within_body();\n" if n.name in BODIES else ""
+    body += f"    let within = around.{BODIES[n.name]}();\n" if n.name in BODIES else ""
     body += "".join(f"    let {name} = {call};\n" for name, call, _, _ in below)
     own = "rules" if n.rules else "Ok(())"
     children = highest([name for name, _, _, _ in below]) if below else "Ok(0)"
@@ -175,7 +178,7 @@ def row_answers(table, n):
         return f"two_children c.{numbered('higher', len(below) - 2 - at)}.ensures {said[at]} ({children(at + 1)})"
 
     own = f"c.{rules(n)}-rules.ensures" if n.rules else "no_rules"
-    within = "c.within_body-within.result _ _ _ _ c.within_body-within.ensures" if n.name in BODIES else "c.args.around.now _ _ _ _ refl"
+    within = f"c.{BODIES[n.name]}-within.result _ _ _ _ c.{BODIES[n.name]}-within.ensures" if n.name in BODIES else "c.args.around.now _ _ _ _ refl"
     end = f"{within} c.check_node.ensures {own} " + (f"({children(0)})" if below else "refl")
     body = f"pub returns : goal.returns\nreturns {'g ' if table.generic(n.name) else ''}c = of_row {end}"
     homes = [("Rattle.std.proofs.Common", ["◌≡◌", "refl", "sym", "◌∙◌"]), (f"{PROOFS}.Verdicts", ["of_right_set"]),

@@ -9,7 +9,7 @@ from files.proofs_cases import aliases, variant
 from files.rows_functions import parts as parts_of_rows
 from files.spelled import BY_HAND_BELOW, crates, spelled
 from names import MODEL, REPOSITORY, row_names, sets_in_antt
-from table import snake
+from table import SPELLED, snake
 
 CRATE = REPOSITORY / "crates" / "jsgen_nodes"
 SPECS = "Rattle.jsgen_nodes.specs.Parts"
@@ -43,12 +43,19 @@ def print_functions(table, at):
     files = [p for p in sorted((CRATE / "src").glob("*.rt")) if p.name not in ("sets.rt", "lib.rt")]
     by_hand = [(f"{at}::{p.stem}", re.findall(r"pub fn (print_\w+)", p.read_text())) for p in files]
     below = [(crate, [f"print_{snake(n.name)}" for n in spelled(table, crate)]) for crate in crates(table)]
+    below += [(crate, [f"print_{snake(n.name)}" for n in table.nodes.values() if n.file == file and not n.spelling])
+              for file, crate in table.print_crates.items() if crate != SPELLED]
     return by_hand + below + [("jsgen_inside", [f"print_{snake(name)}" for name in BY_HAND_BELOW])]
 
 
 def turbofish(table, name):
     """How what nests in a type that is printed in a crate below is printed."""
-    return "::<_, Inside>" if name in table.nodes and table.nodes[name].spelling and table.generic(name) else ""
+    return "::<_, Inside>" if name in table.nodes and is_below(table, table.nodes[name]) and table.generic(name) else ""
+
+
+def is_below(table, n):
+    """Whether a type is printed in a crate below: by its spelling, or by hand in the crate that the table names for its file."""
+    return n.spelling or table.print_crates[n.file] != SPELLED
 
 
 # ---- the parts of a choice

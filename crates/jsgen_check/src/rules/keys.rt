@@ -20,20 +20,22 @@ use crate::{CheckNode, Surroundings};
 use jsgen_model::TreeFault;
 use jsgen_tree::{ExpressionNode, NodeType, ObjectProperty, PropertyKey, Tables, is_proto};
 
-fn key_type<N: CheckNode>(key: &PropertyKey<N>) -> NodeType
+pub fn key_type<N: CheckNode>(key: &PropertyKey<N>) -> NodeType
     ensures { result ≡ type_of (in_property_key N.plain key.now) }
 {
     match key {
         PropertyKey::IdentifierName(_) => NodeType::IdentifierName,
+        PropertyKey::PrivateIdentifier(_) => NodeType::PrivateIdentifier,
         PropertyKey::Expression(node) => node.get().node_type(),
     }
 }
 
-fn key_start<N: CheckNode>(key: &PropertyKey<N>) -> u32
+pub fn key_start<N: CheckNode>(key: &PropertyKey<N>) -> u32
     ensures { result ≡ (span_of (in_property_key N.plain key.now)).start }
 {
     match key {
         PropertyKey::IdentifierName(node) => node.span.start,
+        PropertyKey::PrivateIdentifier(node) => node.span.start,
         PropertyKey::Expression(node) => node.get().start(),
     }
 }
@@ -43,6 +45,7 @@ fn key_name<N: CheckNode>(key: &PropertyKey<N>) -> Option<&str>
 {
     match key {
         PropertyKey::IdentifierName(node) => Some(node.name.as_str()),
+        PropertyKey::PrivateIdentifier(_) => None,
         PropertyKey::Expression(node) => node.get().written_name(),
     }
 }
@@ -99,11 +102,12 @@ fn is_negative_key<N: CheckNode>(key: &PropertyKey<N>) -> bool
 {
     match key {
         PropertyKey::IdentifierName(_) => false,
+        PropertyKey::PrivateIdentifier(_) => false,
         PropertyKey::Expression(node) => is_negative_big_integer(node.get()),
     }
 }
 
-fn may_be_key<N: CheckNode>(computed: bool, key: &PropertyKey<N>) -> bool
+pub fn may_be_key<N: CheckNode>(computed: bool, key: &PropertyKey<N>) -> bool
     ensures { result ≡ may_be_key computed (in_property_key N.plain key.now) }
 {
     if computed {
@@ -171,11 +175,12 @@ fn check_shorthand<N: CheckNode>(
     }
 }
 
-fn is_negative_number_key<N: CheckNode>(key: &PropertyKey<N>) -> bool
+pub fn is_negative_number_key<N: CheckNode>(key: &PropertyKey<N>) -> bool
     ensures { result ≡ is_negative_number (in_property_key N.plain key.now) }
 {
     match key {
         PropertyKey::IdentifierName(_) => false,
+        PropertyKey::PrivateIdentifier(_) => false,
         PropertyKey::Expression(node) => is_negative_number(node.get()),
     }
 }

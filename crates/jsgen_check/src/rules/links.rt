@@ -3,7 +3,7 @@
 
 ghost use Rattle.std.specs.Prelude.{◌≡◌};
 ghost use Rattle.jsgen_tree.specs.Tree.{span_of};
-ghost use Rattle.jsgen_tree.specs.Rows.{static_member_expression_row, computed_member_expression_row, call_expression_row, chain_expression_row, update_expression_row, assignment_expression_row, in_assignment_target, in_simple_assignment_target};
+ghost use Rattle.jsgen_tree.specs.Rows.{static_member_expression_row, computed_member_expression_row, private_field_expression_row, call_expression_row, chain_expression_row, update_expression_row, assignment_expression_row, in_assignment_target, in_simple_assignment_target};
 ghost use Rattle.jsgen_model.specs.Valid.{own_faults, super_faults, target_faults};
 ghost use Rattle.jsgen_rules.specs.Verdict.{verdict};
 ghost use Rattle.jsgen_check.specs.Verdict.{surroundings_plain};
@@ -16,7 +16,8 @@ use jsgen_model::TreeFault;
 use jsgen_rules::{check_no_optional_link, is_super};
 use jsgen_tree::{
     AssignmentExpression, AssignmentTarget, CallExpression, ChainExpression,
-    ComputedMemberExpression, SimpleAssignmentTarget, StaticMemberExpression, UpdateExpression,
+    ComputedMemberExpression, PrivateFieldExpression, SimpleAssignmentTarget,
+    StaticMemberExpression, UpdateExpression,
 };
 
 /// No optional link goes on from `super`.
@@ -53,6 +54,18 @@ pub fn check_computed_member_expression_rules<N: CheckNode>(
     check_super(node.optional, node.object.get())
 }
 
+/// `super` has no private member.
+#[tactic(auto)]
+pub fn check_private_field_expression_rules<N: CheckNode>(
+    node: &PrivateFieldExpression<N>,
+    around: &Surroundings<'_>,
+) -> Result<(), TreeFault>
+    ensures { result ≡ verdict (own_faults (surroundings_plain around.now) (private_field_expression_row N.plain node.now)) }
+{
+    let _ = around;
+    check_super(true, node.object.get())
+}
+
 #[tactic(auto)]
 pub fn check_call_expression_rules<N: CheckNode>(
     node: &CallExpression<N>,
@@ -86,6 +99,7 @@ fn target_start<N: CheckNode>(target: &SimpleAssignmentTarget<N>) -> u32
         SimpleAssignmentTarget::IdentifierReference(node) => node.span.start,
         SimpleAssignmentTarget::StaticMemberExpression(node) => node.span.start,
         SimpleAssignmentTarget::ComputedMemberExpression(node) => node.span.start,
+        SimpleAssignmentTarget::PrivateFieldExpression(node) => node.span.start,
     }
 }
 
@@ -114,6 +128,7 @@ fn assigned_start<N: CheckNode>(target: &AssignmentTarget<N>) -> u32
         AssignmentTarget::IdentifierReference(node) => node.span.start,
         AssignmentTarget::StaticMemberExpression(node) => node.span.start,
         AssignmentTarget::ComputedMemberExpression(node) => node.span.start,
+        AssignmentTarget::PrivateFieldExpression(node) => node.span.start,
     }
 }
 

@@ -8,7 +8,10 @@ ghost use Rattle.jsgen_model.specs.Valid.{own_faults, body_faults, alternate_fau
 ghost use Rattle.jsgen_rules.specs.Verdict.{verdict};
 ghost use Rattle.jsgen_check.specs.Verdict.{surroundings_plain};
 
-use crate::links::{computed_member_has_optional_link, static_member_has_optional_link};
+use crate::links::{
+    computed_member_has_optional_link, private_member_has_optional_link,
+    static_member_has_optional_link,
+};
 use crate::rules::patterns::check_init;
 use crate::{CheckNode, Surroundings};
 use jsgen_model::TreeFault;
@@ -85,6 +88,10 @@ fn check_left<N: CheckNode>(left: &ForStatementLeft<N>) -> Result<(), TreeFault>
         ),
         ForStatementLeft::ComputedMemberExpression(node) => check_no_optional_link(
             computed_member_has_optional_link(node),
+            node.span.start,
+        ),
+        ForStatementLeft::PrivateFieldExpression(node) => check_no_optional_link(
+            private_member_has_optional_link(node),
             node.span.start,
         ),
     }

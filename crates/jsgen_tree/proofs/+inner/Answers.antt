@@ -5,22 +5,27 @@ use Rattle.jsgen_tree.specs.Rows.{expression_plain}
 use Rattle.jsgen_tree.specs.Inside.{is_only_expression}
 use Rattle.jsgen_tree.specs.declared.nodes.Node.{Node}
 use Rattle.jsgen_tree.specs.declared.functions.Function.{Function}
+use Rattle.jsgen_tree.specs.declared.classes.Class.{Class}
 use Rattle.jsgen_tree.specs.declared.sets.Expression.{Expression}
 use Rattle.jsgen_tree.specs.declared.sets.Expression.TheVariants as expressions
 use Rattle.jsgen_tree.proofs.Knot.{plain_expression, plain_statement}
-use Rattle.jsgen_tree.proofs.Members.{declaration_is_none, binding_pattern_is_none}
+use Rattle.jsgen_tree.proofs.Members.{declaration_is_none, binding_pattern_is_none, class_element_is_none}
 use Rattle.jsgen_tree.proofs.+inner.Goals as goal
 
--- an expression that is no function
-only_expression : (h : Node → Tree) (n : Expression Node) → ((b : Box (Function Node) Global) → n ≡ expressions.Function b → ⊥) → is_only_expression (type_of (expression_plain h n)) ≡ true
-only_expression h (expressions.Function b) no_function = absurd (no_function b refl)
-only_expression h n no_function = refl
+-- an expression that is no function and no class
+only_expression : (h : Node → Tree) (n : Expression Node) → ((b : Box (Function Node) Global) → n ≡ expressions.Function b → ⊥) → ((b : Box (Class Node) Global) → n ≡ expressions.Class b → ⊥) → is_only_expression (type_of (expression_plain h n)) ≡ true
+only_expression h (expressions.Function b) no_function no_class = absurd (no_function b refl)
+only_expression h (expressions.Class b) no_function no_class = absurd (no_class b refl)
+only_expression h n no_function no_class = refl
 
 pub nodes::Node::inner_expression-returns-in-Function : goal.nodes::Node::inner_expression-returns-in-Function
 nodes::Node::inner_expression-returns-in-Function t c = search (rules, plain_expression)
 
+pub nodes::Node::inner_expression-returns-in-Class : goal.nodes::Node::inner_expression-returns-in-Class
+nodes::Node::inner_expression-returns-in-Class t c = search (rules, plain_expression)
+
 pub nodes::Node::inner_expression-returns-in_default : goal.nodes::Node::inner_expression-returns-in_default
-nodes::Node::inner_expression-returns-in_default t c = rw (c.in-Expression.is, plain_expression c.in-Expression.expression) (only_expression _ c.in-Expression.expression c.in_default.not-Function, c.without_parentheses.ensures)
+nodes::Node::inner_expression-returns-in_default t c = rw (c.in-Expression.is, plain_expression c.in-Expression.expression) (only_expression _ c.in-Expression.expression c.in_default.not-Function c.in_default.not-Class, c.without_parentheses.ensures)
 
 pub nodes::Node::inner_expression-returns-in-Declaration-statement : goal.nodes::Node::inner_expression-returns-in-Declaration-statement
 nodes::Node::inner_expression-returns-in-Declaration-statement t c = search (rules, plain_statement)
@@ -33,3 +38,6 @@ nodes::Node::inner_expression-returns-in-Declaration t c = search (rules, declar
 
 pub nodes::Node::inner_expression-returns-in-BindingPattern : goal.nodes::Node::inner_expression-returns-in-BindingPattern
 nodes::Node::inner_expression-returns-in-BindingPattern t c = search (rules, binding_pattern_is_none)
+
+pub nodes::Node::inner_expression-returns-in-ClassElement : goal.nodes::Node::inner_expression-returns-in-ClassElement
+nodes::Node::inner_expression-returns-in-ClassElement t c = search (rules, class_element_is_none)

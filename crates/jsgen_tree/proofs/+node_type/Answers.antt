@@ -1,7 +1,7 @@
 -- Generated from tools/nodes/table.txt; edit that and run tools/nodes/generate.
 -- Each set's own lemma.
 use Rattle.std.proofs.Common.{rules}
-use Rattle.jsgen_tree.proofs.Knot.{plain_expression, plain_declaration, plain_statement, plain_binding_pattern}
+use Rattle.jsgen_tree.proofs.Knot.{plain_expression, plain_declaration, plain_statement, plain_binding_pattern, plain_class_element}
 use Rattle.jsgen_tree.proofs.+node_type.Goals as goal
 
 pub nodes::Node::node_type-returns-in-Expression : goal.nodes::Node::node_type-returns-in-Expression
@@ -15,3 +15,6 @@ nodes::Node::node_type-returns-in-Statement t c = search (rules, plain_statement
 
 pub nodes::Node::node_type-returns-in-BindingPattern : goal.nodes::Node::node_type-returns-in-BindingPattern
 nodes::Node::node_type-returns-in-BindingPattern t c = search (rules, plain_binding_pattern)
+
+pub nodes::Node::node_type-returns-in-ClassElement : goal.nodes::Node::node_type-returns-in-ClassElement
+nodes::Node::node_type-returns-in-ClassElement t c = search (rules, plain_class_element)

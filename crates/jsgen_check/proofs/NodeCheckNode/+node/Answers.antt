@@ -1,4 +1,4 @@
-use Rattle.jsgen_tree.proofs.Knot.{plain_expression, plain_statement, plain_declaration, plain_binding_pattern}
+use Rattle.jsgen_tree.proofs.Knot.{plain_expression, plain_statement, plain_declaration, plain_binding_pattern, plain_class_element}
 use Rattle.jsgen_check.proofs.NodeCheckNode.+node.Goals as goal
 
 pub returns-in-Expression : goal.returns-in-Expression
@@ -12,3 +12,6 @@ returns-in-Declaration t c = rw (c.in-Declaration.is, plain_declaration c.in-Dec
 
 pub returns-in-BindingPattern : goal.returns-in-BindingPattern
 returns-in-BindingPattern t c = rw (c.in-BindingPattern.is, plain_binding_pattern c.in-BindingPattern.pattern) c.check_binding_pattern_set.ensures
+
+pub returns-in-ClassElement : goal.returns-in-ClassElement
+returns-in-ClassElement t c = rw (c.in-ClassElement.is, plain_class_element c.in-ClassElement.element) c.check_class_element_set.ensures

@@ -16,3 +16,6 @@ returns-in-StaticMemberExpression g c = rw c.in-StaticMemberExpression.is ((rw c
 
 pub returns-in-ComputedMemberExpression : goal.returns-in-ComputedMemberExpression
 returns-in-ComputedMemberExpression g c = rw c.in-ComputedMemberExpression.is ((rw c.deref-in-ComputedMemberExpression.ensures at c.check_computed_member_expression.ensures) ∙ sym (of_right_set _ sets.ForStatementLeft _ refl))
+
+pub returns-in-PrivateFieldExpression : goal.returns-in-PrivateFieldExpression
+returns-in-PrivateFieldExpression g c = rw c.in-PrivateFieldExpression.is ((rw c.deref-in-PrivateFieldExpression.ensures at c.check_private_field_expression.ensures) ∙ sym (of_right_set _ sets.ForStatementLeft _ refl))

@@ -1,5 +1,5 @@
 use Rattle.std.proofs.Common.{rules}
-use Rattle.jsgen_tree.proofs.Knot.{plain_expression, plain_statement, plain_declaration, plain_binding_pattern}
+use Rattle.jsgen_tree.proofs.Knot.{plain_expression, plain_statement, plain_declaration, plain_binding_pattern, plain_class_element}
 use Rattle.jsgen_check.proofs.links.+has_optional_link.Goals as goal
 
 pub has_optional_link-returns-in-Expression : goal.has_optional_link-returns-in-Expression
@@ -16,3 +16,6 @@ has_optional_link-returns-in-Declaration t c = search (rules, plain_declaration)
 
 pub has_optional_link-returns-in-BindingPattern : goal.has_optional_link-returns-in-BindingPattern
 has_optional_link-returns-in-BindingPattern t c = search (rules, plain_binding_pattern)
+
+pub has_optional_link-returns-in-ClassElement : goal.has_optional_link-returns-in-ClassElement
+has_optional_link-returns-in-ClassElement t c = search (rules, plain_class_element)

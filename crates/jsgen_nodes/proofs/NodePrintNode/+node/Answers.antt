@@ -1,5 +1,5 @@
 use Rattle.std.proofs.Common.{rules, sym}
-use Rattle.jsgen_tree.proofs.Knot.{plain_expression, plain_statement, plain_declaration, plain_binding_pattern}
+use Rattle.jsgen_tree.proofs.Knot.{plain_expression, plain_statement, plain_declaration, plain_binding_pattern, plain_class_element}
 use Rattle.jsgen_printer.proofs.Sequence.{nothing_laid}
 use Rattle.jsgen_nodes.proofs.Elsewhere.{no_expression_method, no_declaration_method, no_statement_method}
 use Rattle.jsgen_nodes.proofs.NodePrintNode.+node.Goals as goal
@@ -36,3 +36,9 @@ print_as_method-returns-in_default-declaration t c = rw (c.in-Declaration.is, pl
 
 pub print_as_method-returns-in-BindingPattern : goal.print_as_method-returns-in-BindingPattern
 print_as_method-returns-in-BindingPattern t c = search (rules, plain_binding_pattern)
+
+pub print-returns-in-ClassElement : goal.print-returns-in-ClassElement
+print-returns-in-ClassElement t c = rw (c.in-ClassElement.is, plain_class_element c.in-ClassElement.node) c.print_class_element.ensures
+
+pub print_as_method-returns-in-ClassElement : goal.print_as_method-returns-in-ClassElement
+print_as_method-returns-in-ClassElement t c = search (rules, plain_class_element)

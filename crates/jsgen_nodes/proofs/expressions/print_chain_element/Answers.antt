@@ -8,3 +8,6 @@ returns-in-ComputedMemberExpression g c = rw (c.in-ComputedMemberExpression.is, 
 
 pub returns-in-CallExpression : goal.returns-in-CallExpression
 returns-in-CallExpression g c = rw (c.in-CallExpression.is, ← c.deref-in-CallExpression.ensures) c.print_call_expression.ensures
+
+pub returns-in-PrivateFieldExpression : goal.returns-in-PrivateFieldExpression
+returns-in-PrivateFieldExpression g c = rw (c.in-PrivateFieldExpression.is, ← c.deref-in-PrivateFieldExpression.ensures) c.print_private_field_expression.ensures

@@ -9,5 +9,8 @@ returns-in-Function g c = rw c.in-Function.is (rw c.deref.ensures at c.print_fun
 pub returns-in-ArrowFunctionExpression : goal.returns-in-ArrowFunctionExpression
 returns-in-ArrowFunctionExpression g c = rw c.in-ArrowFunctionExpression.is (rw c.deref-in-ArrowFunctionExpression.ensures at c.print_arrow_function_expression.ensures)
 
-pub unreachable-requires : goal.unreachable-requires
-unreachable-requires g c = expression_past_4 c.args.node.now c.requires c.in_default.not-Function c.in_default.not-ArrowFunctionExpression
+pub returns-in_default : goal.returns-in_default
+returns-in_default g c = c.print_expression_in_classes.ensures
+
+pub print_expression_in_classes-requires : goal.print_expression_in_classes-requires
+print_expression_in_classes-requires g c = expression_past_4 c.args.node.now c.requires c.in_default.not-Function c.in_default.not-ArrowFunctionExpression

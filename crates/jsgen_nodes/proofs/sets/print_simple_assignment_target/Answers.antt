@@ -10,3 +10,6 @@ returns-in-StaticMemberExpression g c = rw c.in-StaticMemberExpression.is (rw c.
 
 pub returns-in-ComputedMemberExpression : goal.returns-in-ComputedMemberExpression
 returns-in-ComputedMemberExpression g c = rw c.in-ComputedMemberExpression.is (rw c.deref-in-ComputedMemberExpression.ensures at c.print_computed_member_expression.ensures)
+
+pub returns-in-PrivateFieldExpression : goal.returns-in-PrivateFieldExpression
+returns-in-PrivateFieldExpression g c = rw c.in-PrivateFieldExpression.is (rw c.deref-in-PrivateFieldExpression.ensures at c.print_private_field_expression.ensures)

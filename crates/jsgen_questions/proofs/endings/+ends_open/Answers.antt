@@ -1,6 +1,6 @@
 use Rattle.std.proofs.Common.{rules}
-use Rattle.jsgen_tree.proofs.Knot.{plain_expression, plain_declaration, plain_binding_pattern, plain_statement}
-use Rattle.jsgen_questions.proofs.Elsewhere.{no_open_expression, no_open_declaration, no_open_pattern, no_open_statement}
+use Rattle.jsgen_tree.proofs.Knot.{plain_expression, plain_declaration, plain_binding_pattern, plain_class_element, plain_statement}
+use Rattle.jsgen_questions.proofs.Elsewhere.{no_open_expression, no_open_declaration, no_open_pattern, no_open_element, no_open_statement}
 use Rattle.jsgen_questions.proofs.endings.+ends_open.Goals as goal
 
 pub ends_open-returns-in-Expression : goal.ends_open-returns-in-Expression
@@ -35,3 +35,6 @@ ends_open-returns-in-LabeledStatement t c = search (rules, plain_statement)
 
 pub ends_open-returns-in_default : goal.ends_open-returns-in_default
 ends_open-returns-in_default t c = rw (c.in-Statement.is, plain_statement c.in-Statement.statement) (no_open_statement c.in-Statement.statement c.in_default.not-Declaration c.in_default.not-IfStatement c.in_default.not-ForStatement c.in_default.not-ForInStatement c.in_default.not-ForOfStatement c.in_default.not-WhileStatement c.in_default.not-LabeledStatement)
+
+pub ends_open-returns-in-ClassElement : goal.ends_open-returns-in-ClassElement
+ends_open-returns-in-ClassElement t c = rw (c.in-ClassElement.is, plain_class_element c.in-ClassElement.field-0) (no_open_element c.in-ClassElement.field-0)

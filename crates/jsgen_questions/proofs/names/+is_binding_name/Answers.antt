@@ -1,5 +1,5 @@
 use Rattle.std.proofs.Common.{rules, refl}
-use Rattle.jsgen_tree.proofs.Knot.{plain_expression, plain_declaration, plain_binding_pattern, plain_statement}
+use Rattle.jsgen_tree.proofs.Knot.{plain_expression, plain_declaration, plain_binding_pattern, plain_statement, plain_class_element}
 use Rattle.jsgen_questions.proofs.names.+is_binding_name.Goals as goal
 
 pub returns-in-Expression : goal.returns-in-Expression
@@ -25,3 +25,6 @@ returns-in-ArrayPattern t c = rw (c.in-BindingPattern.is, plain_binding_pattern 
 
 pub returns-in-AssignmentPattern : goal.returns-in-AssignmentPattern
 returns-in-AssignmentPattern t c = rw (c.in-BindingPattern.is, plain_binding_pattern c.in-BindingPattern.pattern, c.in-AssignmentPattern.is) refl
+
+pub returns-in-ClassElement : goal.returns-in-ClassElement
+returns-in-ClassElement t c = search (rules, plain_class_element)

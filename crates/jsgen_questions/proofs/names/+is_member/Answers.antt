@@ -1,5 +1,5 @@
 use Rattle.std.proofs.Common.{rules}
-use Rattle.jsgen_tree.proofs.Knot.{plain_expression, plain_declaration, plain_binding_pattern, plain_statement}
+use Rattle.jsgen_tree.proofs.Knot.{plain_expression, plain_declaration, plain_binding_pattern, plain_class_element, plain_statement}
 use Rattle.jsgen_questions.proofs.names.+is_member.Goals as goal
 
 pub returns-in-StaticMemberExpression : goal.returns-in-StaticMemberExpression
@@ -19,3 +19,6 @@ returns-in-Declaration t c = search (rules, plain_declaration)
 
 pub returns-in-BindingPattern : goal.returns-in-BindingPattern
 returns-in-BindingPattern t c = search (rules, plain_binding_pattern)
+
+pub returns-in-ClassElement : goal.returns-in-ClassElement
+returns-in-ClassElement t c = search (rules, plain_class_element)

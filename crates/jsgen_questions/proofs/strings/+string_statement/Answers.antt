@@ -1,6 +1,6 @@
 use Rattle.std.proofs.Common.{rules}
-use Rattle.jsgen_tree.proofs.Knot.{plain_expression, plain_declaration, plain_binding_pattern, plain_statement}
-use Rattle.jsgen_questions.proofs.Elsewhere.{no_expression_string, no_declaration_string, no_pattern_string, no_string_statement}
+use Rattle.jsgen_tree.proofs.Knot.{plain_expression, plain_declaration, plain_binding_pattern, plain_class_element, plain_statement}
+use Rattle.jsgen_questions.proofs.Elsewhere.{no_expression_string, no_declaration_string, no_pattern_string, no_element_string, no_string_statement}
 use Rattle.jsgen_questions.proofs.strings.+string_statement.Goals as goal
 
 pub returns-in-Expression : goal.returns-in-Expression
@@ -20,3 +20,6 @@ returns-in-ExpressionStatement t c = search (rules, plain_statement)
 
 pub returns-in_default : goal.returns-in_default
 returns-in_default t c = rw (c.in-Statement.is, plain_statement c.in-Statement.statement) (no_string_statement c.in-Statement.statement c.in_default.not-Declaration c.in_default.not-ExpressionStatement)
+
+pub returns-in-ClassElement : goal.returns-in-ClassElement
+returns-in-ClassElement t c = rw (c.in-ClassElement.is, plain_class_element c.in-ClassElement.field-0) (no_element_string c.in-ClassElement.field-0)

@@ -34,4 +34,9 @@ returns c = record {
   for_of_statement = λ a. refl;
   label_identifier = λ a. refl;
   binding_property = λ a. refl;
+  private_identifier = λ a. refl;
+  private_field_expression = λ a. refl;
+  class = λ a. (refl, refl, refl);
+  method_definition = λ a. (refl, refl, refl, refl, refl, refl);
+  property_definition = λ a. (refl, refl, refl, refl, refl, refl, refl, refl);
 }

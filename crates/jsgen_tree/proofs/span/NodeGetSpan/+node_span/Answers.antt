@@ -1,7 +1,7 @@
 -- Generated from tools/nodes/table.txt; edit that and run tools/nodes/generate.
 -- Each set's own lemma.
 use Rattle.std.proofs.Common.{rules}
-use Rattle.jsgen_tree.proofs.Knot.{expression_spans, declaration_spans, statement_spans, binding_pattern_spans}
+use Rattle.jsgen_tree.proofs.Knot.{expression_spans, declaration_spans, statement_spans, binding_pattern_spans, class_element_spans}
 use Rattle.jsgen_tree.proofs.span.NodeGetSpan.+node_span.Goals as goal
 
 pub returns-in-Expression : goal.returns-in-Expression
@@ -15,3 +15,6 @@ returns-in-Statement t c = search (rules, statement_spans)
 
 pub returns-in-BindingPattern : goal.returns-in-BindingPattern
 returns-in-BindingPattern t c = search (rules, binding_pattern_spans)
+
+pub returns-in-ClassElement : goal.returns-in-ClassElement
+returns-in-ClassElement t c = search (rules, class_element_spans)
