@@ -3,20 +3,23 @@
 
 use crate::gens::{Gen, GenExpr};
 use jsgen_tree::{
-    Argument, ArrayExpression, ArrayExpressionElement, ArrowFunctionExpression,
-    AssignmentExpression, AssignmentTarget, BigIntLiteral, BinaryExpression, BindingIdentifier,
-    BindingPattern, BlockStatement, BooleanLiteral, BreakStatement, CallExpression, CatchClause,
-    ChainExpression, ComputedMemberExpression, ConditionalExpression, ContinueStatement,
-    DebuggerStatement, Directive, DoWhileStatement, EmptyStatement, Expression,
-    ExpressionStatement, ForInStatement, ForOfStatement, ForStatement, ForStatementInit,
-    ForStatementLeft, FormalParameter, FormalParameterRest, FormalParameters, Function,
-    FunctionBody, IdentifierName, IdentifierReference, IfStatement, ImportMeta, LabelIdentifier,
-    LabeledStatement, LogicalExpression, NewExpression, NewTarget, NullLiteral, NumericLiteral,
-    ObjectExpression, ObjectProperty, ObjectPropertyKind, ParenthesizedExpression, Program,
-    PropertyKey, ReturnStatement, SequenceExpression, SimpleAssignmentTarget, SpreadElement,
-    Statement, StaticMemberExpression, StringLiteral, Super, SwitchCase, SwitchStatement,
-    ThisExpression, ThrowStatement, TryStatement, UnaryExpression, UpdateExpression,
-    VariableDeclaration, VariableDeclarator, WhileStatement,
+    Argument, ArrayAssignmentTarget, ArrayExpression, ArrayExpressionElement,
+    ArrowFunctionExpression, AssignmentExpression, AssignmentTarget, AssignmentTargetMaybeDefault,
+    AssignmentTargetPattern, AssignmentTargetProperty, AssignmentTargetPropertyIdentifier,
+    AssignmentTargetPropertyProperty, AssignmentTargetRest, AssignmentTargetWithDefault,
+    BigIntLiteral, BinaryExpression, BindingIdentifier, BindingPattern, BlockStatement,
+    BooleanLiteral, BreakStatement, CallExpression, CatchClause, ChainExpression,
+    ComputedMemberExpression, ConditionalExpression, ContinueStatement, DebuggerStatement,
+    Directive, DoWhileStatement, EmptyStatement, Expression, ExpressionStatement, ForInStatement,
+    ForOfStatement, ForStatement, ForStatementInit, ForStatementLeft, FormalParameter,
+    FormalParameterRest, FormalParameters, Function, FunctionBody, IdentifierName,
+    IdentifierReference, IfStatement, ImportMeta, LabelIdentifier, LabeledStatement,
+    LogicalExpression, NewExpression, NewTarget, NullLiteral, NumericLiteral,
+    ObjectAssignmentTarget, ObjectExpression, ObjectProperty, ObjectPropertyKind,
+    ParenthesizedExpression, Program, PropertyKey, ReturnStatement, SequenceExpression,
+    SimpleAssignmentTarget, SpreadElement, Statement, StaticMemberExpression, StringLiteral, Super,
+    SwitchCase, SwitchStatement, ThisExpression, ThrowStatement, TryStatement, UnaryExpression,
+    UpdateExpression, VariableDeclaration, VariableDeclarator, WhileStatement,
 };
 
 impl Gen for Program {}
@@ -137,6 +140,18 @@ impl Gen for TryStatement {}
 
 impl Gen for CatchClause {}
 
+impl Gen for ArrayAssignmentTarget {}
+
+impl Gen for ObjectAssignmentTarget {}
+
+impl Gen for AssignmentTargetWithDefault {}
+
+impl Gen for AssignmentTargetPropertyIdentifier {}
+
+impl Gen for AssignmentTargetPropertyProperty {}
+
+impl Gen for AssignmentTargetRest {}
+
 impl GenExpr for Expression {}
 
 impl Gen for Argument {}
@@ -145,7 +160,13 @@ impl Gen for ArrayExpressionElement {}
 
 impl GenExpr for SimpleAssignmentTarget {}
 
+impl Gen for AssignmentTargetPattern {}
+
 impl Gen for AssignmentTarget {}
+
+impl Gen for AssignmentTargetMaybeDefault {}
+
+impl Gen for AssignmentTargetProperty {}
 
 impl Gen for ForStatementInit {}
 

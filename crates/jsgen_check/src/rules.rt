@@ -12,6 +12,7 @@ mod functions;
 mod keys;
 mod links;
 mod statements;
+mod targets;
 
 use crate::{CheckNode, Surroundings};
 pub use functions::{check_function_rules, check_return_statement_rules};
@@ -28,7 +29,7 @@ use jsgen_tree::{
 };
 pub use keys::check_object_property_rules;
 pub use links::{
-    check_assignment_expression_rules, check_call_expression_rules, check_chain_expression_rules,
+    check_call_expression_rules, check_chain_expression_rules,
     check_computed_member_expression_rules, check_static_member_expression_rules,
     check_update_expression_rules,
 };
@@ -36,6 +37,11 @@ pub use statements::{
     check_do_while_statement_rules, check_for_in_statement_rules, check_for_of_statement_rules,
     check_for_statement_rules, check_if_statement_rules, check_labeled_statement_rules,
     check_switch_statement_rules, check_try_statement_rules, check_while_statement_rules,
+};
+pub use targets::{
+    check_assignment_expression_rules, check_assignment_target_property_identifier_rules,
+    check_assignment_target_property_property_rules, check_assignment_target_rest_rules,
+    check_assignment_target_with_default_rules, check_object_assignment_target_rules,
 };
 
 #[tactic(auto, unfolding(crate::specs::Verdict::surroundings_plain))]

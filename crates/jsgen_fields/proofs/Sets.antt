@@ -3,22 +3,25 @@
 use Rattle.std.proofs.Common.{◌≡◌, Bool, true, false, refl}
 use Rattle.jsgen_tree.specs.Tree.{Tree, type_of}
 use Rattle.jsgen_tree.specs.declared.types.NodeType.{NodeType}
-use Rattle.jsgen_tree.specs.Sets.{is_comment, is_directive, is_statement, is_variable_declarator, is_binding_pattern, is_expression, is_identifier_name, is_argument, is_chain_element, is_array_expression_element, is_property_key, is_object_property_kind, is_simple_assignment_target, is_assignment_target, is_formal_parameter, is_formal_parameter_rest, is_binding_identifier, is_formal_parameters, is_function_body, is_arrow_function_body, is_for_statement_init, is_for_statement_left, is_label_identifier, is_switch_case, is_block_statement, is_catch_clause}
-use Rattle.jsgen_tree.specs.Rows.{expression_plain, declaration_plain, statement_plain, binding_pattern_plain}
+use Rattle.jsgen_tree.specs.Sets.{is_comment, is_directive, is_statement, is_variable_declarator, is_binding_pattern, is_expression, is_identifier_name, is_argument, is_chain_element, is_array_expression_element, is_property_key, is_object_property_kind, is_simple_assignment_target, is_assignment_target, is_formal_parameter, is_formal_parameter_rest, is_binding_identifier, is_formal_parameters, is_function_body, is_arrow_function_body, is_for_statement_init, is_for_statement_left, is_label_identifier, is_switch_case, is_block_statement, is_catch_clause, is_assignment_target_maybe_default, is_assignment_target_rest, is_assignment_target_property, is_identifier_reference}
+use Rattle.jsgen_tree.specs.Rows.{expression_plain, assignment_target_plain, declaration_plain, statement_plain, binding_pattern_plain}
 use Rattle.jsgen_fields.specs.Meaning.{is_program}
 use Rattle.jsgen_tree.specs.declared.sets.Expression.{Expression}
+use Rattle.jsgen_tree.specs.declared.sets.AssignmentTarget.{AssignmentTarget}
 use Rattle.jsgen_tree.specs.declared.sets.Declaration.{Declaration}
 use Rattle.jsgen_tree.specs.declared.sets.Statement.{Statement}
 use Rattle.jsgen_tree.specs.declared.sets.BindingPattern.{BindingPattern}
-use Rattle.jsgen_fields.specs.Others.{is_other_declaration, is_other_statement, is_other_expression}
+use Rattle.jsgen_fields.specs.Others.{is_other_declaration, is_other_statement, is_other_expression, is_other_assignment_target}
 use Rattle.jsgen_fields.specs.declared.others.OtherDeclaration.{OtherDeclaration}
 use Rattle.jsgen_fields.specs.declared.others.OtherStatement.{OtherStatement}
 use Rattle.jsgen_fields.specs.declared.others.OtherExpression.{OtherExpression}
+use Rattle.jsgen_fields.specs.declared.others.OtherAssignmentTarget.{OtherAssignmentTarget}
 use Rattle.jsgen_tree.specs.declared.types.NodeType.TheVariants as types
 use Rattle.jsgen_tree.specs.declared.sets.Declaration.TheVariants as declarations
 use Rattle.jsgen_tree.specs.declared.sets.BindingPattern.TheVariants as binding_patterns
 use Rattle.jsgen_tree.specs.declared.sets.Statement.TheVariants as statements
 use Rattle.jsgen_tree.specs.declared.sets.Expression.TheVariants as expressions
+use Rattle.jsgen_tree.specs.declared.sets.AssignmentTarget.TheVariants as assignment_targets
 
 -- ---- what is so of each type of a set is so of each row of it
 
@@ -49,34 +52,41 @@ of_statement plain f b h0 h1 h2 h3 h4 h5 h6 h7 h8 h9 h10 h11 h12 h13 h14 h15 h16
 of_statement plain f b h0 h1 h2 h3 h4 h5 h6 h7 h8 h9 h10 h11 h12 h13 h14 h15 h16 (statements.SwitchStatement r) o = h15
 of_statement plain f b h0 h1 h2 h3 h4 h5 h6 h7 h8 h9 h10 h11 h12 h13 h14 h15 h16 (statements.TryStatement r) o = h16
 
-of_expression : {N : Type 0} (plain : N → Tree) (f : NodeType → Bool) (b : Bool) → f types.IdentifierReference ≡ b → f types.ThisExpression ≡ b → f types.NullLiteral ≡ b → f types.BooleanLiteral ≡ b → f types.NumericLiteral ≡ b → f types.BigIntLiteral ≡ b → f types.StringLiteral ≡ b → f types.BinaryExpression ≡ b → f types.LogicalExpression ≡ b → f types.ParenthesizedExpression ≡ b → f types.StaticMemberExpression ≡ b → f types.ComputedMemberExpression ≡ b → f types.CallExpression ≡ b → f types.ChainExpression ≡ b → f types.ArrayExpression ≡ b → f types.ObjectExpression ≡ b → f types.UnaryExpression ≡ b → f types.UpdateExpression ≡ b → f types.NewExpression ≡ b → f types.NewTarget ≡ b → f types.Super ≡ b → f types.ImportMeta ≡ b → f types.ConditionalExpression ≡ b → f types.SequenceExpression ≡ b → f types.AssignmentExpression ≡ b → f types.ArrowFunctionExpression ≡ b → (r : Expression N) → is_other_expression r ≡ true → f (type_of (expression_plain plain r)) ≡ b
-of_expression plain f b h0 h1 h2 h3 h4 h5 h6 h7 h8 h9 h10 h11 h12 h13 h14 h15 h16 h17 h18 h19 h20 h21 h22 h23 h24 h25 (expressions.Function r) o = cc
-of_expression plain f b h0 h1 h2 h3 h4 h5 h6 h7 h8 h9 h10 h11 h12 h13 h14 h15 h16 h17 h18 h19 h20 h21 h22 h23 h24 h25 (expressions.IdentifierReference r) o = h0
-of_expression plain f b h0 h1 h2 h3 h4 h5 h6 h7 h8 h9 h10 h11 h12 h13 h14 h15 h16 h17 h18 h19 h20 h21 h22 h23 h24 h25 (expressions.ThisExpression r) o = h1
-of_expression plain f b h0 h1 h2 h3 h4 h5 h6 h7 h8 h9 h10 h11 h12 h13 h14 h15 h16 h17 h18 h19 h20 h21 h22 h23 h24 h25 (expressions.NullLiteral r) o = h2
-of_expression plain f b h0 h1 h2 h3 h4 h5 h6 h7 h8 h9 h10 h11 h12 h13 h14 h15 h16 h17 h18 h19 h20 h21 h22 h23 h24 h25 (expressions.BooleanLiteral r) o = h3
-of_expression plain f b h0 h1 h2 h3 h4 h5 h6 h7 h8 h9 h10 h11 h12 h13 h14 h15 h16 h17 h18 h19 h20 h21 h22 h23 h24 h25 (expressions.NumericLiteral r) o = h4
-of_expression plain f b h0 h1 h2 h3 h4 h5 h6 h7 h8 h9 h10 h11 h12 h13 h14 h15 h16 h17 h18 h19 h20 h21 h22 h23 h24 h25 (expressions.BigIntLiteral r) o = h5
-of_expression plain f b h0 h1 h2 h3 h4 h5 h6 h7 h8 h9 h10 h11 h12 h13 h14 h15 h16 h17 h18 h19 h20 h21 h22 h23 h24 h25 (expressions.StringLiteral r) o = h6
-of_expression plain f b h0 h1 h2 h3 h4 h5 h6 h7 h8 h9 h10 h11 h12 h13 h14 h15 h16 h17 h18 h19 h20 h21 h22 h23 h24 h25 (expressions.BinaryExpression r) o = h7
-of_expression plain f b h0 h1 h2 h3 h4 h5 h6 h7 h8 h9 h10 h11 h12 h13 h14 h15 h16 h17 h18 h19 h20 h21 h22 h23 h24 h25 (expressions.LogicalExpression r) o = h8
-of_expression plain f b h0 h1 h2 h3 h4 h5 h6 h7 h8 h9 h10 h11 h12 h13 h14 h15 h16 h17 h18 h19 h20 h21 h22 h23 h24 h25 (expressions.ParenthesizedExpression r) o = h9
-of_expression plain f b h0 h1 h2 h3 h4 h5 h6 h7 h8 h9 h10 h11 h12 h13 h14 h15 h16 h17 h18 h19 h20 h21 h22 h23 h24 h25 (expressions.StaticMemberExpression r) o = h10
-of_expression plain f b h0 h1 h2 h3 h4 h5 h6 h7 h8 h9 h10 h11 h12 h13 h14 h15 h16 h17 h18 h19 h20 h21 h22 h23 h24 h25 (expressions.ComputedMemberExpression r) o = h11
-of_expression plain f b h0 h1 h2 h3 h4 h5 h6 h7 h8 h9 h10 h11 h12 h13 h14 h15 h16 h17 h18 h19 h20 h21 h22 h23 h24 h25 (expressions.CallExpression r) o = h12
-of_expression plain f b h0 h1 h2 h3 h4 h5 h6 h7 h8 h9 h10 h11 h12 h13 h14 h15 h16 h17 h18 h19 h20 h21 h22 h23 h24 h25 (expressions.ChainExpression r) o = h13
-of_expression plain f b h0 h1 h2 h3 h4 h5 h6 h7 h8 h9 h10 h11 h12 h13 h14 h15 h16 h17 h18 h19 h20 h21 h22 h23 h24 h25 (expressions.ArrayExpression r) o = h14
-of_expression plain f b h0 h1 h2 h3 h4 h5 h6 h7 h8 h9 h10 h11 h12 h13 h14 h15 h16 h17 h18 h19 h20 h21 h22 h23 h24 h25 (expressions.ObjectExpression r) o = h15
-of_expression plain f b h0 h1 h2 h3 h4 h5 h6 h7 h8 h9 h10 h11 h12 h13 h14 h15 h16 h17 h18 h19 h20 h21 h22 h23 h24 h25 (expressions.UnaryExpression r) o = h16
-of_expression plain f b h0 h1 h2 h3 h4 h5 h6 h7 h8 h9 h10 h11 h12 h13 h14 h15 h16 h17 h18 h19 h20 h21 h22 h23 h24 h25 (expressions.UpdateExpression r) o = h17
-of_expression plain f b h0 h1 h2 h3 h4 h5 h6 h7 h8 h9 h10 h11 h12 h13 h14 h15 h16 h17 h18 h19 h20 h21 h22 h23 h24 h25 (expressions.NewExpression r) o = h18
-of_expression plain f b h0 h1 h2 h3 h4 h5 h6 h7 h8 h9 h10 h11 h12 h13 h14 h15 h16 h17 h18 h19 h20 h21 h22 h23 h24 h25 (expressions.NewTarget r) o = h19
-of_expression plain f b h0 h1 h2 h3 h4 h5 h6 h7 h8 h9 h10 h11 h12 h13 h14 h15 h16 h17 h18 h19 h20 h21 h22 h23 h24 h25 (expressions.Super r) o = h20
-of_expression plain f b h0 h1 h2 h3 h4 h5 h6 h7 h8 h9 h10 h11 h12 h13 h14 h15 h16 h17 h18 h19 h20 h21 h22 h23 h24 h25 (expressions.ImportMeta r) o = h21
-of_expression plain f b h0 h1 h2 h3 h4 h5 h6 h7 h8 h9 h10 h11 h12 h13 h14 h15 h16 h17 h18 h19 h20 h21 h22 h23 h24 h25 (expressions.ConditionalExpression r) o = h22
-of_expression plain f b h0 h1 h2 h3 h4 h5 h6 h7 h8 h9 h10 h11 h12 h13 h14 h15 h16 h17 h18 h19 h20 h21 h22 h23 h24 h25 (expressions.SequenceExpression r) o = h23
-of_expression plain f b h0 h1 h2 h3 h4 h5 h6 h7 h8 h9 h10 h11 h12 h13 h14 h15 h16 h17 h18 h19 h20 h21 h22 h23 h24 h25 (expressions.AssignmentExpression r) o = h24
-of_expression plain f b h0 h1 h2 h3 h4 h5 h6 h7 h8 h9 h10 h11 h12 h13 h14 h15 h16 h17 h18 h19 h20 h21 h22 h23 h24 h25 (expressions.ArrowFunctionExpression r) o = h25
+of_expression : {N : Type 0} (plain : N → Tree) (f : NodeType → Bool) (b : Bool) → f types.ThisExpression ≡ b → f types.NullLiteral ≡ b → f types.BooleanLiteral ≡ b → f types.NumericLiteral ≡ b → f types.BigIntLiteral ≡ b → f types.StringLiteral ≡ b → f types.BinaryExpression ≡ b → f types.LogicalExpression ≡ b → f types.ParenthesizedExpression ≡ b → f types.CallExpression ≡ b → f types.ChainExpression ≡ b → f types.ArrayExpression ≡ b → f types.ObjectExpression ≡ b → f types.UnaryExpression ≡ b → f types.UpdateExpression ≡ b → f types.NewExpression ≡ b → f types.NewTarget ≡ b → f types.Super ≡ b → f types.ImportMeta ≡ b → f types.ConditionalExpression ≡ b → f types.SequenceExpression ≡ b → f types.AssignmentExpression ≡ b → f types.ArrowFunctionExpression ≡ b → (r : Expression N) → is_other_expression r ≡ true → f (type_of (expression_plain plain r)) ≡ b
+of_expression plain f b h0 h1 h2 h3 h4 h5 h6 h7 h8 h9 h10 h11 h12 h13 h14 h15 h16 h17 h18 h19 h20 h21 h22 (expressions.IdentifierReference r) o = cc
+of_expression plain f b h0 h1 h2 h3 h4 h5 h6 h7 h8 h9 h10 h11 h12 h13 h14 h15 h16 h17 h18 h19 h20 h21 h22 (expressions.StaticMemberExpression r) o = cc
+of_expression plain f b h0 h1 h2 h3 h4 h5 h6 h7 h8 h9 h10 h11 h12 h13 h14 h15 h16 h17 h18 h19 h20 h21 h22 (expressions.ComputedMemberExpression r) o = cc
+of_expression plain f b h0 h1 h2 h3 h4 h5 h6 h7 h8 h9 h10 h11 h12 h13 h14 h15 h16 h17 h18 h19 h20 h21 h22 (expressions.Function r) o = cc
+of_expression plain f b h0 h1 h2 h3 h4 h5 h6 h7 h8 h9 h10 h11 h12 h13 h14 h15 h16 h17 h18 h19 h20 h21 h22 (expressions.ThisExpression r) o = h0
+of_expression plain f b h0 h1 h2 h3 h4 h5 h6 h7 h8 h9 h10 h11 h12 h13 h14 h15 h16 h17 h18 h19 h20 h21 h22 (expressions.NullLiteral r) o = h1
+of_expression plain f b h0 h1 h2 h3 h4 h5 h6 h7 h8 h9 h10 h11 h12 h13 h14 h15 h16 h17 h18 h19 h20 h21 h22 (expressions.BooleanLiteral r) o = h2
+of_expression plain f b h0 h1 h2 h3 h4 h5 h6 h7 h8 h9 h10 h11 h12 h13 h14 h15 h16 h17 h18 h19 h20 h21 h22 (expressions.NumericLiteral r) o = h3
+of_expression plain f b h0 h1 h2 h3 h4 h5 h6 h7 h8 h9 h10 h11 h12 h13 h14 h15 h16 h17 h18 h19 h20 h21 h22 (expressions.BigIntLiteral r) o = h4
+of_expression plain f b h0 h1 h2 h3 h4 h5 h6 h7 h8 h9 h10 h11 h12 h13 h14 h15 h16 h17 h18 h19 h20 h21 h22 (expressions.StringLiteral r) o = h5
+of_expression plain f b h0 h1 h2 h3 h4 h5 h6 h7 h8 h9 h10 h11 h12 h13 h14 h15 h16 h17 h18 h19 h20 h21 h22 (expressions.BinaryExpression r) o = h6
+of_expression plain f b h0 h1 h2 h3 h4 h5 h6 h7 h8 h9 h10 h11 h12 h13 h14 h15 h16 h17 h18 h19 h20 h21 h22 (expressions.LogicalExpression r) o = h7
+of_expression plain f b h0 h1 h2 h3 h4 h5 h6 h7 h8 h9 h10 h11 h12 h13 h14 h15 h16 h17 h18 h19 h20 h21 h22 (expressions.ParenthesizedExpression r) o = h8
+of_expression plain f b h0 h1 h2 h3 h4 h5 h6 h7 h8 h9 h10 h11 h12 h13 h14 h15 h16 h17 h18 h19 h20 h21 h22 (expressions.CallExpression r) o = h9
+of_expression plain f b h0 h1 h2 h3 h4 h5 h6 h7 h8 h9 h10 h11 h12 h13 h14 h15 h16 h17 h18 h19 h20 h21 h22 (expressions.ChainExpression r) o = h10
+of_expression plain f b h0 h1 h2 h3 h4 h5 h6 h7 h8 h9 h10 h11 h12 h13 h14 h15 h16 h17 h18 h19 h20 h21 h22 (expressions.ArrayExpression r) o = h11
+of_expression plain f b h0 h1 h2 h3 h4 h5 h6 h7 h8 h9 h10 h11 h12 h13 h14 h15 h16 h17 h18 h19 h20 h21 h22 (expressions.ObjectExpression r) o = h12
+of_expression plain f b h0 h1 h2 h3 h4 h5 h6 h7 h8 h9 h10 h11 h12 h13 h14 h15 h16 h17 h18 h19 h20 h21 h22 (expressions.UnaryExpression r) o = h13
+of_expression plain f b h0 h1 h2 h3 h4 h5 h6 h7 h8 h9 h10 h11 h12 h13 h14 h15 h16 h17 h18 h19 h20 h21 h22 (expressions.UpdateExpression r) o = h14
+of_expression plain f b h0 h1 h2 h3 h4 h5 h6 h7 h8 h9 h10 h11 h12 h13 h14 h15 h16 h17 h18 h19 h20 h21 h22 (expressions.NewExpression r) o = h15
+of_expression plain f b h0 h1 h2 h3 h4 h5 h6 h7 h8 h9 h10 h11 h12 h13 h14 h15 h16 h17 h18 h19 h20 h21 h22 (expressions.NewTarget r) o = h16
+of_expression plain f b h0 h1 h2 h3 h4 h5 h6 h7 h8 h9 h10 h11 h12 h13 h14 h15 h16 h17 h18 h19 h20 h21 h22 (expressions.Super r) o = h17
+of_expression plain f b h0 h1 h2 h3 h4 h5 h6 h7 h8 h9 h10 h11 h12 h13 h14 h15 h16 h17 h18 h19 h20 h21 h22 (expressions.ImportMeta r) o = h18
+of_expression plain f b h0 h1 h2 h3 h4 h5 h6 h7 h8 h9 h10 h11 h12 h13 h14 h15 h16 h17 h18 h19 h20 h21 h22 (expressions.ConditionalExpression r) o = h19
+of_expression plain f b h0 h1 h2 h3 h4 h5 h6 h7 h8 h9 h10 h11 h12 h13 h14 h15 h16 h17 h18 h19 h20 h21 h22 (expressions.SequenceExpression r) o = h20
+of_expression plain f b h0 h1 h2 h3 h4 h5 h6 h7 h8 h9 h10 h11 h12 h13 h14 h15 h16 h17 h18 h19 h20 h21 h22 (expressions.AssignmentExpression r) o = h21
+of_expression plain f b h0 h1 h2 h3 h4 h5 h6 h7 h8 h9 h10 h11 h12 h13 h14 h15 h16 h17 h18 h19 h20 h21 h22 (expressions.ArrowFunctionExpression r) o = h22
+
+of_assignment_target : {N : Type 0} (plain : N → Tree) (f : NodeType → Bool) (b : Bool) → f types.ArrayAssignmentTarget ≡ b → f types.ObjectAssignmentTarget ≡ b → (r : AssignmentTarget N) → is_other_assignment_target r ≡ true → f (type_of (assignment_target_plain plain r)) ≡ b
+of_assignment_target plain f b h0 h1 (assignment_targets.IdentifierReference r) o = cc
+of_assignment_target plain f b h0 h1 (assignment_targets.StaticMemberExpression r) o = cc
+of_assignment_target plain f b h0 h1 (assignment_targets.ComputedMemberExpression r) o = cc
+of_assignment_target plain f b h0 h1 (assignment_targets.ArrayAssignmentTarget r) o = h0
+of_assignment_target plain f b h0 h1 (assignment_targets.ObjectAssignmentTarget r) o = h1
 
 -- ---- set by set
 
@@ -90,7 +100,10 @@ pub no_statement_is_a_program : {N : Type 0} (plain : N → Tree) (r : OtherStat
 no_statement_is_a_program plain r = of_statement plain is_program false refl refl refl refl refl refl refl refl refl refl refl refl refl refl refl refl refl r.statement r.other
 
 pub no_expression_is_a_program : {N : Type 0} (plain : N → Tree) (r : OtherExpression N) → is_program (type_of (expression_plain plain r.expression)) ≡ false
-no_expression_is_a_program plain r = of_expression plain is_program false refl refl refl refl refl refl refl refl refl refl refl refl refl refl refl refl refl refl refl refl refl refl refl refl refl refl r.expression r.other
+no_expression_is_a_program plain r = of_expression plain is_program false refl refl refl refl refl refl refl refl refl refl refl refl refl refl refl refl refl refl refl refl refl refl refl r.expression r.other
+
+pub no_assignment_target_is_a_program : {N : Type 0} (plain : N → Tree) (r : OtherAssignmentTarget N) → is_program (type_of (assignment_target_plain plain r.assignment_target)) ≡ false
+no_assignment_target_is_a_program plain r = of_assignment_target plain is_program false refl refl r.assignment_target r.other
 
 pub no_declaration_is_a_comment : {N : Type 0} (plain : N → Tree) (r : OtherDeclaration N) → is_comment (type_of (declaration_plain plain r.declaration)) ≡ false
 no_declaration_is_a_comment plain r = of_declaration plain is_comment false refl r.declaration r.other
@@ -102,7 +115,10 @@ pub no_statement_is_a_comment : {N : Type 0} (plain : N → Tree) (r : OtherStat
 no_statement_is_a_comment plain r = of_statement plain is_comment false refl refl refl refl refl refl refl refl refl refl refl refl refl refl refl refl refl r.statement r.other
 
 pub no_expression_is_a_comment : {N : Type 0} (plain : N → Tree) (r : OtherExpression N) → is_comment (type_of (expression_plain plain r.expression)) ≡ false
-no_expression_is_a_comment plain r = of_expression plain is_comment false refl refl refl refl refl refl refl refl refl refl refl refl refl refl refl refl refl refl refl refl refl refl refl refl refl refl r.expression r.other
+no_expression_is_a_comment plain r = of_expression plain is_comment false refl refl refl refl refl refl refl refl refl refl refl refl refl refl refl refl refl refl refl refl refl refl refl r.expression r.other
+
+pub no_assignment_target_is_a_comment : {N : Type 0} (plain : N → Tree) (r : OtherAssignmentTarget N) → is_comment (type_of (assignment_target_plain plain r.assignment_target)) ≡ false
+no_assignment_target_is_a_comment plain r = of_assignment_target plain is_comment false refl refl r.assignment_target r.other
 
 pub no_declaration_is_a_directive : {N : Type 0} (plain : N → Tree) (r : OtherDeclaration N) → is_directive (type_of (declaration_plain plain r.declaration)) ≡ false
 no_declaration_is_a_directive plain r = of_declaration plain is_directive false refl r.declaration r.other
@@ -114,7 +130,10 @@ pub no_statement_is_a_directive : {N : Type 0} (plain : N → Tree) (r : OtherSt
 no_statement_is_a_directive plain r = of_statement plain is_directive false refl refl refl refl refl refl refl refl refl refl refl refl refl refl refl refl refl r.statement r.other
 
 pub no_expression_is_a_directive : {N : Type 0} (plain : N → Tree) (r : OtherExpression N) → is_directive (type_of (expression_plain plain r.expression)) ≡ false
-no_expression_is_a_directive plain r = of_expression plain is_directive false refl refl refl refl refl refl refl refl refl refl refl refl refl refl refl refl refl refl refl refl refl refl refl refl refl refl r.expression r.other
+no_expression_is_a_directive plain r = of_expression plain is_directive false refl refl refl refl refl refl refl refl refl refl refl refl refl refl refl refl refl refl refl refl refl refl refl r.expression r.other
+
+pub no_assignment_target_is_a_directive : {N : Type 0} (plain : N → Tree) (r : OtherAssignmentTarget N) → is_directive (type_of (assignment_target_plain plain r.assignment_target)) ≡ false
+no_assignment_target_is_a_directive plain r = of_assignment_target plain is_directive false refl refl r.assignment_target r.other
 
 pub each_declaration_is_a_statement : {N : Type 0} (plain : N → Tree) (r : OtherDeclaration N) → is_statement (type_of (declaration_plain plain r.declaration)) ≡ true
 each_declaration_is_a_statement plain r = of_declaration plain is_statement true refl r.declaration r.other
@@ -126,7 +145,10 @@ pub each_statement_is_a_statement : {N : Type 0} (plain : N → Tree) (r : Other
 each_statement_is_a_statement plain r = of_statement plain is_statement true refl refl refl refl refl refl refl refl refl refl refl refl refl refl refl refl refl r.statement r.other
 
 pub no_expression_is_a_statement : {N : Type 0} (plain : N → Tree) (r : OtherExpression N) → is_statement (type_of (expression_plain plain r.expression)) ≡ false
-no_expression_is_a_statement plain r = of_expression plain is_statement false refl refl refl refl refl refl refl refl refl refl refl refl refl refl refl refl refl refl refl refl refl refl refl refl refl refl r.expression r.other
+no_expression_is_a_statement plain r = of_expression plain is_statement false refl refl refl refl refl refl refl refl refl refl refl refl refl refl refl refl refl refl refl refl refl refl refl r.expression r.other
+
+pub no_assignment_target_is_a_statement : {N : Type 0} (plain : N → Tree) (r : OtherAssignmentTarget N) → is_statement (type_of (assignment_target_plain plain r.assignment_target)) ≡ false
+no_assignment_target_is_a_statement plain r = of_assignment_target plain is_statement false refl refl r.assignment_target r.other
 
 pub no_declaration_is_a_variable_declarator : {N : Type 0} (plain : N → Tree) (r : OtherDeclaration N) → is_variable_declarator (type_of (declaration_plain plain r.declaration)) ≡ false
 no_declaration_is_a_variable_declarator plain r = of_declaration plain is_variable_declarator false refl r.declaration r.other
@@ -138,7 +160,10 @@ pub no_statement_is_a_variable_declarator : {N : Type 0} (plain : N → Tree) (r
 no_statement_is_a_variable_declarator plain r = of_statement plain is_variable_declarator false refl refl refl refl refl refl refl refl refl refl refl refl refl refl refl refl refl r.statement r.other
 
 pub no_expression_is_a_variable_declarator : {N : Type 0} (plain : N → Tree) (r : OtherExpression N) → is_variable_declarator (type_of (expression_plain plain r.expression)) ≡ false
-no_expression_is_a_variable_declarator plain r = of_expression plain is_variable_declarator false refl refl refl refl refl refl refl refl refl refl refl refl refl refl refl refl refl refl refl refl refl refl refl refl refl refl r.expression r.other
+no_expression_is_a_variable_declarator plain r = of_expression plain is_variable_declarator false refl refl refl refl refl refl refl refl refl refl refl refl refl refl refl refl refl refl refl refl refl refl refl r.expression r.other
+
+pub no_assignment_target_is_a_variable_declarator : {N : Type 0} (plain : N → Tree) (r : OtherAssignmentTarget N) → is_variable_declarator (type_of (assignment_target_plain plain r.assignment_target)) ≡ false
+no_assignment_target_is_a_variable_declarator plain r = of_assignment_target plain is_variable_declarator false refl refl r.assignment_target r.other
 
 pub no_declaration_is_a_binding_pattern : {N : Type 0} (plain : N → Tree) (r : OtherDeclaration N) → is_binding_pattern (type_of (declaration_plain plain r.declaration)) ≡ false
 no_declaration_is_a_binding_pattern plain r = of_declaration plain is_binding_pattern false refl r.declaration r.other
@@ -150,7 +175,10 @@ pub no_statement_is_a_binding_pattern : {N : Type 0} (plain : N → Tree) (r : O
 no_statement_is_a_binding_pattern plain r = of_statement plain is_binding_pattern false refl refl refl refl refl refl refl refl refl refl refl refl refl refl refl refl refl r.statement r.other
 
 pub no_expression_is_a_binding_pattern : {N : Type 0} (plain : N → Tree) (r : OtherExpression N) → is_binding_pattern (type_of (expression_plain plain r.expression)) ≡ false
-no_expression_is_a_binding_pattern plain r = of_expression plain is_binding_pattern false refl refl refl refl refl refl refl refl refl refl refl refl refl refl refl refl refl refl refl refl refl refl refl refl refl refl r.expression r.other
+no_expression_is_a_binding_pattern plain r = of_expression plain is_binding_pattern false refl refl refl refl refl refl refl refl refl refl refl refl refl refl refl refl refl refl refl refl refl refl refl r.expression r.other
+
+pub no_assignment_target_is_a_binding_pattern : {N : Type 0} (plain : N → Tree) (r : OtherAssignmentTarget N) → is_binding_pattern (type_of (assignment_target_plain plain r.assignment_target)) ≡ false
+no_assignment_target_is_a_binding_pattern plain r = of_assignment_target plain is_binding_pattern false refl refl r.assignment_target r.other
 
 pub no_declaration_is_an_expression : {N : Type 0} (plain : N → Tree) (r : OtherDeclaration N) → is_expression (type_of (declaration_plain plain r.declaration)) ≡ false
 no_declaration_is_an_expression plain r = of_declaration plain is_expression false refl r.declaration r.other
@@ -162,7 +190,10 @@ pub no_statement_is_an_expression : {N : Type 0} (plain : N → Tree) (r : Other
 no_statement_is_an_expression plain r = of_statement plain is_expression false refl refl refl refl refl refl refl refl refl refl refl refl refl refl refl refl refl r.statement r.other
 
 pub each_expression_is_an_expression : {N : Type 0} (plain : N → Tree) (r : OtherExpression N) → is_expression (type_of (expression_plain plain r.expression)) ≡ true
-each_expression_is_an_expression plain r = of_expression plain is_expression true refl refl refl refl refl refl refl refl refl refl refl refl refl refl refl refl refl refl refl refl refl refl refl refl refl refl r.expression r.other
+each_expression_is_an_expression plain r = of_expression plain is_expression true refl refl refl refl refl refl refl refl refl refl refl refl refl refl refl refl refl refl refl refl refl refl refl r.expression r.other
+
+pub no_assignment_target_is_an_expression : {N : Type 0} (plain : N → Tree) (r : OtherAssignmentTarget N) → is_expression (type_of (assignment_target_plain plain r.assignment_target)) ≡ false
+no_assignment_target_is_an_expression plain r = of_assignment_target plain is_expression false refl refl r.assignment_target r.other
 
 pub no_declaration_is_an_identifier_name : {N : Type 0} (plain : N → Tree) (r : OtherDeclaration N) → is_identifier_name (type_of (declaration_plain plain r.declaration)) ≡ false
 no_declaration_is_an_identifier_name plain r = of_declaration plain is_identifier_name false refl r.declaration r.other
@@ -174,7 +205,10 @@ pub no_statement_is_an_identifier_name : {N : Type 0} (plain : N → Tree) (r : 
 no_statement_is_an_identifier_name plain r = of_statement plain is_identifier_name false refl refl refl refl refl refl refl refl refl refl refl refl refl refl refl refl refl r.statement r.other
 
 pub no_expression_is_an_identifier_name : {N : Type 0} (plain : N → Tree) (r : OtherExpression N) → is_identifier_name (type_of (expression_plain plain r.expression)) ≡ false
-no_expression_is_an_identifier_name plain r = of_expression plain is_identifier_name false refl refl refl refl refl refl refl refl refl refl refl refl refl refl refl refl refl refl refl refl refl refl refl refl refl refl r.expression r.other
+no_expression_is_an_identifier_name plain r = of_expression plain is_identifier_name false refl refl refl refl refl refl refl refl refl refl refl refl refl refl refl refl refl refl refl refl refl refl refl r.expression r.other
+
+pub no_assignment_target_is_an_identifier_name : {N : Type 0} (plain : N → Tree) (r : OtherAssignmentTarget N) → is_identifier_name (type_of (assignment_target_plain plain r.assignment_target)) ≡ false
+no_assignment_target_is_an_identifier_name plain r = of_assignment_target plain is_identifier_name false refl refl r.assignment_target r.other
 
 pub no_declaration_is_an_argument : {N : Type 0} (plain : N → Tree) (r : OtherDeclaration N) → is_argument (type_of (declaration_plain plain r.declaration)) ≡ false
 no_declaration_is_an_argument plain r = of_declaration plain is_argument false refl r.declaration r.other
@@ -186,7 +220,10 @@ pub no_statement_is_an_argument : {N : Type 0} (plain : N → Tree) (r : OtherSt
 no_statement_is_an_argument plain r = of_statement plain is_argument false refl refl refl refl refl refl refl refl refl refl refl refl refl refl refl refl refl r.statement r.other
 
 pub each_expression_is_an_argument : {N : Type 0} (plain : N → Tree) (r : OtherExpression N) → is_argument (type_of (expression_plain plain r.expression)) ≡ true
-each_expression_is_an_argument plain r = of_expression plain is_argument true refl refl refl refl refl refl refl refl refl refl refl refl refl refl refl refl refl refl refl refl refl refl refl refl refl refl r.expression r.other
+each_expression_is_an_argument plain r = of_expression plain is_argument true refl refl refl refl refl refl refl refl refl refl refl refl refl refl refl refl refl refl refl refl refl refl refl r.expression r.other
+
+pub no_assignment_target_is_an_argument : {N : Type 0} (plain : N → Tree) (r : OtherAssignmentTarget N) → is_argument (type_of (assignment_target_plain plain r.assignment_target)) ≡ false
+no_assignment_target_is_an_argument plain r = of_assignment_target plain is_argument false refl refl r.assignment_target r.other
 
 pub no_declaration_is_a_chain_element : {N : Type 0} (plain : N → Tree) (r : OtherDeclaration N) → is_chain_element (type_of (declaration_plain plain r.declaration)) ≡ false
 no_declaration_is_a_chain_element plain r = of_declaration plain is_chain_element false refl r.declaration r.other
@@ -196,6 +233,9 @@ no_binding_pattern_is_a_chain_element r = of_binding_pattern is_chain_element fa
 
 pub no_statement_is_a_chain_element : {N : Type 0} (plain : N → Tree) (r : OtherStatement N) → is_chain_element (type_of (statement_plain plain r.statement)) ≡ false
 no_statement_is_a_chain_element plain r = of_statement plain is_chain_element false refl refl refl refl refl refl refl refl refl refl refl refl refl refl refl refl refl r.statement r.other
+
+pub no_assignment_target_is_a_chain_element : {N : Type 0} (plain : N → Tree) (r : OtherAssignmentTarget N) → is_chain_element (type_of (assignment_target_plain plain r.assignment_target)) ≡ false
+no_assignment_target_is_a_chain_element plain r = of_assignment_target plain is_chain_element false refl refl r.assignment_target r.other
 
 pub no_declaration_is_an_array_expression_element : {N : Type 0} (plain : N → Tree) (r : OtherDeclaration N) → is_array_expression_element (type_of (declaration_plain plain r.declaration)) ≡ false
 no_declaration_is_an_array_expression_element plain r = of_declaration plain is_array_expression_element false refl r.declaration r.other
@@ -207,7 +247,10 @@ pub no_statement_is_an_array_expression_element : {N : Type 0} (plain : N → Tr
 no_statement_is_an_array_expression_element plain r = of_statement plain is_array_expression_element false refl refl refl refl refl refl refl refl refl refl refl refl refl refl refl refl refl r.statement r.other
 
 pub each_expression_is_an_array_expression_element : {N : Type 0} (plain : N → Tree) (r : OtherExpression N) → is_array_expression_element (type_of (expression_plain plain r.expression)) ≡ true
-each_expression_is_an_array_expression_element plain r = of_expression plain is_array_expression_element true refl refl refl refl refl refl refl refl refl refl refl refl refl refl refl refl refl refl refl refl refl refl refl refl refl refl r.expression r.other
+each_expression_is_an_array_expression_element plain r = of_expression plain is_array_expression_element true refl refl refl refl refl refl refl refl refl refl refl refl refl refl refl refl refl refl refl refl refl refl refl r.expression r.other
+
+pub no_assignment_target_is_an_array_expression_element : {N : Type 0} (plain : N → Tree) (r : OtherAssignmentTarget N) → is_array_expression_element (type_of (assignment_target_plain plain r.assignment_target)) ≡ false
+no_assignment_target_is_an_array_expression_element plain r = of_assignment_target plain is_array_expression_element false refl refl r.assignment_target r.other
 
 pub no_declaration_is_a_property_key : {N : Type 0} (plain : N → Tree) (r : OtherDeclaration N) → is_property_key (type_of (declaration_plain plain r.declaration)) ≡ false
 no_declaration_is_a_property_key plain r = of_declaration plain is_property_key false refl r.declaration r.other
@@ -219,7 +262,10 @@ pub no_statement_is_a_property_key : {N : Type 0} (plain : N → Tree) (r : Othe
 no_statement_is_a_property_key plain r = of_statement plain is_property_key false refl refl refl refl refl refl refl refl refl refl refl refl refl refl refl refl refl r.statement r.other
 
 pub each_expression_is_a_property_key : {N : Type 0} (plain : N → Tree) (r : OtherExpression N) → is_property_key (type_of (expression_plain plain r.expression)) ≡ true
-each_expression_is_a_property_key plain r = of_expression plain is_property_key true refl refl refl refl refl refl refl refl refl refl refl refl refl refl refl refl refl refl refl refl refl refl refl refl refl refl r.expression r.other
+each_expression_is_a_property_key plain r = of_expression plain is_property_key true refl refl refl refl refl refl refl refl refl refl refl refl refl refl refl refl refl refl refl refl refl refl refl r.expression r.other
+
+pub no_assignment_target_is_a_property_key : {N : Type 0} (plain : N → Tree) (r : OtherAssignmentTarget N) → is_property_key (type_of (assignment_target_plain plain r.assignment_target)) ≡ false
+no_assignment_target_is_a_property_key plain r = of_assignment_target plain is_property_key false refl refl r.assignment_target r.other
 
 pub no_declaration_is_an_object_property_kind : {N : Type 0} (plain : N → Tree) (r : OtherDeclaration N) → is_object_property_kind (type_of (declaration_plain plain r.declaration)) ≡ false
 no_declaration_is_an_object_property_kind plain r = of_declaration plain is_object_property_kind false refl r.declaration r.other
@@ -231,7 +277,10 @@ pub no_statement_is_an_object_property_kind : {N : Type 0} (plain : N → Tree) 
 no_statement_is_an_object_property_kind plain r = of_statement plain is_object_property_kind false refl refl refl refl refl refl refl refl refl refl refl refl refl refl refl refl refl r.statement r.other
 
 pub no_expression_is_an_object_property_kind : {N : Type 0} (plain : N → Tree) (r : OtherExpression N) → is_object_property_kind (type_of (expression_plain plain r.expression)) ≡ false
-no_expression_is_an_object_property_kind plain r = of_expression plain is_object_property_kind false refl refl refl refl refl refl refl refl refl refl refl refl refl refl refl refl refl refl refl refl refl refl refl refl refl refl r.expression r.other
+no_expression_is_an_object_property_kind plain r = of_expression plain is_object_property_kind false refl refl refl refl refl refl refl refl refl refl refl refl refl refl refl refl refl refl refl refl refl refl refl r.expression r.other
+
+pub no_assignment_target_is_an_object_property_kind : {N : Type 0} (plain : N → Tree) (r : OtherAssignmentTarget N) → is_object_property_kind (type_of (assignment_target_plain plain r.assignment_target)) ≡ false
+no_assignment_target_is_an_object_property_kind plain r = of_assignment_target plain is_object_property_kind false refl refl r.assignment_target r.other
 
 pub no_declaration_is_a_simple_assignment_target : {N : Type 0} (plain : N → Tree) (r : OtherDeclaration N) → is_simple_assignment_target (type_of (declaration_plain plain r.declaration)) ≡ false
 no_declaration_is_a_simple_assignment_target plain r = of_declaration plain is_simple_assignment_target false refl r.declaration r.other
@@ -242,6 +291,12 @@ no_binding_pattern_is_a_simple_assignment_target r = of_binding_pattern is_simpl
 pub no_statement_is_a_simple_assignment_target : {N : Type 0} (plain : N → Tree) (r : OtherStatement N) → is_simple_assignment_target (type_of (statement_plain plain r.statement)) ≡ false
 no_statement_is_a_simple_assignment_target plain r = of_statement plain is_simple_assignment_target false refl refl refl refl refl refl refl refl refl refl refl refl refl refl refl refl refl r.statement r.other
 
+pub no_expression_is_a_simple_assignment_target : {N : Type 0} (plain : N → Tree) (r : OtherExpression N) → is_simple_assignment_target (type_of (expression_plain plain r.expression)) ≡ false
+no_expression_is_a_simple_assignment_target plain r = of_expression plain is_simple_assignment_target false refl refl refl refl refl refl refl refl refl refl refl refl refl refl refl refl refl refl refl refl refl refl refl r.expression r.other
+
+pub no_assignment_target_is_a_simple_assignment_target : {N : Type 0} (plain : N → Tree) (r : OtherAssignmentTarget N) → is_simple_assignment_target (type_of (assignment_target_plain plain r.assignment_target)) ≡ false
+no_assignment_target_is_a_simple_assignment_target plain r = of_assignment_target plain is_simple_assignment_target false refl refl r.assignment_target r.other
+
 pub no_declaration_is_an_assignment_target : {N : Type 0} (plain : N → Tree) (r : OtherDeclaration N) → is_assignment_target (type_of (declaration_plain plain r.declaration)) ≡ false
 no_declaration_is_an_assignment_target plain r = of_declaration plain is_assignment_target false refl r.declaration r.other
 
@@ -250,6 +305,12 @@ no_binding_pattern_is_an_assignment_target r = of_binding_pattern is_assignment_
 
 pub no_statement_is_an_assignment_target : {N : Type 0} (plain : N → Tree) (r : OtherStatement N) → is_assignment_target (type_of (statement_plain plain r.statement)) ≡ false
 no_statement_is_an_assignment_target plain r = of_statement plain is_assignment_target false refl refl refl refl refl refl refl refl refl refl refl refl refl refl refl refl refl r.statement r.other
+
+pub no_expression_is_an_assignment_target : {N : Type 0} (plain : N → Tree) (r : OtherExpression N) → is_assignment_target (type_of (expression_plain plain r.expression)) ≡ false
+no_expression_is_an_assignment_target plain r = of_expression plain is_assignment_target false refl refl refl refl refl refl refl refl refl refl refl refl refl refl refl refl refl refl refl refl refl refl refl r.expression r.other
+
+pub each_assignment_target_is_an_assignment_target : {N : Type 0} (plain : N → Tree) (r : OtherAssignmentTarget N) → is_assignment_target (type_of (assignment_target_plain plain r.assignment_target)) ≡ true
+each_assignment_target_is_an_assignment_target plain r = of_assignment_target plain is_assignment_target true refl refl r.assignment_target r.other
 
 pub no_declaration_is_a_formal_parameter : {N : Type 0} (plain : N → Tree) (r : OtherDeclaration N) → is_formal_parameter (type_of (declaration_plain plain r.declaration)) ≡ false
 no_declaration_is_a_formal_parameter plain r = of_declaration plain is_formal_parameter false refl r.declaration r.other
@@ -261,7 +322,10 @@ pub no_statement_is_a_formal_parameter : {N : Type 0} (plain : N → Tree) (r : 
 no_statement_is_a_formal_parameter plain r = of_statement plain is_formal_parameter false refl refl refl refl refl refl refl refl refl refl refl refl refl refl refl refl refl r.statement r.other
 
 pub no_expression_is_a_formal_parameter : {N : Type 0} (plain : N → Tree) (r : OtherExpression N) → is_formal_parameter (type_of (expression_plain plain r.expression)) ≡ false
-no_expression_is_a_formal_parameter plain r = of_expression plain is_formal_parameter false refl refl refl refl refl refl refl refl refl refl refl refl refl refl refl refl refl refl refl refl refl refl refl refl refl refl r.expression r.other
+no_expression_is_a_formal_parameter plain r = of_expression plain is_formal_parameter false refl refl refl refl refl refl refl refl refl refl refl refl refl refl refl refl refl refl refl refl refl refl refl r.expression r.other
+
+pub no_assignment_target_is_a_formal_parameter : {N : Type 0} (plain : N → Tree) (r : OtherAssignmentTarget N) → is_formal_parameter (type_of (assignment_target_plain plain r.assignment_target)) ≡ false
+no_assignment_target_is_a_formal_parameter plain r = of_assignment_target plain is_formal_parameter false refl refl r.assignment_target r.other
 
 pub no_declaration_is_a_formal_parameter_rest : {N : Type 0} (plain : N → Tree) (r : OtherDeclaration N) → is_formal_parameter_rest (type_of (declaration_plain plain r.declaration)) ≡ false
 no_declaration_is_a_formal_parameter_rest plain r = of_declaration plain is_formal_parameter_rest false refl r.declaration r.other
@@ -273,7 +337,10 @@ pub no_statement_is_a_formal_parameter_rest : {N : Type 0} (plain : N → Tree) 
 no_statement_is_a_formal_parameter_rest plain r = of_statement plain is_formal_parameter_rest false refl refl refl refl refl refl refl refl refl refl refl refl refl refl refl refl refl r.statement r.other
 
 pub no_expression_is_a_formal_parameter_rest : {N : Type 0} (plain : N → Tree) (r : OtherExpression N) → is_formal_parameter_rest (type_of (expression_plain plain r.expression)) ≡ false
-no_expression_is_a_formal_parameter_rest plain r = of_expression plain is_formal_parameter_rest false refl refl refl refl refl refl refl refl refl refl refl refl refl refl refl refl refl refl refl refl refl refl refl refl refl refl r.expression r.other
+no_expression_is_a_formal_parameter_rest plain r = of_expression plain is_formal_parameter_rest false refl refl refl refl refl refl refl refl refl refl refl refl refl refl refl refl refl refl refl refl refl refl refl r.expression r.other
+
+pub no_assignment_target_is_a_formal_parameter_rest : {N : Type 0} (plain : N → Tree) (r : OtherAssignmentTarget N) → is_formal_parameter_rest (type_of (assignment_target_plain plain r.assignment_target)) ≡ false
+no_assignment_target_is_a_formal_parameter_rest plain r = of_assignment_target plain is_formal_parameter_rest false refl refl r.assignment_target r.other
 
 pub no_declaration_is_a_binding_identifier : {N : Type 0} (plain : N → Tree) (r : OtherDeclaration N) → is_binding_identifier (type_of (declaration_plain plain r.declaration)) ≡ false
 no_declaration_is_a_binding_identifier plain r = of_declaration plain is_binding_identifier false refl r.declaration r.other
@@ -285,7 +352,10 @@ pub no_statement_is_a_binding_identifier : {N : Type 0} (plain : N → Tree) (r 
 no_statement_is_a_binding_identifier plain r = of_statement plain is_binding_identifier false refl refl refl refl refl refl refl refl refl refl refl refl refl refl refl refl refl r.statement r.other
 
 pub no_expression_is_a_binding_identifier : {N : Type 0} (plain : N → Tree) (r : OtherExpression N) → is_binding_identifier (type_of (expression_plain plain r.expression)) ≡ false
-no_expression_is_a_binding_identifier plain r = of_expression plain is_binding_identifier false refl refl refl refl refl refl refl refl refl refl refl refl refl refl refl refl refl refl refl refl refl refl refl refl refl refl r.expression r.other
+no_expression_is_a_binding_identifier plain r = of_expression plain is_binding_identifier false refl refl refl refl refl refl refl refl refl refl refl refl refl refl refl refl refl refl refl refl refl refl refl r.expression r.other
+
+pub no_assignment_target_is_a_binding_identifier : {N : Type 0} (plain : N → Tree) (r : OtherAssignmentTarget N) → is_binding_identifier (type_of (assignment_target_plain plain r.assignment_target)) ≡ false
+no_assignment_target_is_a_binding_identifier plain r = of_assignment_target plain is_binding_identifier false refl refl r.assignment_target r.other
 
 pub no_declaration_is_a_formal_parameters : {N : Type 0} (plain : N → Tree) (r : OtherDeclaration N) → is_formal_parameters (type_of (declaration_plain plain r.declaration)) ≡ false
 no_declaration_is_a_formal_parameters plain r = of_declaration plain is_formal_parameters false refl r.declaration r.other
@@ -297,7 +367,10 @@ pub no_statement_is_a_formal_parameters : {N : Type 0} (plain : N → Tree) (r :
 no_statement_is_a_formal_parameters plain r = of_statement plain is_formal_parameters false refl refl refl refl refl refl refl refl refl refl refl refl refl refl refl refl refl r.statement r.other
 
 pub no_expression_is_a_formal_parameters : {N : Type 0} (plain : N → Tree) (r : OtherExpression N) → is_formal_parameters (type_of (expression_plain plain r.expression)) ≡ false
-no_expression_is_a_formal_parameters plain r = of_expression plain is_formal_parameters false refl refl refl refl refl refl refl refl refl refl refl refl refl refl refl refl refl refl refl refl refl refl refl refl refl refl r.expression r.other
+no_expression_is_a_formal_parameters plain r = of_expression plain is_formal_parameters false refl refl refl refl refl refl refl refl refl refl refl refl refl refl refl refl refl refl refl refl refl refl refl r.expression r.other
+
+pub no_assignment_target_is_a_formal_parameters : {N : Type 0} (plain : N → Tree) (r : OtherAssignmentTarget N) → is_formal_parameters (type_of (assignment_target_plain plain r.assignment_target)) ≡ false
+no_assignment_target_is_a_formal_parameters plain r = of_assignment_target plain is_formal_parameters false refl refl r.assignment_target r.other
 
 pub no_declaration_is_a_function_body : {N : Type 0} (plain : N → Tree) (r : OtherDeclaration N) → is_function_body (type_of (declaration_plain plain r.declaration)) ≡ false
 no_declaration_is_a_function_body plain r = of_declaration plain is_function_body false refl r.declaration r.other
@@ -309,7 +382,10 @@ pub no_statement_is_a_function_body : {N : Type 0} (plain : N → Tree) (r : Oth
 no_statement_is_a_function_body plain r = of_statement plain is_function_body false refl refl refl refl refl refl refl refl refl refl refl refl refl refl refl refl refl r.statement r.other
 
 pub no_expression_is_a_function_body : {N : Type 0} (plain : N → Tree) (r : OtherExpression N) → is_function_body (type_of (expression_plain plain r.expression)) ≡ false
-no_expression_is_a_function_body plain r = of_expression plain is_function_body false refl refl refl refl refl refl refl refl refl refl refl refl refl refl refl refl refl refl refl refl refl refl refl refl refl refl r.expression r.other
+no_expression_is_a_function_body plain r = of_expression plain is_function_body false refl refl refl refl refl refl refl refl refl refl refl refl refl refl refl refl refl refl refl refl refl refl refl r.expression r.other
+
+pub no_assignment_target_is_a_function_body : {N : Type 0} (plain : N → Tree) (r : OtherAssignmentTarget N) → is_function_body (type_of (assignment_target_plain plain r.assignment_target)) ≡ false
+no_assignment_target_is_a_function_body plain r = of_assignment_target plain is_function_body false refl refl r.assignment_target r.other
 
 pub no_declaration_is_an_arrow_function_body : {N : Type 0} (plain : N → Tree) (r : OtherDeclaration N) → is_arrow_function_body (type_of (declaration_plain plain r.declaration)) ≡ false
 no_declaration_is_an_arrow_function_body plain r = of_declaration plain is_arrow_function_body false refl r.declaration r.other
@@ -321,7 +397,10 @@ pub no_statement_is_an_arrow_function_body : {N : Type 0} (plain : N → Tree) (
 no_statement_is_an_arrow_function_body plain r = of_statement plain is_arrow_function_body false refl refl refl refl refl refl refl refl refl refl refl refl refl refl refl refl refl r.statement r.other
 
 pub each_expression_is_an_arrow_function_body : {N : Type 0} (plain : N → Tree) (r : OtherExpression N) → is_arrow_function_body (type_of (expression_plain plain r.expression)) ≡ true
-each_expression_is_an_arrow_function_body plain r = of_expression plain is_arrow_function_body true refl refl refl refl refl refl refl refl refl refl refl refl refl refl refl refl refl refl refl refl refl refl refl refl refl refl r.expression r.other
+each_expression_is_an_arrow_function_body plain r = of_expression plain is_arrow_function_body true refl refl refl refl refl refl refl refl refl refl refl refl refl refl refl refl refl refl refl refl refl refl refl r.expression r.other
+
+pub no_assignment_target_is_an_arrow_function_body : {N : Type 0} (plain : N → Tree) (r : OtherAssignmentTarget N) → is_arrow_function_body (type_of (assignment_target_plain plain r.assignment_target)) ≡ false
+no_assignment_target_is_an_arrow_function_body plain r = of_assignment_target plain is_arrow_function_body false refl refl r.assignment_target r.other
 
 pub each_declaration_is_a_for_statement_init : {N : Type 0} (plain : N → Tree) (r : OtherDeclaration N) → is_for_statement_init (type_of (declaration_plain plain r.declaration)) ≡ true
 each_declaration_is_a_for_statement_init plain r = of_declaration plain is_for_statement_init true refl r.declaration r.other
@@ -333,7 +412,10 @@ pub no_statement_is_a_for_statement_init : {N : Type 0} (plain : N → Tree) (r 
 no_statement_is_a_for_statement_init plain r = of_statement plain is_for_statement_init false refl refl refl refl refl refl refl refl refl refl refl refl refl refl refl refl refl r.statement r.other
 
 pub each_expression_is_a_for_statement_init : {N : Type 0} (plain : N → Tree) (r : OtherExpression N) → is_for_statement_init (type_of (expression_plain plain r.expression)) ≡ true
-each_expression_is_a_for_statement_init plain r = of_expression plain is_for_statement_init true refl refl refl refl refl refl refl refl refl refl refl refl refl refl refl refl refl refl refl refl refl refl refl refl refl refl r.expression r.other
+each_expression_is_a_for_statement_init plain r = of_expression plain is_for_statement_init true refl refl refl refl refl refl refl refl refl refl refl refl refl refl refl refl refl refl refl refl refl refl refl r.expression r.other
+
+pub no_assignment_target_is_a_for_statement_init : {N : Type 0} (plain : N → Tree) (r : OtherAssignmentTarget N) → is_for_statement_init (type_of (assignment_target_plain plain r.assignment_target)) ≡ false
+no_assignment_target_is_a_for_statement_init plain r = of_assignment_target plain is_for_statement_init false refl refl r.assignment_target r.other
 
 pub each_declaration_is_a_for_statement_left : {N : Type 0} (plain : N → Tree) (r : OtherDeclaration N) → is_for_statement_left (type_of (declaration_plain plain r.declaration)) ≡ true
 each_declaration_is_a_for_statement_left plain r = of_declaration plain is_for_statement_left true refl r.declaration r.other
@@ -343,6 +425,12 @@ no_binding_pattern_is_a_for_statement_left r = of_binding_pattern is_for_stateme
 
 pub no_statement_is_a_for_statement_left : {N : Type 0} (plain : N → Tree) (r : OtherStatement N) → is_for_statement_left (type_of (statement_plain plain r.statement)) ≡ false
 no_statement_is_a_for_statement_left plain r = of_statement plain is_for_statement_left false refl refl refl refl refl refl refl refl refl refl refl refl refl refl refl refl refl r.statement r.other
+
+pub no_expression_is_a_for_statement_left : {N : Type 0} (plain : N → Tree) (r : OtherExpression N) → is_for_statement_left (type_of (expression_plain plain r.expression)) ≡ false
+no_expression_is_a_for_statement_left plain r = of_expression plain is_for_statement_left false refl refl refl refl refl refl refl refl refl refl refl refl refl refl refl refl refl refl refl refl refl refl refl r.expression r.other
+
+pub each_assignment_target_is_a_for_statement_left : {N : Type 0} (plain : N → Tree) (r : OtherAssignmentTarget N) → is_for_statement_left (type_of (assignment_target_plain plain r.assignment_target)) ≡ true
+each_assignment_target_is_a_for_statement_left plain r = of_assignment_target plain is_for_statement_left true refl refl r.assignment_target r.other
 
 pub no_declaration_is_a_label_identifier : {N : Type 0} (plain : N → Tree) (r : OtherDeclaration N) → is_label_identifier (type_of (declaration_plain plain r.declaration)) ≡ false
 no_declaration_is_a_label_identifier plain r = of_declaration plain is_label_identifier false refl r.declaration r.other
@@ -354,7 +442,10 @@ pub no_statement_is_a_label_identifier : {N : Type 0} (plain : N → Tree) (r : 
 no_statement_is_a_label_identifier plain r = of_statement plain is_label_identifier false refl refl refl refl refl refl refl refl refl refl refl refl refl refl refl refl refl r.statement r.other
 
 pub no_expression_is_a_label_identifier : {N : Type 0} (plain : N → Tree) (r : OtherExpression N) → is_label_identifier (type_of (expression_plain plain r.expression)) ≡ false
-no_expression_is_a_label_identifier plain r = of_expression plain is_label_identifier false refl refl refl refl refl refl refl refl refl refl refl refl refl refl refl refl refl refl refl refl refl refl refl refl refl refl r.expression r.other
+no_expression_is_a_label_identifier plain r = of_expression plain is_label_identifier false refl refl refl refl refl refl refl refl refl refl refl refl refl refl refl refl refl refl refl refl refl refl refl r.expression r.other
+
+pub no_assignment_target_is_a_label_identifier : {N : Type 0} (plain : N → Tree) (r : OtherAssignmentTarget N) → is_label_identifier (type_of (assignment_target_plain plain r.assignment_target)) ≡ false
+no_assignment_target_is_a_label_identifier plain r = of_assignment_target plain is_label_identifier false refl refl r.assignment_target r.other
 
 pub no_declaration_is_a_switch_case : {N : Type 0} (plain : N → Tree) (r : OtherDeclaration N) → is_switch_case (type_of (declaration_plain plain r.declaration)) ≡ false
 no_declaration_is_a_switch_case plain r = of_declaration plain is_switch_case false refl r.declaration r.other
@@ -366,7 +457,10 @@ pub no_statement_is_a_switch_case : {N : Type 0} (plain : N → Tree) (r : Other
 no_statement_is_a_switch_case plain r = of_statement plain is_switch_case false refl refl refl refl refl refl refl refl refl refl refl refl refl refl refl refl refl r.statement r.other
 
 pub no_expression_is_a_switch_case : {N : Type 0} (plain : N → Tree) (r : OtherExpression N) → is_switch_case (type_of (expression_plain plain r.expression)) ≡ false
-no_expression_is_a_switch_case plain r = of_expression plain is_switch_case false refl refl refl refl refl refl refl refl refl refl refl refl refl refl refl refl refl refl refl refl refl refl refl refl refl refl r.expression r.other
+no_expression_is_a_switch_case plain r = of_expression plain is_switch_case false refl refl refl refl refl refl refl refl refl refl refl refl refl refl refl refl refl refl refl refl refl refl refl r.expression r.other
+
+pub no_assignment_target_is_a_switch_case : {N : Type 0} (plain : N → Tree) (r : OtherAssignmentTarget N) → is_switch_case (type_of (assignment_target_plain plain r.assignment_target)) ≡ false
+no_assignment_target_is_a_switch_case plain r = of_assignment_target plain is_switch_case false refl refl r.assignment_target r.other
 
 pub no_declaration_is_a_block_statement : {N : Type 0} (plain : N → Tree) (r : OtherDeclaration N) → is_block_statement (type_of (declaration_plain plain r.declaration)) ≡ false
 no_declaration_is_a_block_statement plain r = of_declaration plain is_block_statement false refl r.declaration r.other
@@ -375,7 +469,10 @@ pub no_binding_pattern_is_a_block_statement : (r : BindingPattern) → is_block_
 no_binding_pattern_is_a_block_statement r = of_binding_pattern is_block_statement false refl r
 
 pub no_expression_is_a_block_statement : {N : Type 0} (plain : N → Tree) (r : OtherExpression N) → is_block_statement (type_of (expression_plain plain r.expression)) ≡ false
-no_expression_is_a_block_statement plain r = of_expression plain is_block_statement false refl refl refl refl refl refl refl refl refl refl refl refl refl refl refl refl refl refl refl refl refl refl refl refl refl refl r.expression r.other
+no_expression_is_a_block_statement plain r = of_expression plain is_block_statement false refl refl refl refl refl refl refl refl refl refl refl refl refl refl refl refl refl refl refl refl refl refl refl r.expression r.other
+
+pub no_assignment_target_is_a_block_statement : {N : Type 0} (plain : N → Tree) (r : OtherAssignmentTarget N) → is_block_statement (type_of (assignment_target_plain plain r.assignment_target)) ≡ false
+no_assignment_target_is_a_block_statement plain r = of_assignment_target plain is_block_statement false refl refl r.assignment_target r.other
 
 pub no_declaration_is_a_catch_clause : {N : Type 0} (plain : N → Tree) (r : OtherDeclaration N) → is_catch_clause (type_of (declaration_plain plain r.declaration)) ≡ false
 no_declaration_is_a_catch_clause plain r = of_declaration plain is_catch_clause false refl r.declaration r.other
@@ -387,7 +484,70 @@ pub no_statement_is_a_catch_clause : {N : Type 0} (plain : N → Tree) (r : Othe
 no_statement_is_a_catch_clause plain r = of_statement plain is_catch_clause false refl refl refl refl refl refl refl refl refl refl refl refl refl refl refl refl refl r.statement r.other
 
 pub no_expression_is_a_catch_clause : {N : Type 0} (plain : N → Tree) (r : OtherExpression N) → is_catch_clause (type_of (expression_plain plain r.expression)) ≡ false
-no_expression_is_a_catch_clause plain r = of_expression plain is_catch_clause false refl refl refl refl refl refl refl refl refl refl refl refl refl refl refl refl refl refl refl refl refl refl refl refl refl refl r.expression r.other
+no_expression_is_a_catch_clause plain r = of_expression plain is_catch_clause false refl refl refl refl refl refl refl refl refl refl refl refl refl refl refl refl refl refl refl refl refl refl refl r.expression r.other
+
+pub no_assignment_target_is_a_catch_clause : {N : Type 0} (plain : N → Tree) (r : OtherAssignmentTarget N) → is_catch_clause (type_of (assignment_target_plain plain r.assignment_target)) ≡ false
+no_assignment_target_is_a_catch_clause plain r = of_assignment_target plain is_catch_clause false refl refl r.assignment_target r.other
+
+pub no_declaration_is_an_assignment_target_maybe_default : {N : Type 0} (plain : N → Tree) (r : OtherDeclaration N) → is_assignment_target_maybe_default (type_of (declaration_plain plain r.declaration)) ≡ false
+no_declaration_is_an_assignment_target_maybe_default plain r = of_declaration plain is_assignment_target_maybe_default false refl r.declaration r.other
+
+pub no_binding_pattern_is_an_assignment_target_maybe_default : (r : BindingPattern) → is_assignment_target_maybe_default (type_of (binding_pattern_plain r)) ≡ false
+no_binding_pattern_is_an_assignment_target_maybe_default r = of_binding_pattern is_assignment_target_maybe_default false refl r
+
+pub no_statement_is_an_assignment_target_maybe_default : {N : Type 0} (plain : N → Tree) (r : OtherStatement N) → is_assignment_target_maybe_default (type_of (statement_plain plain r.statement)) ≡ false
+no_statement_is_an_assignment_target_maybe_default plain r = of_statement plain is_assignment_target_maybe_default false refl refl refl refl refl refl refl refl refl refl refl refl refl refl refl refl refl r.statement r.other
+
+pub no_expression_is_an_assignment_target_maybe_default : {N : Type 0} (plain : N → Tree) (r : OtherExpression N) → is_assignment_target_maybe_default (type_of (expression_plain plain r.expression)) ≡ false
+no_expression_is_an_assignment_target_maybe_default plain r = of_expression plain is_assignment_target_maybe_default false refl refl refl refl refl refl refl refl refl refl refl refl refl refl refl refl refl refl refl refl refl refl refl r.expression r.other
+
+pub each_assignment_target_is_an_assignment_target_maybe_default : {N : Type 0} (plain : N → Tree) (r : OtherAssignmentTarget N) → is_assignment_target_maybe_default (type_of (assignment_target_plain plain r.assignment_target)) ≡ true
+each_assignment_target_is_an_assignment_target_maybe_default plain r = of_assignment_target plain is_assignment_target_maybe_default true refl refl r.assignment_target r.other
+
+pub no_declaration_is_an_assignment_target_rest : {N : Type 0} (plain : N → Tree) (r : OtherDeclaration N) → is_assignment_target_rest (type_of (declaration_plain plain r.declaration)) ≡ false
+no_declaration_is_an_assignment_target_rest plain r = of_declaration plain is_assignment_target_rest false refl r.declaration r.other
+
+pub no_binding_pattern_is_an_assignment_target_rest : (r : BindingPattern) → is_assignment_target_rest (type_of (binding_pattern_plain r)) ≡ false
+no_binding_pattern_is_an_assignment_target_rest r = of_binding_pattern is_assignment_target_rest false refl r
+
+pub no_statement_is_an_assignment_target_rest : {N : Type 0} (plain : N → Tree) (r : OtherStatement N) → is_assignment_target_rest (type_of (statement_plain plain r.statement)) ≡ false
+no_statement_is_an_assignment_target_rest plain r = of_statement plain is_assignment_target_rest false refl refl refl refl refl refl refl refl refl refl refl refl refl refl refl refl refl r.statement r.other
+
+pub no_expression_is_an_assignment_target_rest : {N : Type 0} (plain : N → Tree) (r : OtherExpression N) → is_assignment_target_rest (type_of (expression_plain plain r.expression)) ≡ false
+no_expression_is_an_assignment_target_rest plain r = of_expression plain is_assignment_target_rest false refl refl refl refl refl refl refl refl refl refl refl refl refl refl refl refl refl refl refl refl refl refl refl r.expression r.other
+
+pub no_assignment_target_is_an_assignment_target_rest : {N : Type 0} (plain : N → Tree) (r : OtherAssignmentTarget N) → is_assignment_target_rest (type_of (assignment_target_plain plain r.assignment_target)) ≡ false
+no_assignment_target_is_an_assignment_target_rest plain r = of_assignment_target plain is_assignment_target_rest false refl refl r.assignment_target r.other
+
+pub no_declaration_is_an_assignment_target_property : {N : Type 0} (plain : N → Tree) (r : OtherDeclaration N) → is_assignment_target_property (type_of (declaration_plain plain r.declaration)) ≡ false
+no_declaration_is_an_assignment_target_property plain r = of_declaration plain is_assignment_target_property false refl r.declaration r.other
+
+pub no_binding_pattern_is_an_assignment_target_property : (r : BindingPattern) → is_assignment_target_property (type_of (binding_pattern_plain r)) ≡ false
+no_binding_pattern_is_an_assignment_target_property r = of_binding_pattern is_assignment_target_property false refl r
+
+pub no_statement_is_an_assignment_target_property : {N : Type 0} (plain : N → Tree) (r : OtherStatement N) → is_assignment_target_property (type_of (statement_plain plain r.statement)) ≡ false
+no_statement_is_an_assignment_target_property plain r = of_statement plain is_assignment_target_property false refl refl refl refl refl refl refl refl refl refl refl refl refl refl refl refl refl r.statement r.other
+
+pub no_expression_is_an_assignment_target_property : {N : Type 0} (plain : N → Tree) (r : OtherExpression N) → is_assignment_target_property (type_of (expression_plain plain r.expression)) ≡ false
+no_expression_is_an_assignment_target_property plain r = of_expression plain is_assignment_target_property false refl refl refl refl refl refl refl refl refl refl refl refl refl refl refl refl refl refl refl refl refl refl refl r.expression r.other
+
+pub no_assignment_target_is_an_assignment_target_property : {N : Type 0} (plain : N → Tree) (r : OtherAssignmentTarget N) → is_assignment_target_property (type_of (assignment_target_plain plain r.assignment_target)) ≡ false
+no_assignment_target_is_an_assignment_target_property plain r = of_assignment_target plain is_assignment_target_property false refl refl r.assignment_target r.other
+
+pub no_declaration_is_an_identifier_reference : {N : Type 0} (plain : N → Tree) (r : OtherDeclaration N) → is_identifier_reference (type_of (declaration_plain plain r.declaration)) ≡ false
+no_declaration_is_an_identifier_reference plain r = of_declaration plain is_identifier_reference false refl r.declaration r.other
+
+pub no_binding_pattern_is_an_identifier_reference : (r : BindingPattern) → is_identifier_reference (type_of (binding_pattern_plain r)) ≡ false
+no_binding_pattern_is_an_identifier_reference r = of_binding_pattern is_identifier_reference false refl r
+
+pub no_statement_is_an_identifier_reference : {N : Type 0} (plain : N → Tree) (r : OtherStatement N) → is_identifier_reference (type_of (statement_plain plain r.statement)) ≡ false
+no_statement_is_an_identifier_reference plain r = of_statement plain is_identifier_reference false refl refl refl refl refl refl refl refl refl refl refl refl refl refl refl refl refl r.statement r.other
+
+pub no_expression_is_an_identifier_reference : {N : Type 0} (plain : N → Tree) (r : OtherExpression N) → is_identifier_reference (type_of (expression_plain plain r.expression)) ≡ false
+no_expression_is_an_identifier_reference plain r = of_expression plain is_identifier_reference false refl refl refl refl refl refl refl refl refl refl refl refl refl refl refl refl refl refl refl refl refl refl refl r.expression r.other
+
+pub no_assignment_target_is_an_identifier_reference : {N : Type 0} (plain : N → Tree) (r : OtherAssignmentTarget N) → is_identifier_reference (type_of (assignment_target_plain plain r.assignment_target)) ≡ false
+no_assignment_target_is_an_identifier_reference plain r = of_assignment_target plain is_identifier_reference false refl refl r.assignment_target r.other
 
 pub program_type : (t : NodeType) → is_program t ≡ true → t ≡ types.Program
 program_type types.Program h = refl
@@ -450,59 +610,73 @@ program_type types.SwitchStatement h = cc
 program_type types.SwitchCase h = cc
 program_type types.TryStatement h = cc
 program_type types.CatchClause h = cc
+program_type types.ArrayAssignmentTarget h = cc
+program_type types.ObjectAssignmentTarget h = cc
+program_type types.AssignmentTargetWithDefault h = cc
+program_type types.AssignmentTargetPropertyIdentifier h = cc
+program_type types.AssignmentTargetPropertyProperty h = cc
+program_type types.AssignmentTargetRest h = cc
 
 -- ---- which rows a place takes
 
-pub ruleset takes_programs = (no_declaration_is_a_program, no_binding_pattern_is_a_program, no_statement_is_a_program, no_expression_is_a_program)
+pub ruleset takes_programs = (no_declaration_is_a_program, no_binding_pattern_is_a_program, no_statement_is_a_program, no_expression_is_a_program, no_assignment_target_is_a_program)
 
-pub ruleset takes_comments = (no_declaration_is_a_comment, no_binding_pattern_is_a_comment, no_statement_is_a_comment, no_expression_is_a_comment)
+pub ruleset takes_comments = (no_declaration_is_a_comment, no_binding_pattern_is_a_comment, no_statement_is_a_comment, no_expression_is_a_comment, no_assignment_target_is_a_comment)
 
-pub ruleset takes_directives = (no_declaration_is_a_directive, no_binding_pattern_is_a_directive, no_statement_is_a_directive, no_expression_is_a_directive)
+pub ruleset takes_directives = (no_declaration_is_a_directive, no_binding_pattern_is_a_directive, no_statement_is_a_directive, no_expression_is_a_directive, no_assignment_target_is_a_directive)
 
-pub ruleset takes_statements = (each_declaration_is_a_statement, no_binding_pattern_is_a_statement, each_statement_is_a_statement, no_expression_is_a_statement)
+pub ruleset takes_statements = (each_declaration_is_a_statement, no_binding_pattern_is_a_statement, each_statement_is_a_statement, no_expression_is_a_statement, no_assignment_target_is_a_statement)
 
-pub ruleset takes_variable_declarators = (no_declaration_is_a_variable_declarator, no_binding_pattern_is_a_variable_declarator, no_statement_is_a_variable_declarator, no_expression_is_a_variable_declarator)
+pub ruleset takes_variable_declarators = (no_declaration_is_a_variable_declarator, no_binding_pattern_is_a_variable_declarator, no_statement_is_a_variable_declarator, no_expression_is_a_variable_declarator, no_assignment_target_is_a_variable_declarator)
 
-pub ruleset takes_binding_patterns = (no_declaration_is_a_binding_pattern, each_binding_pattern_is_a_binding_pattern, no_statement_is_a_binding_pattern, no_expression_is_a_binding_pattern)
+pub ruleset takes_binding_patterns = (no_declaration_is_a_binding_pattern, each_binding_pattern_is_a_binding_pattern, no_statement_is_a_binding_pattern, no_expression_is_a_binding_pattern, no_assignment_target_is_a_binding_pattern)
 
-pub ruleset takes_expressions = (no_declaration_is_an_expression, no_binding_pattern_is_an_expression, no_statement_is_an_expression, each_expression_is_an_expression)
+pub ruleset takes_expressions = (no_declaration_is_an_expression, no_binding_pattern_is_an_expression, no_statement_is_an_expression, each_expression_is_an_expression, no_assignment_target_is_an_expression)
 
-pub ruleset takes_identifier_names = (no_declaration_is_an_identifier_name, no_binding_pattern_is_an_identifier_name, no_statement_is_an_identifier_name, no_expression_is_an_identifier_name)
+pub ruleset takes_identifier_names = (no_declaration_is_an_identifier_name, no_binding_pattern_is_an_identifier_name, no_statement_is_an_identifier_name, no_expression_is_an_identifier_name, no_assignment_target_is_an_identifier_name)
 
-pub ruleset takes_arguments = (no_declaration_is_an_argument, no_binding_pattern_is_an_argument, no_statement_is_an_argument, each_expression_is_an_argument)
+pub ruleset takes_arguments = (no_declaration_is_an_argument, no_binding_pattern_is_an_argument, no_statement_is_an_argument, each_expression_is_an_argument, no_assignment_target_is_an_argument)
 
-pub ruleset takes_chain_elements = (no_declaration_is_a_chain_element, no_binding_pattern_is_a_chain_element, no_statement_is_a_chain_element)
+pub ruleset takes_chain_elements = (no_declaration_is_a_chain_element, no_binding_pattern_is_a_chain_element, no_statement_is_a_chain_element, no_assignment_target_is_a_chain_element)
 
-pub ruleset takes_array_expression_elements = (no_declaration_is_an_array_expression_element, no_binding_pattern_is_an_array_expression_element, no_statement_is_an_array_expression_element, each_expression_is_an_array_expression_element)
+pub ruleset takes_array_expression_elements = (no_declaration_is_an_array_expression_element, no_binding_pattern_is_an_array_expression_element, no_statement_is_an_array_expression_element, each_expression_is_an_array_expression_element, no_assignment_target_is_an_array_expression_element)
 
-pub ruleset takes_property_keys = (no_declaration_is_a_property_key, no_binding_pattern_is_a_property_key, no_statement_is_a_property_key, each_expression_is_a_property_key)
+pub ruleset takes_property_keys = (no_declaration_is_a_property_key, no_binding_pattern_is_a_property_key, no_statement_is_a_property_key, each_expression_is_a_property_key, no_assignment_target_is_a_property_key)
 
-pub ruleset takes_object_property_kinds = (no_declaration_is_an_object_property_kind, no_binding_pattern_is_an_object_property_kind, no_statement_is_an_object_property_kind, no_expression_is_an_object_property_kind)
+pub ruleset takes_object_property_kinds = (no_declaration_is_an_object_property_kind, no_binding_pattern_is_an_object_property_kind, no_statement_is_an_object_property_kind, no_expression_is_an_object_property_kind, no_assignment_target_is_an_object_property_kind)
 
-pub ruleset takes_simple_assignment_targets = (no_declaration_is_a_simple_assignment_target, no_binding_pattern_is_a_simple_assignment_target, no_statement_is_a_simple_assignment_target)
+pub ruleset takes_simple_assignment_targets = (no_declaration_is_a_simple_assignment_target, no_binding_pattern_is_a_simple_assignment_target, no_statement_is_a_simple_assignment_target, no_expression_is_a_simple_assignment_target, no_assignment_target_is_a_simple_assignment_target)
 
-pub ruleset takes_assignment_targets = (no_declaration_is_an_assignment_target, no_binding_pattern_is_an_assignment_target, no_statement_is_an_assignment_target)
+pub ruleset takes_assignment_targets = (no_declaration_is_an_assignment_target, no_binding_pattern_is_an_assignment_target, no_statement_is_an_assignment_target, no_expression_is_an_assignment_target, each_assignment_target_is_an_assignment_target)
 
-pub ruleset takes_formal_parameters = (no_declaration_is_a_formal_parameter, no_binding_pattern_is_a_formal_parameter, no_statement_is_a_formal_parameter, no_expression_is_a_formal_parameter)
+pub ruleset takes_formal_parameters = (no_declaration_is_a_formal_parameter, no_binding_pattern_is_a_formal_parameter, no_statement_is_a_formal_parameter, no_expression_is_a_formal_parameter, no_assignment_target_is_a_formal_parameter)
 
-pub ruleset takes_formal_parameter_rests = (no_declaration_is_a_formal_parameter_rest, no_binding_pattern_is_a_formal_parameter_rest, no_statement_is_a_formal_parameter_rest, no_expression_is_a_formal_parameter_rest)
+pub ruleset takes_formal_parameter_rests = (no_declaration_is_a_formal_parameter_rest, no_binding_pattern_is_a_formal_parameter_rest, no_statement_is_a_formal_parameter_rest, no_expression_is_a_formal_parameter_rest, no_assignment_target_is_a_formal_parameter_rest)
 
-pub ruleset takes_binding_identifiers = (no_declaration_is_a_binding_identifier, each_binding_pattern_is_a_binding_identifier, no_statement_is_a_binding_identifier, no_expression_is_a_binding_identifier)
+pub ruleset takes_binding_identifiers = (no_declaration_is_a_binding_identifier, each_binding_pattern_is_a_binding_identifier, no_statement_is_a_binding_identifier, no_expression_is_a_binding_identifier, no_assignment_target_is_a_binding_identifier)
 
-pub ruleset takes_formal_parameterss = (no_declaration_is_a_formal_parameters, no_binding_pattern_is_a_formal_parameters, no_statement_is_a_formal_parameters, no_expression_is_a_formal_parameters)
+pub ruleset takes_formal_parameterss = (no_declaration_is_a_formal_parameters, no_binding_pattern_is_a_formal_parameters, no_statement_is_a_formal_parameters, no_expression_is_a_formal_parameters, no_assignment_target_is_a_formal_parameters)
 
-pub ruleset takes_function_bodys = (no_declaration_is_a_function_body, no_binding_pattern_is_a_function_body, no_statement_is_a_function_body, no_expression_is_a_function_body)
+pub ruleset takes_function_bodys = (no_declaration_is_a_function_body, no_binding_pattern_is_a_function_body, no_statement_is_a_function_body, no_expression_is_a_function_body, no_assignment_target_is_a_function_body)
 
-pub ruleset takes_arrow_function_bodys = (no_declaration_is_an_arrow_function_body, no_binding_pattern_is_an_arrow_function_body, no_statement_is_an_arrow_function_body, each_expression_is_an_arrow_function_body)
+pub ruleset takes_arrow_function_bodys = (no_declaration_is_an_arrow_function_body, no_binding_pattern_is_an_arrow_function_body, no_statement_is_an_arrow_function_body, each_expression_is_an_arrow_function_body, no_assignment_target_is_an_arrow_function_body)
 
-pub ruleset takes_for_statement_inits = (each_declaration_is_a_for_statement_init, no_binding_pattern_is_a_for_statement_init, no_statement_is_a_for_statement_init, each_expression_is_a_for_statement_init)
+pub ruleset takes_for_statement_inits = (each_declaration_is_a_for_statement_init, no_binding_pattern_is_a_for_statement_init, no_statement_is_a_for_statement_init, each_expression_is_a_for_statement_init, no_assignment_target_is_a_for_statement_init)
 
-pub ruleset takes_for_statement_lefts = (each_declaration_is_a_for_statement_left, no_binding_pattern_is_a_for_statement_left, no_statement_is_a_for_statement_left)
+pub ruleset takes_for_statement_lefts = (each_declaration_is_a_for_statement_left, no_binding_pattern_is_a_for_statement_left, no_statement_is_a_for_statement_left, no_expression_is_a_for_statement_left, each_assignment_target_is_a_for_statement_left)
 
-pub ruleset takes_label_identifiers = (no_declaration_is_a_label_identifier, no_binding_pattern_is_a_label_identifier, no_statement_is_a_label_identifier, no_expression_is_a_label_identifier)
+pub ruleset takes_label_identifiers = (no_declaration_is_a_label_identifier, no_binding_pattern_is_a_label_identifier, no_statement_is_a_label_identifier, no_expression_is_a_label_identifier, no_assignment_target_is_a_label_identifier)
 
-pub ruleset takes_switch_cases = (no_declaration_is_a_switch_case, no_binding_pattern_is_a_switch_case, no_statement_is_a_switch_case, no_expression_is_a_switch_case)
+pub ruleset takes_switch_cases = (no_declaration_is_a_switch_case, no_binding_pattern_is_a_switch_case, no_statement_is_a_switch_case, no_expression_is_a_switch_case, no_assignment_target_is_a_switch_case)
 
-pub ruleset takes_block_statements = (no_declaration_is_a_block_statement, no_binding_pattern_is_a_block_statement, no_expression_is_a_block_statement)
+pub ruleset takes_block_statements = (no_declaration_is_a_block_statement, no_binding_pattern_is_a_block_statement, no_expression_is_a_block_statement, no_assignment_target_is_a_block_statement)
 
-pub ruleset takes_catch_clauses = (no_declaration_is_a_catch_clause, no_binding_pattern_is_a_catch_clause, no_statement_is_a_catch_clause, no_expression_is_a_catch_clause)
+pub ruleset takes_catch_clauses = (no_declaration_is_a_catch_clause, no_binding_pattern_is_a_catch_clause, no_statement_is_a_catch_clause, no_expression_is_a_catch_clause, no_assignment_target_is_a_catch_clause)
+
+pub ruleset takes_assignment_target_maybe_defaults = (no_declaration_is_an_assignment_target_maybe_default, no_binding_pattern_is_an_assignment_target_maybe_default, no_statement_is_an_assignment_target_maybe_default, no_expression_is_an_assignment_target_maybe_default, each_assignment_target_is_an_assignment_target_maybe_default)
+
+pub ruleset takes_assignment_target_rests = (no_declaration_is_an_assignment_target_rest, no_binding_pattern_is_an_assignment_target_rest, no_statement_is_an_assignment_target_rest, no_expression_is_an_assignment_target_rest, no_assignment_target_is_an_assignment_target_rest)
+
+pub ruleset takes_assignment_target_propertys = (no_declaration_is_an_assignment_target_property, no_binding_pattern_is_an_assignment_target_property, no_statement_is_an_assignment_target_property, no_expression_is_an_assignment_target_property, no_assignment_target_is_an_assignment_target_property)
+
+pub ruleset takes_identifier_references = (no_declaration_is_an_identifier_reference, no_binding_pattern_is_an_identifier_reference, no_statement_is_an_identifier_reference, no_expression_is_an_identifier_reference, no_assignment_target_is_an_identifier_reference)

@@ -80,3 +80,10 @@ is_in_loops types.ReturnStatement = true
 is_in_loops types.ThrowStatement = true
 is_in_loops types.DebuggerStatement = true
 is_in_loops other = false
+
+abbrev pub is_in_choices : NodeType → Bool
+is_in_choices types.SwitchStatement = true
+is_in_choices types.SwitchCase = true
+is_in_choices types.TryStatement = true
+is_in_choices types.CatchClause = true
+is_in_choices other = false

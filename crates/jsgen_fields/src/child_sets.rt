@@ -3,30 +3,31 @@
 ghost use Rattle.std.specs.Prelude.{◌≡◌, IfOk, Some, None, option_map, if◌then◌else◌};
 ghost use Rattle.jsgen_tree.specs.Tree.{type_of};
 ghost use Rattle.jsgen_tree.specs.Sets.{in_set};
-ghost use Rattle.jsgen_tree.specs.Rows.{in_expression, in_argument, in_array_expression_element, in_chain_element, in_simple_assignment_target, in_assignment_target, in_arrow_function_body, in_for_statement_init, in_for_statement_left, in_object_property_kind, in_property_key, in_statement, in_binding_pattern, comment_row, directive_row, variable_declarator_row, binding_identifier_row, block_statement_row, identifier_name_row, formal_parameter_row, formal_parameter_rest_row, formal_parameters_row, function_body_row, label_identifier_row, switch_case_row, catch_clause_row};
+ghost use Rattle.jsgen_tree.specs.Rows.{in_expression, in_argument, in_array_expression_element, in_chain_element, in_simple_assignment_target, in_assignment_target, in_assignment_target_maybe_default, in_assignment_target_property, in_arrow_function_body, in_for_statement_init, in_for_statement_left, in_object_property_kind, in_property_key, in_statement, in_binding_pattern, comment_row, directive_row, variable_declarator_row, binding_identifier_row, block_statement_row, identifier_reference_row, identifier_name_row, formal_parameter_row, formal_parameter_rest_row, formal_parameters_row, function_body_row, label_identifier_row, switch_case_row, catch_clause_row, assignment_target_rest_row};
 ghost use Rattle.jsgen_fields.specs.Kept.{row_plain};
 ghost use Rattle.jsgen_tree.specs.declared.types.NodeSet.TheVariants as sets;
 
 use crate::asked::{
-    Child, HoldsBindingPattern, HoldsDeclaration, HoldsExpression, HoldsStatement, PlainNode,
+    Child, HoldsAssignmentTarget, HoldsBindingPattern, HoldsDeclaration, HoldsExpression,
+    HoldsStatement, PlainNode,
 };
 use crate::kept::Row;
 use crate::members::{
     argument_of_expression, array_expression_element_of_expression,
-    arrow_function_body_of_expression, assignment_target_of_expression,
+    arrow_function_body_of_expression, assignment_target_maybe_default_of_assignment_target,
     binding_identifier_of_binding_pattern_in_box, block_statement_of_statement_in_box,
     chain_element_of_expression, for_statement_init_of_declaration,
-    for_statement_init_of_expression, for_statement_left_of_declaration,
-    for_statement_left_of_expression, property_key_of_expression,
-    simple_assignment_target_of_expression, statement_of_declaration,
+    for_statement_init_of_expression, for_statement_left_of_assignment_target,
+    for_statement_left_of_declaration, property_key_of_expression, statement_of_declaration,
 };
 use jsgen_tree::{
-    Argument, ArrayExpressionElement, ArrowFunctionBody, AssignmentTarget, BindingIdentifier,
-    BindingPatternNode, BlockStatement, CatchClause, ChainElement, Comment, Declaration, Directive,
-    Expression, ExpressionNode, ForStatementInit, ForStatementLeft, FormalParameter,
-    FormalParameterRest, FormalParameters, FunctionBody, IdentifierName, LabelIdentifier, NodeSet,
-    ObjectPropertyKind, PropertyKey, SimpleAssignmentTarget, StatementNode, SwitchCase,
-    VariableDeclarator,
+    Argument, ArrayExpressionElement, ArrowFunctionBody, AssignmentTarget,
+    AssignmentTargetMaybeDefault, AssignmentTargetNode, AssignmentTargetProperty,
+    AssignmentTargetRest, BindingIdentifier, BindingPatternNode, BlockStatement, CatchClause,
+    ChainElement, Comment, Declaration, Directive, Expression, ExpressionNode, ForStatementInit,
+    ForStatementLeft, FormalParameter, FormalParameterRest, FormalParameters, FunctionBody,
+    IdentifierName, IdentifierReference, LabelIdentifier, NodeSet, ObjectPropertyKind, PropertyKey,
+    SimpleAssignmentTarget, StatementNode, SwitchCase, VariableDeclarator,
 };
 use std::alloc::{AllocError, Global};
 
@@ -178,7 +179,16 @@ impl<N: HoldsExpression + Drop> Child<N> for ExpressionNode<N> {
     {
         let _ = alloc;
         match row {
+            Row::IdentifierReference(row) => Ok(Some(N::expression_node(
+                Expression::IdentifierReference(row),
+            ))),
             Row::Expression(row) => Ok(Some(N::expression_node(Box::into_inner(row).expression))),
+            Row::StaticMemberExpression(row) => Ok(Some(N::expression_node(
+                Expression::StaticMemberExpression(row),
+            ))),
+            Row::ComputedMemberExpression(row) => Ok(Some(N::expression_node(
+                Expression::ComputedMemberExpression(row),
+            ))),
             Row::Function(row) => Ok(Some(N::expression_node(Expression::Function(row)))),
             rest => {
                 rest.let_go();
@@ -228,9 +238,21 @@ impl<N: HoldsExpression + Drop> Child<N> for Argument<N> {
             ≡ (if in_set sets.Argument (type_of (row_plain N.plain row)) then Some (row_plain N.plain row) else None)) }
     {
         match row {
+            Row::IdentifierReference(row) => argument_of_expression(
+                alloc,
+                N::expression_node(Expression::IdentifierReference(row)),
+            ),
             Row::Expression(row) => argument_of_expression(
                 alloc,
                 N::expression_node(Box::into_inner(row).expression),
+            ),
+            Row::StaticMemberExpression(row) => argument_of_expression(
+                alloc,
+                N::expression_node(Expression::StaticMemberExpression(row)),
+            ),
+            Row::ComputedMemberExpression(row) => argument_of_expression(
+                alloc,
+                N::expression_node(Expression::ComputedMemberExpression(row)),
             ),
             Row::SpreadElement(row) => Ok(Some(Argument::SpreadElement(row))),
             Row::Function(row) => argument_of_expression(
@@ -262,6 +284,10 @@ impl<N: PlainNode + Drop> Child<N> for ChainElement<N> {
         let _ = alloc;
         match row {
             Row::Expression(row) => Ok(chain_element_of_expression(Box::into_inner(row))),
+            Row::StaticMemberExpression(row) => Ok(Some(ChainElement::StaticMemberExpression(row))),
+            Row::ComputedMemberExpression(row) => Ok(Some(ChainElement::ComputedMemberExpression(
+                row,
+            ))),
             rest => {
                 rest.let_go();
                 Ok(None)
@@ -285,9 +311,21 @@ impl<N: HoldsExpression + Drop> Child<N> for ArrayExpressionElement<N> {
             ≡ (if in_set sets.ArrayExpressionElement (type_of (row_plain N.plain row)) then Some (row_plain N.plain row) else None)) }
     {
         match row {
+            Row::IdentifierReference(row) => array_expression_element_of_expression(
+                alloc,
+                N::expression_node(Expression::IdentifierReference(row)),
+            ),
             Row::Expression(row) => array_expression_element_of_expression(
                 alloc,
                 N::expression_node(Box::into_inner(row).expression),
+            ),
+            Row::StaticMemberExpression(row) => array_expression_element_of_expression(
+                alloc,
+                N::expression_node(Expression::StaticMemberExpression(row)),
+            ),
+            Row::ComputedMemberExpression(row) => array_expression_element_of_expression(
+                alloc,
+                N::expression_node(Expression::ComputedMemberExpression(row)),
             ),
             Row::SpreadElement(row) => Ok(Some(ArrayExpressionElement::SpreadElement(row))),
             Row::Function(row) => array_expression_element_of_expression(
@@ -317,11 +355,23 @@ impl<N: HoldsExpression + Drop> Child<N> for PropertyKey<N> {
             ≡ (if in_set sets.PropertyKey (type_of (row_plain N.plain row)) then Some (row_plain N.plain row) else None)) }
     {
         match row {
+            Row::IdentifierReference(row) => property_key_of_expression(
+                alloc,
+                N::expression_node(Expression::IdentifierReference(row)),
+            ),
             Row::Expression(row) => property_key_of_expression(
                 alloc,
                 N::expression_node(Box::into_inner(row).expression),
             ),
             Row::IdentifierName(row) => Ok(Some(PropertyKey::IdentifierName(row))),
+            Row::StaticMemberExpression(row) => property_key_of_expression(
+                alloc,
+                N::expression_node(Expression::StaticMemberExpression(row)),
+            ),
+            Row::ComputedMemberExpression(row) => property_key_of_expression(
+                alloc,
+                N::expression_node(Expression::ComputedMemberExpression(row)),
+            ),
             Row::Function(row) => property_key_of_expression(
                 alloc,
                 N::expression_node(Expression::Function(row)),
@@ -376,9 +426,15 @@ impl<N: PlainNode + Drop> Child<N> for SimpleAssignmentTarget<N> {
     {
         let _ = alloc;
         match row {
-            Row::Expression(row) => Ok(simple_assignment_target_of_expression(Box::into_inner(
+            Row::IdentifierReference(row) => Ok(Some(SimpleAssignmentTarget::IdentifierReference(
                 row,
             ))),
+            Row::StaticMemberExpression(row) => Ok(Some(
+                SimpleAssignmentTarget::StaticMemberExpression(row),
+            )),
+            Row::ComputedMemberExpression(row) => Ok(Some(
+                SimpleAssignmentTarget::ComputedMemberExpression(row),
+            )),
             rest => {
                 rest.let_go();
                 Ok(None)
@@ -387,7 +443,7 @@ impl<N: PlainNode + Drop> Child<N> for SimpleAssignmentTarget<N> {
     }
 }
 
-impl<N: PlainNode + Drop> Child<N> for AssignmentTarget<N> {
+impl<N: HoldsAssignmentTarget + Drop> Child<N> for AssignmentTargetNode<N> {
     ghost plain = { λ n. in_assignment_target N.plain n };
 
     ghost of_set = { sets.AssignmentTarget };
@@ -397,13 +453,24 @@ impl<N: PlainNode + Drop> Child<N> for AssignmentTarget<N> {
     }
 
     #[tactic(auto, using(crate::proofs::Sets::takes_assignment_targets))]
-    fn from_row(alloc: Global, row: Row<N>) -> Result<Option<AssignmentTarget<N>>, AllocError>
+    fn from_row(alloc: Global, row: Row<N>) -> Result<Option<AssignmentTargetNode<N>>, AllocError>
         ensures { IfOk result (λ child. option_map (in_assignment_target N.plain) child
             ≡ (if in_set sets.AssignmentTarget (type_of (row_plain N.plain row)) then Some (row_plain N.plain row) else None)) }
     {
         let _ = alloc;
         match row {
-            Row::Expression(row) => Ok(assignment_target_of_expression(Box::into_inner(row))),
+            Row::IdentifierReference(row) => Ok(Some(N::assignment_target_node(
+                AssignmentTarget::IdentifierReference(row),
+            ))),
+            Row::StaticMemberExpression(row) => Ok(Some(N::assignment_target_node(
+                AssignmentTarget::StaticMemberExpression(row),
+            ))),
+            Row::ComputedMemberExpression(row) => Ok(Some(N::assignment_target_node(
+                AssignmentTarget::ComputedMemberExpression(row),
+            ))),
+            Row::AssignmentTarget(row) => Ok(Some(N::assignment_target_node(
+                Box::into_inner(row).assignment_target,
+            ))),
             rest => {
                 rest.let_go();
                 Ok(None)
@@ -557,9 +624,21 @@ impl<N: HoldsExpression + Drop> Child<N> for ArrowFunctionBody<N> {
             ≡ (if in_set sets.ArrowFunctionBody (type_of (row_plain N.plain row)) then Some (row_plain N.plain row) else None)) }
     {
         match row {
+            Row::IdentifierReference(row) => arrow_function_body_of_expression(
+                alloc,
+                N::expression_node(Expression::IdentifierReference(row)),
+            ),
             Row::Expression(row) => arrow_function_body_of_expression(
                 alloc,
                 N::expression_node(Box::into_inner(row).expression),
+            ),
+            Row::StaticMemberExpression(row) => arrow_function_body_of_expression(
+                alloc,
+                N::expression_node(Expression::StaticMemberExpression(row)),
+            ),
+            Row::ComputedMemberExpression(row) => arrow_function_body_of_expression(
+                alloc,
+                N::expression_node(Expression::ComputedMemberExpression(row)),
             ),
             Row::Function(row) => arrow_function_body_of_expression(
                 alloc,
@@ -590,9 +669,21 @@ impl<N: HoldsExpression + Drop> Child<N> for ForStatementInit<N> {
     {
         match row {
             Row::Declaration(row) => Ok(for_statement_init_of_declaration(Box::into_inner(row))),
+            Row::IdentifierReference(row) => for_statement_init_of_expression(
+                alloc,
+                N::expression_node(Expression::IdentifierReference(row)),
+            ),
             Row::Expression(row) => for_statement_init_of_expression(
                 alloc,
                 N::expression_node(Box::into_inner(row).expression),
+            ),
+            Row::StaticMemberExpression(row) => for_statement_init_of_expression(
+                alloc,
+                N::expression_node(Expression::StaticMemberExpression(row)),
+            ),
+            Row::ComputedMemberExpression(row) => for_statement_init_of_expression(
+                alloc,
+                N::expression_node(Expression::ComputedMemberExpression(row)),
             ),
             Row::Function(row) => for_statement_init_of_expression(
                 alloc,
@@ -606,7 +697,7 @@ impl<N: HoldsExpression + Drop> Child<N> for ForStatementInit<N> {
     }
 }
 
-impl<N: PlainNode + Drop> Child<N> for ForStatementLeft<N> {
+impl<N: HoldsAssignmentTarget + Drop> Child<N> for ForStatementLeft<N> {
     ghost plain = { λ n. in_for_statement_left N.plain n };
 
     ghost of_set = { sets.ForStatementLeft };
@@ -620,10 +711,24 @@ impl<N: PlainNode + Drop> Child<N> for ForStatementLeft<N> {
         ensures { IfOk result (λ child. option_map (in_for_statement_left N.plain) child
             ≡ (if in_set sets.ForStatementLeft (type_of (row_plain N.plain row)) then Some (row_plain N.plain row) else None)) }
     {
-        let _ = alloc;
         match row {
             Row::Declaration(row) => Ok(for_statement_left_of_declaration(Box::into_inner(row))),
-            Row::Expression(row) => Ok(for_statement_left_of_expression(Box::into_inner(row))),
+            Row::IdentifierReference(row) => for_statement_left_of_assignment_target(
+                alloc,
+                N::assignment_target_node(AssignmentTarget::IdentifierReference(row)),
+            ),
+            Row::StaticMemberExpression(row) => for_statement_left_of_assignment_target(
+                alloc,
+                N::assignment_target_node(AssignmentTarget::StaticMemberExpression(row)),
+            ),
+            Row::ComputedMemberExpression(row) => for_statement_left_of_assignment_target(
+                alloc,
+                N::assignment_target_node(AssignmentTarget::ComputedMemberExpression(row)),
+            ),
+            Row::AssignmentTarget(row) => for_statement_left_of_assignment_target(
+                alloc,
+                N::assignment_target_node(Box::into_inner(row).assignment_target),
+            ),
             rest => {
                 rest.let_go();
                 Ok(None)
@@ -724,6 +829,139 @@ impl<N: PlainNode + Drop> Child<N> for Box<CatchClause<N>> {
         let _ = alloc;
         match row {
             Row::CatchClause(row) => Ok(Some(row)),
+            rest => {
+                rest.let_go();
+                Ok(None)
+            }
+        }
+    }
+}
+
+impl<N: HoldsAssignmentTarget + Drop> Child<N> for AssignmentTargetMaybeDefault<N> {
+    ghost plain = { λ n. in_assignment_target_maybe_default N.plain n };
+
+    ghost of_set = { sets.AssignmentTargetMaybeDefault };
+
+    fn set() -> NodeSet {
+        NodeSet::AssignmentTargetMaybeDefault
+    }
+
+    #[tactic(auto, using(crate::proofs::Sets::takes_assignment_target_maybe_defaults))]
+    fn from_row(
+        alloc: Global,
+        row: Row<N>,
+    ) -> Result<Option<AssignmentTargetMaybeDefault<N>>, AllocError>
+        ensures { IfOk result (λ child. option_map (in_assignment_target_maybe_default N.plain) child
+            ≡ (if in_set sets.AssignmentTargetMaybeDefault (type_of (row_plain N.plain row)) then Some (row_plain N.plain row) else None)) }
+    {
+        match row {
+            Row::IdentifierReference(row) => assignment_target_maybe_default_of_assignment_target(
+                alloc,
+                N::assignment_target_node(AssignmentTarget::IdentifierReference(row)),
+            ),
+            Row::StaticMemberExpression(row) =>
+                assignment_target_maybe_default_of_assignment_target(
+                    alloc,
+                    N::assignment_target_node(AssignmentTarget::StaticMemberExpression(row)),
+                ),
+            Row::ComputedMemberExpression(row) =>
+                assignment_target_maybe_default_of_assignment_target(
+                    alloc,
+                    N::assignment_target_node(AssignmentTarget::ComputedMemberExpression(row)),
+                ),
+            Row::AssignmentTarget(row) => assignment_target_maybe_default_of_assignment_target(
+                alloc,
+                N::assignment_target_node(Box::into_inner(row).assignment_target),
+            ),
+            Row::AssignmentTargetWithDefault(row) => Ok(Some(
+                AssignmentTargetMaybeDefault::AssignmentTargetWithDefault(row),
+            )),
+            rest => {
+                rest.let_go();
+                Ok(None)
+            }
+        }
+    }
+}
+
+impl<N: PlainNode + Drop> Child<N> for Box<AssignmentTargetRest<N>> {
+    ghost plain = { λ n. assignment_target_rest_row N.plain n.value };
+
+    ghost of_set = { sets.AssignmentTargetRest };
+
+    fn set() -> NodeSet {
+        NodeSet::AssignmentTargetRest
+    }
+
+    #[tactic(auto, using(crate::proofs::Sets::takes_assignment_target_rests))]
+    fn from_row(
+        alloc: Global,
+        row: Row<N>,
+    ) -> Result<Option<Box<AssignmentTargetRest<N>>>, AllocError>
+        ensures { IfOk result (λ child. option_map (λ b. assignment_target_rest_row N.plain b.value) child
+            ≡ (if in_set sets.AssignmentTargetRest (type_of (row_plain N.plain row)) then Some (row_plain N.plain row) else None)) }
+    {
+        let _ = alloc;
+        match row {
+            Row::AssignmentTargetRest(row) => Ok(Some(row)),
+            rest => {
+                rest.let_go();
+                Ok(None)
+            }
+        }
+    }
+}
+
+impl<N: PlainNode + Drop> Child<N> for AssignmentTargetProperty<N> {
+    ghost plain = { λ n. in_assignment_target_property N.plain n };
+
+    ghost of_set = { sets.AssignmentTargetProperty };
+
+    fn set() -> NodeSet {
+        NodeSet::AssignmentTargetProperty
+    }
+
+    #[tactic(auto, using(crate::proofs::Sets::takes_assignment_target_propertys))]
+    fn from_row(
+        alloc: Global,
+        row: Row<N>,
+    ) -> Result<Option<AssignmentTargetProperty<N>>, AllocError>
+        ensures { IfOk result (λ child. option_map (in_assignment_target_property N.plain) child
+            ≡ (if in_set sets.AssignmentTargetProperty (type_of (row_plain N.plain row)) then Some (row_plain N.plain row) else None)) }
+    {
+        let _ = alloc;
+        match row {
+            Row::AssignmentTargetPropertyIdentifier(row) => Ok(Some(
+                AssignmentTargetProperty::AssignmentTargetPropertyIdentifier(row),
+            )),
+            Row::AssignmentTargetPropertyProperty(row) => Ok(Some(
+                AssignmentTargetProperty::AssignmentTargetPropertyProperty(row),
+            )),
+            rest => {
+                rest.let_go();
+                Ok(None)
+            }
+        }
+    }
+}
+
+impl<N: PlainNode + Drop> Child<N> for Box<IdentifierReference> {
+    ghost plain = { λ n. identifier_reference_row n.value };
+
+    ghost of_set = { sets.IdentifierReference };
+
+    fn set() -> NodeSet {
+        NodeSet::IdentifierReference
+    }
+
+    #[tactic(auto, using(crate::proofs::Sets::takes_identifier_references))]
+    fn from_row(alloc: Global, row: Row<N>) -> Result<Option<Box<IdentifierReference>>, AllocError>
+        ensures { IfOk result (λ child. option_map (λ b. identifier_reference_row b.value) child
+            ≡ (if in_set sets.IdentifierReference (type_of (row_plain N.plain row)) then Some (row_plain N.plain row) else None)) }
+    {
+        let _ = alloc;
+        match row {
+            Row::IdentifierReference(row) => Ok(Some(row)),
             rest => {
                 rest.let_go();
                 Ok(None)

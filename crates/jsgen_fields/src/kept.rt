@@ -3,20 +3,22 @@
 ghost use Rattle.std.specs.Prelude.{◌≡◌, IfOk, Some, None, option_map, if◌then◌else◌, Ok};
 ghost use Rattle.jsgen_tree.specs.Tree.{type_of};
 ghost use Rattle.jsgen_tree.specs.Sets.{in_set};
-ghost use Rattle.jsgen_tree.specs.Rows.{program_row, comment_row, directive_row, variable_declarator_row, identifier_name_row, spread_element_row, object_property_row, formal_parameter_row, formal_parameter_rest_row, formal_parameters_row, function_row, function_body_row, label_identifier_row, switch_case_row, catch_clause_row, expression_plain, declaration_plain, statement_plain, binding_pattern_plain, expression_plain, declaration_plain, statement_plain, binding_pattern_plain, program_row};
+ghost use Rattle.jsgen_tree.specs.Rows.{program_row, comment_row, directive_row, variable_declarator_row, identifier_reference_row, identifier_name_row, static_member_expression_row, computed_member_expression_row, spread_element_row, object_property_row, formal_parameter_row, formal_parameter_rest_row, formal_parameters_row, function_row, function_body_row, label_identifier_row, switch_case_row, catch_clause_row, assignment_target_with_default_row, assignment_target_property_identifier_row, assignment_target_property_property_row, assignment_target_rest_row, expression_plain, assignment_target_plain, declaration_plain, statement_plain, binding_pattern_plain, expression_plain, assignment_target_plain, declaration_plain, statement_plain, binding_pattern_plain, program_row};
 ghost use Rattle.jsgen_fields.specs.Kept.{row_plain, any_row_plain};
 ghost use Rattle.jsgen_fields.specs.Values.{Same};
 ghost use Rattle.jsgen_fields.specs.Meaning.{is_program};
 
 use crate::InputFault;
 use crate::asked::{Child, PlainNode, ReadNode, RowOf};
-use crate::others::{OtherDeclaration, OtherExpression, OtherStatement};
+use crate::others::{OtherAssignmentTarget, OtherDeclaration, OtherExpression, OtherStatement};
 use jsgen_pool::Typed;
 use jsgen_tree::{
-    BindingPattern, CatchClause, Comment, Declaration, Directive, Expression, FormalParameter,
-    FormalParameterRest, FormalParameters, Function, FunctionBody, IdentifierName, LabelIdentifier,
-    Node, NodeType, ObjectProperty, Program, SpreadElement, Statement, SwitchCase,
-    VariableDeclarator,
+    AssignmentTarget, AssignmentTargetPropertyIdentifier, AssignmentTargetPropertyProperty,
+    AssignmentTargetRest, AssignmentTargetWithDefault, BindingPattern, CatchClause, Comment,
+    ComputedMemberExpression, Declaration, Directive, Expression, FormalParameter,
+    FormalParameterRest, FormalParameters, Function, FunctionBody, IdentifierName,
+    IdentifierReference, LabelIdentifier, Node, NodeType, ObjectProperty, Program, SpreadElement,
+    Statement, StaticMemberExpression, SwitchCase, VariableDeclarator,
 };
 use std::alloc::{AllocError, Global};
 
@@ -31,8 +33,11 @@ pub enum Row<N = Node> {
     VariableDeclarator(Box<VariableDeclarator<N>>),
     BindingPattern(Box<BindingPattern>),
     Statement(Box<OtherStatement<N>>),
+    IdentifierReference(Box<IdentifierReference>),
     Expression(Box<OtherExpression<N>>),
     IdentifierName(Box<IdentifierName>),
+    StaticMemberExpression(Box<StaticMemberExpression<N>>),
+    ComputedMemberExpression(Box<ComputedMemberExpression<N>>),
     SpreadElement(Box<SpreadElement<N>>),
     ObjectProperty(Box<ObjectProperty<N>>),
     FormalParameter(Box<FormalParameter<N>>),
@@ -43,6 +48,11 @@ pub enum Row<N = Node> {
     LabelIdentifier(Box<LabelIdentifier>),
     SwitchCase(Box<SwitchCase<N>>),
     CatchClause(Box<CatchClause<N>>),
+    AssignmentTarget(Box<OtherAssignmentTarget<N>>),
+    AssignmentTargetWithDefault(Box<AssignmentTargetWithDefault<N>>),
+    AssignmentTargetPropertyIdentifier(Box<AssignmentTargetPropertyIdentifier<N>>),
+    AssignmentTargetPropertyProperty(Box<AssignmentTargetPropertyProperty<N>>),
+    AssignmentTargetRest(Box<AssignmentTargetRest<N>>),
 }
 
 impl<N: Drop> Row<N> {
@@ -77,8 +87,11 @@ impl<N: ReadNode> Typed for AnyRow<N> {
             Row::VariableDeclarator(_) => NodeType::VariableDeclarator,
             Row::BindingPattern(row) => (**row).node_type(),
             Row::Statement(row) => N::statement_type(&(**row).statement),
+            Row::IdentifierReference(_) => NodeType::IdentifierReference,
             Row::Expression(row) => N::expression_type(&(**row).expression),
             Row::IdentifierName(_) => NodeType::IdentifierName,
+            Row::StaticMemberExpression(_) => NodeType::StaticMemberExpression,
+            Row::ComputedMemberExpression(_) => NodeType::ComputedMemberExpression,
             Row::SpreadElement(_) => NodeType::SpreadElement,
             Row::ObjectProperty(_) => NodeType::ObjectProperty,
             Row::FormalParameter(_) => NodeType::FormalParameter,
@@ -89,6 +102,12 @@ impl<N: ReadNode> Typed for AnyRow<N> {
             Row::LabelIdentifier(_) => NodeType::LabelIdentifier,
             Row::SwitchCase(_) => NodeType::SwitchCase,
             Row::CatchClause(_) => NodeType::CatchClause,
+            Row::AssignmentTarget(row) => N::assignment_target_type(&(**row).assignment_target),
+            Row::AssignmentTargetWithDefault(_) => NodeType::AssignmentTargetWithDefault,
+            Row::AssignmentTargetPropertyIdentifier(_) =>
+                NodeType::AssignmentTargetPropertyIdentifier,
+            Row::AssignmentTargetPropertyProperty(_) => NodeType::AssignmentTargetPropertyProperty,
+            Row::AssignmentTargetRest(_) => NodeType::AssignmentTargetRest,
         }
     }
 }
@@ -184,6 +203,14 @@ pub fn row_of_statement<N: PlainNode + Drop, R: RowOf<N>>(
     Ok(R::of_row(Row::Statement(other)))
 }
 
+pub fn row_of_identifier_reference<N: PlainNode + Drop, R: RowOf<N>>(
+    identifier_reference: Box<IdentifierReference>,
+) -> R
+    ensures { R.plain result ≡ identifier_reference_row identifier_reference.value }
+{
+    R::of_row(Row::IdentifierReference(identifier_reference))
+}
+
 pub fn row_of_expression<N: PlainNode + Drop, R: RowOf<N>>(
     alloc: Global,
     other: OtherExpression<N>,
@@ -200,6 +227,22 @@ pub fn row_of_identifier_name<N: PlainNode + Drop, R: RowOf<N>>(
     ensures { R.plain result ≡ identifier_name_row identifier_name.value }
 {
     R::of_row(Row::IdentifierName(identifier_name))
+}
+
+pub fn row_of_static_member_expression<N: PlainNode + Drop, R: RowOf<N>>(
+    static_member_expression: Box<StaticMemberExpression<N>>,
+) -> R
+    ensures { R.plain result ≡ static_member_expression_row N.plain static_member_expression.value }
+{
+    R::of_row(Row::StaticMemberExpression(static_member_expression))
+}
+
+pub fn row_of_computed_member_expression<N: PlainNode + Drop, R: RowOf<N>>(
+    computed_member_expression: Box<ComputedMemberExpression<N>>,
+) -> R
+    ensures { R.plain result ≡ computed_member_expression_row N.plain computed_member_expression.value }
+{
+    R::of_row(Row::ComputedMemberExpression(computed_member_expression))
 }
 
 pub fn row_of_spread_element<N: PlainNode + Drop, R: RowOf<N>>(
@@ -274,4 +317,46 @@ pub fn row_of_catch_clause<N: PlainNode + Drop, R: RowOf<N>>(catch_clause: Box<C
     ensures { R.plain result ≡ catch_clause_row N.plain catch_clause.value }
 {
     R::of_row(Row::CatchClause(catch_clause))
+}
+
+pub fn row_of_assignment_target<N: PlainNode + Drop, R: RowOf<N>>(
+    alloc: Global,
+    other: OtherAssignmentTarget<N>,
+) -> Result<R, InputFault>
+    ensures { Same R.plain result (Ok (assignment_target_plain N.plain other.assignment_target)) }
+{
+    let other = Box::new(alloc, other)?;
+    Ok(R::of_row(Row::AssignmentTarget(other)))
+}
+
+pub fn row_of_assignment_target_with_default<N: PlainNode + Drop, R: RowOf<N>>(
+    assignment_target_with_default: Box<AssignmentTargetWithDefault<N>>,
+) -> R
+    ensures { R.plain result ≡ assignment_target_with_default_row N.plain assignment_target_with_default.value }
+{
+    R::of_row(Row::AssignmentTargetWithDefault(assignment_target_with_default))
+}
+
+pub fn row_of_assignment_target_property_identifier<N: PlainNode + Drop, R: RowOf<N>>(
+    assignment_target_property_identifier: Box<AssignmentTargetPropertyIdentifier<N>>,
+) -> R
+    ensures { R.plain result ≡ assignment_target_property_identifier_row N.plain assignment_target_property_identifier.value }
+{
+    R::of_row(Row::AssignmentTargetPropertyIdentifier(assignment_target_property_identifier))
+}
+
+pub fn row_of_assignment_target_property_property<N: PlainNode + Drop, R: RowOf<N>>(
+    assignment_target_property_property: Box<AssignmentTargetPropertyProperty<N>>,
+) -> R
+    ensures { R.plain result ≡ assignment_target_property_property_row N.plain assignment_target_property_property.value }
+{
+    R::of_row(Row::AssignmentTargetPropertyProperty(assignment_target_property_property))
+}
+
+pub fn row_of_assignment_target_rest<N: PlainNode + Drop, R: RowOf<N>>(
+    assignment_target_rest: Box<AssignmentTargetRest<N>>,
+) -> R
+    ensures { R.plain result ≡ assignment_target_rest_row N.plain assignment_target_rest.value }
+{
+    R::of_row(Row::AssignmentTargetRest(assignment_target_rest))
 }

@@ -61,7 +61,7 @@ const TYPE_NAMES: [(&str, NodeType); 50] = [
     ("LabelIdentifier", NodeType::LabelIdentifier),
 ];
 
-const TYPE_NAMES_2: [(&str, NodeType); 10] = [
+const TYPE_NAMES_2: [(&str, NodeType); 16] = [
     ("LabeledStatement", NodeType::LabeledStatement),
     ("ContinueStatement", NodeType::ContinueStatement),
     ("BreakStatement", NodeType::BreakStatement),
@@ -72,6 +72,21 @@ const TYPE_NAMES_2: [(&str, NodeType); 10] = [
     ("SwitchCase", NodeType::SwitchCase),
     ("TryStatement", NodeType::TryStatement),
     ("CatchClause", NodeType::CatchClause),
+    ("ArrayAssignmentTarget", NodeType::ArrayAssignmentTarget),
+    ("ObjectAssignmentTarget", NodeType::ObjectAssignmentTarget),
+    (
+        "AssignmentTargetWithDefault",
+        NodeType::AssignmentTargetWithDefault,
+    ),
+    (
+        "AssignmentTargetPropertyIdentifier",
+        NodeType::AssignmentTargetPropertyIdentifier,
+    ),
+    (
+        "AssignmentTargetPropertyProperty",
+        NodeType::AssignmentTargetPropertyProperty,
+    ),
+    ("AssignmentTargetRest", NodeType::AssignmentTargetRest),
 ];
 
 fn first_named(names: &[(&str, NodeType)], name: &str) -> Option<NodeType>

@@ -122,7 +122,7 @@ fn print_all<E, L: PrintElement<E>>(lines: bool, elements: &[E], p: &mut Printer
     print_last_comma::<E, L>(elements, p);
 }
 
-fn print_last_comma<E, L: PrintElement<E>>(elements: &[E], p: &mut Printer<'_>)
+pub(crate) fn print_last_comma<E, L: PrintElement<E>>(elements: &[E], p: &mut Printer<'_>)
     ensures { Lays p.old p.new (comma_if (ends_in_hole (holed (map L.plain elements.now)))) }
 {
     if ends_in_hole::<E, L>(elements) {
@@ -139,7 +139,7 @@ fn ends_in_hole<E, L: PrintElement<E>>(elements: &[E]) -> bool
     }
 }
 
-fn print_elements<E, L: PrintElement<E>>(
+pub(crate) fn print_elements<E, L: PrintElement<E>>(
     lines: bool,
     elements: &[E],
     p: &mut Printer<'_>,

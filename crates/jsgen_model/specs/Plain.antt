@@ -22,6 +22,12 @@ use Rattle.jsgen_tree.specs.Job.{JobData}
 abbrev pub is_plain_type : NodeType → Bool
 -- generated from tools/nodes/table.txt: types
 is_plain_type types.ImportMeta = false
+is_plain_type types.ArrayAssignmentTarget = false
+is_plain_type types.ObjectAssignmentTarget = false
+is_plain_type types.AssignmentTargetWithDefault = false
+is_plain_type types.AssignmentTargetPropertyIdentifier = false
+is_plain_type types.AssignmentTargetPropertyProperty = false
+is_plain_type types.AssignmentTargetRest = false
 -- end of what is generated: types
 is_plain_type type = true
 
@@ -124,6 +130,12 @@ is_formed (tree.switch_statement a discriminant cases) = has_no_hole cases
 is_formed (tree.switch_case a test consequent) = has_no_hole consequent
 is_formed (tree.try_statement a block handler finalizer) = true
 is_formed (tree.catch_clause a param body) = true
+is_formed (tree.array_target a elements rest) = true
+is_formed (tree.object_target a properties rest) = has_no_hole properties
+is_formed (tree.target_with_default a binding init) = true
+is_formed (tree.target_property_identifier a binding init) = true
+is_formed (tree.target_property a the_name binding) = true
+is_formed (tree.target_rest a target) = true
 -- end of what is generated: formed
 is_formed t = false
 

@@ -175,8 +175,8 @@ fn is_value_alone<N: PrintNode>(node: &ObjectProperty<N>, p: &Printer<'_>) -> bo
     }
 }
 
-// Whether the value is a reference, and printed as this name is written.
-fn is_said<N: PrintNode>(value: &N, name: &str, p: &Printer<'_>) -> bool
+/// Whether the value is a reference, and printed as this name is written.
+pub fn is_said<N: PrintNode>(value: &N, name: &str, p: &Printer<'_>) -> bool
     ensures { result ≡ is_said (pen_of p.now).style.tables (looked_up_in (without_parentheses (N.plain value.now))) (chars name.now) }
 {
     match value.looked_up() {
@@ -185,7 +185,8 @@ fn is_said<N: PrintNode>(value: &N, name: &str, p: &Printer<'_>) -> bool
     }
 }
 
-fn key_name<N: PrintNode>(key: &PropertyKey<N>) -> Option<&str>
+/// The name that a key is as it is written.
+pub fn key_name<N: PrintNode>(key: &PropertyKey<N>) -> Option<&str>
     ensures { option_map (λ s. chars s.now) result ≡ written_name_in (in_property_key N.plain key.now) }
 {
     match key {
@@ -196,8 +197,8 @@ fn key_name<N: PrintNode>(key: &PropertyKey<N>) -> Option<&str>
 
 // ---- keys
 
-// In brackets where it needs them.
-fn print_key<N: PrintNode>(key: &PropertyKey<N>, computed: bool, p: &mut Printer<'_>)
+/// In brackets where it needs them.
+pub fn print_key<N: PrintNode>(key: &PropertyKey<N>, computed: bool, p: &mut Printer<'_>)
     ensures { Lays p.old p.new (key_of computed (in_property_key N.plain key.now)) }
 {
     let within = Place::in_brackets(Precedence::Comma);

@@ -1,10 +1,10 @@
 // Generated from tools/nodes/table.txt; edit that and run tools/nodes/generate.
 // A set prints as its member does.
 ghost use Rattle.std.specs.Prelude.{◌≡◌, true, nat_le};
-ghost use Rattle.jsgen_tree.specs.Rows.{in_simple_assignment_target, in_assignment_target, expression_plain, declaration_plain, statement_plain, binding_pattern_plain};
+ghost use Rattle.jsgen_tree.specs.Rows.{in_simple_assignment_target, expression_plain, assignment_target_plain, declaration_plain, statement_plain, binding_pattern_plain};
 ghost use Rattle.jsgen_printer.specs.Steps.{Lays};
 ghost use Rattle.jsgen_model.specs.Spell.{spell};
-ghost use Rattle.jsgen_nodes.specs.Parts.{expression_part, declaration_part, statement_part};
+ghost use Rattle.jsgen_nodes.specs.Parts.{expression_part, assignment_target_part, declaration_part, statement_part};
 
 use crate::assignments::print_assignment_expression;
 use crate::choices::{print_switch_statement, print_try_statement};
@@ -133,6 +133,44 @@ fn print_expression_in_functions<N: PrintNode>(
     }
 }
 
+pub fn print_assignment_target<N: PrintNode>(
+    node: &AssignmentTarget<N>,
+    p: &mut Printer<'_>,
+    place: Place,
+)
+    ensures { Lays p.old p.new (spell (assignment_target_plain N.plain node.now) place) }
+{
+    match node {
+        AssignmentTarget::IdentifierReference(node) => print_identifier_reference(node, p, place),
+        AssignmentTarget::StaticMemberExpression(node) => print_static_member_expression(
+            node, p, place,
+        ),
+        AssignmentTarget::ComputedMemberExpression(node) => print_computed_member_expression(
+            node, p, place,
+        ),
+        _ => print_assignment_target_in_targets(node, p, place),
+    }
+}
+
+fn print_assignment_target_in_targets<N: PrintNode>(
+    node: &AssignmentTarget<N>,
+    p: &mut Printer<'_>,
+    place: Place,
+)
+    requires { nat_le 1 (assignment_target_part node.now) ≡ true }
+    ensures { Lays p.old p.new (spell (assignment_target_plain N.plain node.now) place) }
+{
+    match node {
+        AssignmentTarget::ArrayAssignmentTarget(node) => print_array_assignment_target(
+            node, p, place,
+        ),
+        AssignmentTarget::ObjectAssignmentTarget(node) => print_object_assignment_target(
+            node, p, place,
+        ),
+        _ => unreachable!(),
+    }
+}
+
 pub fn print_declaration<N: PrintNode>(node: &Declaration<N>, p: &mut Printer<'_>, place: Place)
     ensures { Lays p.old p.new (spell (declaration_plain N.plain node.now) place) }
 {
@@ -240,24 +278,6 @@ pub fn print_simple_assignment_target<N: PrintNode>(
             node, p, place,
         ),
         SimpleAssignmentTarget::ComputedMemberExpression(node) => print_computed_member_expression(
-            node, p, place,
-        ),
-    }
-}
-
-pub fn print_assignment_target<N: PrintNode>(
-    node: &AssignmentTarget<N>,
-    p: &mut Printer<'_>,
-    place: Place,
-)
-    ensures { Lays p.old p.new (spell (in_assignment_target N.plain node.now) place) }
-{
-    match node {
-        AssignmentTarget::IdentifierReference(node) => print_identifier_reference(node, p, place),
-        AssignmentTarget::StaticMemberExpression(node) => print_static_member_expression(
-            node, p, place,
-        ),
-        AssignmentTarget::ComputedMemberExpression(node) => print_computed_member_expression(
             node, p, place,
         ),
     }

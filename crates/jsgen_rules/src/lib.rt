@@ -3,7 +3,7 @@
 
 ghost use Rattle.std.specs.Prelude.{◌≡◌, not, ◌&&◌};
 ghost use Rattle.std.specs.Str.{chars};
-ghost use Rattle.jsgen_model.specs.Valid.{directive_faults, raw_number_faults, big_integer_faults, fault_if, is_super, takes_super, may_stand, takes_optional_link};
+ghost use Rattle.jsgen_model.specs.Valid.{directive_faults, raw_number_faults, big_integer_faults, fault_if, is_super, takes_super, may_stand, takes_optional_link, is_target_pattern, assigns_alone};
 ghost use Rattle.jsgen_model.specs.declared.fault.TreeFault.TheVariants as faults;
 ghost use Rattle.jsgen_rules.specs.Verdict.{verdict};
 
@@ -17,7 +17,7 @@ pub use comments::check_comment;
 pub use functions::{check_function, check_return, fits_accessor, function_fits};
 use jsgen_model::TreeFault;
 use jsgen_numbers::{is_big_integer, is_raw_number};
-use jsgen_syntax::{Quote, Span};
+use jsgen_syntax::{AssignmentOperator, Quote, Span};
 use jsgen_text::spells_string;
 use jsgen_tree::{NodeSet, NodeType};
 pub use names::{check_binding, check_label, check_reference, check_written_name};
@@ -85,6 +85,23 @@ pub fn takes_optional_link(set: NodeSet) -> bool
             | NodeSet::AssignmentTarget
             | NodeSet::ForStatementLeft
     )
+}
+
+/// Whether a node of this type is given several values.
+pub fn is_target_pattern(node_type: NodeType) -> bool
+    ensures { result ≡ is_target_pattern node_type }
+{
+    matches!(
+        &node_type,
+        NodeType::ArrayAssignmentTarget | NodeType::ObjectAssignmentTarget
+    )
+}
+
+/// Whether an operator gives the value as it is.
+pub fn assigns_alone(operator: AssignmentOperator) -> bool
+    ensures { result ≡ assigns_alone operator }
+{
+    matches!(&operator, AssignmentOperator::Assign)
 }
 
 /// Where none of them may be optional, none is.

@@ -1,11 +1,11 @@
 // Generated from tools/nodes/table.txt; edit that and run tools/nodes/generate.
 // Rows of a job: choices between cases, and handlers (ECMA-262, 14.12 and 14.15).
-ghost use Rattle.std.specs.Prelude.{◌≡◌, false};
+ghost use Rattle.std.specs.Prelude.{◌≡◌, true};
 ghost use Rattle.serde_json.specs.View.{view};
 ghost use Rattle.jsgen_tree.specs.RowFields.{switch_statement_fields, switch_case_fields, try_statement_fields, catch_clause_fields};
 ghost use Rattle.jsgen_fields.specs.Reads.{Gives, read_node, read_typed};
 ghost use Rattle.jsgen_pool.specs.Pool.{entries};
-ghost use Rattle.jsgen_fields.specs.Parts.{is_in_statements, is_in_expressions, is_in_collections, is_in_operations, is_in_assignments, is_in_functions, is_in_loops};
+ghost use Rattle.jsgen_fields.specs.Parts.{is_in_choices};
 ghost use Rattle.jsgen_tree.specs.declared.types.NodeType.TheVariants as types;
 
 use jsgen_fields::InputFault;
@@ -188,13 +188,7 @@ pub fn read_in_choices<N: ReadNode + Drop, R: RowOf<N> + Drop>(
     span: Span,
     row: &Value,
 ) -> Result<R, InputFault>
-    requires not_in_statements { is_in_statements node_type ≡ false }
-    requires not_in_expressions { is_in_expressions node_type ≡ false }
-    requires not_in_collections { is_in_collections node_type ≡ false }
-    requires not_in_operations { is_in_operations node_type ≡ false }
-    requires not_in_assignments { is_in_assignments node_type ≡ false }
-    requires not_in_functions { is_in_functions node_type ≡ false }
-    requires not_in_loops { is_in_loops node_type ≡ false }
+    requires { is_in_choices node_type ≡ true }
     ensures { Gives R.plain result (entries R.plain kept.new.items)
         (read_typed number node_type span (view row.now) (entries R.plain kept.old.items)) }
 {

@@ -4,7 +4,7 @@ use Rattle.std.specs.Prelude.{◌≡◌, codes}
 use Rattle.jsgen_tree.specs.Tree.{Atoms}
 use Rattle.jsgen_tree.specs.Table.{value_named}
 use Rattle.jsgen_tree.specs.Fields.{fields}
-use Rattle.jsgen_tree.specs.Values.{as_text, as_units, as_digits, as_number, as_flag, as_kind_of_comment, as_content_of_comment, as_source_kind, as_declaration_kind, as_numeric_kind, as_binary_operator, as_logical_operator, as_property_kind, as_unary_operator, as_update_operator, as_assignment_operator, as_kind_of_function, as_number_if_given, program_source, program_kind, program_jsx, program_typescript, comment_kind, comment_content, comment_leading, comment_attached_to, comment_preceded_by_newline, comment_followed_by_newline, directive_directive, variable_declaration_kind, variable_declaration_declare, variable_declarator_definite, binding_identifier_name, binding_identifier_symbol, identifier_reference_name, identifier_reference_reference, boolean_literal_value, numeric_literal_kind, numeric_literal_negative, numeric_literal_digits, numeric_literal_text, big_int_literal_value, string_literal_value, binary_expression_operator, logical_expression_operator, identifier_name_name, static_member_expression_optional, computed_member_expression_optional, call_expression_optional, call_expression_pure, object_property_kind, object_property_method, object_property_shorthand, object_property_computed, unary_expression_operator, update_expression_operator, update_expression_prefix, new_expression_pure, assignment_expression_operator, formal_parameter_is_override, formal_parameter_readonly, formal_parameter_optional, function_kind, function_is_async, function_generator, function_declare, function_pure, function_pife, arrow_function_expression_is_async, arrow_function_expression_pure, arrow_function_expression_pife, for_of_statement_is_await, label_identifier_name}
+use Rattle.jsgen_tree.specs.Values.{as_text, as_units, as_digits, as_number, as_flag, as_kind_of_comment, as_content_of_comment, as_source_kind, as_declaration_kind, as_numeric_kind, as_binary_operator, as_logical_operator, as_property_kind, as_unary_operator, as_update_operator, as_assignment_operator, as_kind_of_function, as_number_if_given, program_source, program_kind, program_jsx, program_typescript, comment_kind, comment_content, comment_leading, comment_attached_to, comment_preceded_by_newline, comment_followed_by_newline, directive_directive, variable_declaration_kind, variable_declaration_declare, variable_declarator_definite, binding_identifier_name, binding_identifier_symbol, identifier_reference_name, identifier_reference_reference, boolean_literal_value, numeric_literal_kind, numeric_literal_negative, numeric_literal_digits, numeric_literal_text, big_int_literal_value, string_literal_value, binary_expression_operator, logical_expression_operator, identifier_name_name, static_member_expression_optional, computed_member_expression_optional, call_expression_optional, call_expression_pure, object_property_kind, object_property_method, object_property_shorthand, object_property_computed, unary_expression_operator, update_expression_operator, update_expression_prefix, new_expression_pure, assignment_expression_operator, formal_parameter_is_override, formal_parameter_readonly, formal_parameter_optional, function_kind, function_is_async, function_generator, function_declare, function_pure, function_pife, arrow_function_expression_is_async, arrow_function_expression_pure, arrow_function_expression_pife, for_of_statement_is_await, label_identifier_name, assignment_target_property_property_computed}
 use Rattle.jsgen_tree.specs.declared.types.NodeType.TheVariants as types
 
 -- each value is that of the field of its name
@@ -36,3 +36,4 @@ pub record FieldsAreNamed : Type 0 where
   pub arrow_function_expression : (a : Atoms) → (arrow_function_expression_is_async a ≡ as_flag (value_named (codes "is_async") (fields types.ArrowFunctionExpression) a.values)) × (arrow_function_expression_pure a ≡ as_flag (value_named (codes "pure") (fields types.ArrowFunctionExpression) a.values)) × (arrow_function_expression_pife a ≡ as_flag (value_named (codes "pife") (fields types.ArrowFunctionExpression) a.values))
   pub for_of_statement : (a : Atoms) → for_of_statement_is_await a ≡ as_flag (value_named (codes "is_await") (fields types.ForOfStatement) a.values)
   pub label_identifier : (a : Atoms) → label_identifier_name a ≡ as_text (value_named (codes "name") (fields types.LabelIdentifier) a.values)
+  pub assignment_target_property_property : (a : Atoms) → assignment_target_property_property_computed a ≡ as_flag (value_named (codes "computed") (fields types.AssignmentTargetPropertyProperty) a.values)

@@ -184,3 +184,21 @@ try_statement_fields = fields types.TryStatement
 
 abbrev pub catch_clause_fields : List Field
 catch_clause_fields = fields types.CatchClause
+
+abbrev pub array_assignment_target_fields : List Field
+array_assignment_target_fields = fields types.ArrayAssignmentTarget
+
+abbrev pub object_assignment_target_fields : List Field
+object_assignment_target_fields = fields types.ObjectAssignmentTarget
+
+abbrev pub assignment_target_with_default_fields : List Field
+assignment_target_with_default_fields = fields types.AssignmentTargetWithDefault
+
+abbrev pub assignment_target_property_identifier_fields : List Field
+assignment_target_property_identifier_fields = fields types.AssignmentTargetPropertyIdentifier
+
+abbrev pub assignment_target_property_property_fields : List Field
+assignment_target_property_property_fields = fields types.AssignmentTargetPropertyProperty
+
+abbrev pub assignment_target_rest_fields : List Field
+assignment_target_rest_fields = fields types.AssignmentTargetRest

@@ -282,3 +282,6 @@ for_of_statement_is_await a = as_flag (value_at 0 a.values)
 
 abbrev pub label_identifier_name : Atoms → List ℕ
 label_identifier_name a = as_text (value_at 0 a.values)
+
+abbrev pub assignment_target_property_property_computed : Atoms → Bool
+assignment_target_property_property_computed a = as_flag (value_at 0 a.values)

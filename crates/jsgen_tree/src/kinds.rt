@@ -18,6 +18,7 @@ impl Node {
     {
         match self {
             Node::Expression(_) => None,
+            Node::AssignmentTarget(_) => None,
             Node::Statement(statement) => match statement {
                 Statement::Declaration(node) => node.get().declared_kind(),
                 _ => None,
@@ -40,6 +41,7 @@ impl Node {
                 Expression::Function(node) => Some(node),
                 _ => None,
             },
+            Node::AssignmentTarget(_) => None,
             Node::Statement(statement) => match statement {
                 Statement::Declaration(node) => node.get().as_function(),
                 _ => None,

@@ -25,45 +25,116 @@ mod scoping;
 mod sets;
 mod span;
 mod statements;
+mod targets;
 mod types;
 
-pub use assignments::{AssignmentExpression, ConditionalExpression, SequenceExpression};
-pub use choices::{CatchClause, SwitchCase, SwitchStatement, TryStatement};
-pub use collections::{
-    ArrayExpression, ObjectExpression, ObjectProperty, PropertyKind, SpreadElement,
-};
-pub use expressions::{
-    BigIntLiteral, BinaryExpression, BooleanLiteral, CallExpression, ChainExpression,
-    ComputedMemberExpression, IdentifierName, IdentifierReference, LogicalExpression, NullLiteral,
-    NumericLiteral, ParenthesizedExpression, StaticMemberExpression, StringLiteral, ThisExpression,
-};
-pub use functions::{
-    ArrowFunctionExpression, FormalParameter, FormalParameterRest, FormalParameters, Function,
-    FunctionBody, FunctionKind,
-};
-pub use laws::{equality_is_by_value, fields_are_named, operators_are_named};
-pub use loops::{
-    BreakStatement, ContinueStatement, DebuggerStatement, DoWhileStatement, ForInStatement,
-    ForOfStatement, ForStatement, LabelIdentifier, LabeledStatement, ReturnStatement,
-    ThrowStatement, WhileStatement,
-};
+pub use assignments::AssignmentExpression;
+pub use assignments::ConditionalExpression;
+pub use assignments::SequenceExpression;
+pub use choices::CatchClause;
+pub use choices::SwitchCase;
+pub use choices::SwitchStatement;
+pub use choices::TryStatement;
+pub use collections::ArrayExpression;
+pub use collections::ObjectExpression;
+pub use collections::ObjectProperty;
+pub use collections::PropertyKind;
+pub use collections::SpreadElement;
+pub use expressions::BigIntLiteral;
+pub use expressions::BinaryExpression;
+pub use expressions::BooleanLiteral;
+pub use expressions::CallExpression;
+pub use expressions::ChainExpression;
+pub use expressions::ComputedMemberExpression;
+pub use expressions::IdentifierName;
+pub use expressions::IdentifierReference;
+pub use expressions::LogicalExpression;
+pub use expressions::NullLiteral;
+pub use expressions::NumericLiteral;
+pub use expressions::ParenthesizedExpression;
+pub use expressions::StaticMemberExpression;
+pub use expressions::StringLiteral;
+pub use expressions::ThisExpression;
+pub use functions::ArrowFunctionExpression;
+pub use functions::FormalParameter;
+pub use functions::FormalParameterRest;
+pub use functions::FormalParameters;
+pub use functions::Function;
+pub use functions::FunctionBody;
+pub use functions::FunctionKind;
+pub use inside::Inner;
+pub use laws::equality_is_by_value;
+pub use laws::fields_are_named;
+pub use laws::operators_are_named;
+pub use loops::BreakStatement;
+pub use loops::ContinueStatement;
+pub use loops::DebuggerStatement;
+pub use loops::DoWhileStatement;
+pub use loops::ForInStatement;
+pub use loops::ForOfStatement;
+pub use loops::ForStatement;
+pub use loops::LabelIdentifier;
+pub use loops::LabeledStatement;
+pub use loops::ReturnStatement;
+pub use loops::ThrowStatement;
+pub use loops::WhileStatement;
 pub use names::is_proto;
-pub use nodes::{BindingPatternNode, DeclarationNode, ExpressionNode, Node, StatementNode};
-pub use numbers::{NumericValue, behind_minus};
-pub use operations::{
-    ImportMeta, NewExpression, NewTarget, Super, UnaryExpression, UpdateExpression,
-};
-pub use options::{CodegenOptions, CommentOptions, LegalComment};
-pub use scoping::{PrivateMappings, Scoping, Tables};
-pub use sets::{
-    Argument, ArrayExpressionElement, ArrowFunctionBody, AssignmentTarget, BindingPattern,
-    ChainElement, Declaration, Expression, ForStatementInit, ForStatementLeft, ObjectPropertyKind,
-    PropertyKey, SimpleAssignmentTarget, Statement,
-};
+pub use nodes::AssignmentTargetNode;
+pub use nodes::BindingPatternNode;
+pub use nodes::DeclarationNode;
+pub use nodes::ExpressionNode;
+pub use nodes::Node;
+pub use nodes::StatementNode;
+pub use numbers::NumericValue;
+pub use numbers::behind_minus;
+pub use operations::ImportMeta;
+pub use operations::NewExpression;
+pub use operations::NewTarget;
+pub use operations::Super;
+pub use operations::UnaryExpression;
+pub use operations::UpdateExpression;
+pub use options::CodegenOptions;
+pub use options::CommentOptions;
+pub use options::LegalComment;
+pub use scoping::PrivateMappings;
+pub use scoping::Scoping;
+pub use scoping::Tables;
+pub use sets::Argument;
+pub use sets::ArrayExpressionElement;
+pub use sets::ArrowFunctionBody;
+pub use sets::AssignmentTarget;
+pub use sets::AssignmentTargetMaybeDefault;
+pub use sets::AssignmentTargetPattern;
+pub use sets::AssignmentTargetProperty;
+pub use sets::BindingPattern;
+pub use sets::ChainElement;
+pub use sets::Declaration;
+pub use sets::Expression;
+pub use sets::ForStatementInit;
+pub use sets::ForStatementLeft;
+pub use sets::ObjectPropertyKind;
+pub use sets::PropertyKey;
+pub use sets::SimpleAssignmentTarget;
+pub use sets::Statement;
 pub use span::GetSpan;
-pub use statements::{
-    BindingIdentifier, BlockStatement, Comment, CommentContent, CommentKind, Directive,
-    EmptyStatement, ExpressionStatement, IfStatement, Program, VariableDeclaration,
-    VariableDeclarationKind, VariableDeclarator,
-};
-pub use types::{NodeSet, NodeType};
+pub use statements::BindingIdentifier;
+pub use statements::BlockStatement;
+pub use statements::Comment;
+pub use statements::CommentContent;
+pub use statements::CommentKind;
+pub use statements::Directive;
+pub use statements::EmptyStatement;
+pub use statements::ExpressionStatement;
+pub use statements::IfStatement;
+pub use statements::Program;
+pub use statements::VariableDeclaration;
+pub use statements::VariableDeclarationKind;
+pub use statements::VariableDeclarator;
+pub use targets::ArrayAssignmentTarget;
+pub use targets::AssignmentTargetPropertyIdentifier;
+pub use targets::AssignmentTargetPropertyProperty;
+pub use targets::AssignmentTargetRest;
+pub use targets::AssignmentTargetWithDefault;
+pub use targets::ObjectAssignmentTarget;
+pub use types::NodeSet;
+pub use types::NodeType;

@@ -5,8 +5,9 @@ ghost use Rattle.jsgen_tree.specs.Inside.{without_parentheses, reference_in, loo
 ghost use Rattle.jsgen_tree.specs.Plain.{node_plain};
 
 use crate::expressions::IdentifierReference;
+use crate::inside::Inner;
 use crate::nodes::Node;
-use crate::sets::{Expression, Statement};
+use crate::sets::{AssignmentTarget, Expression, Statement};
 
 /// Whether a property of this name sets the prototype, where it has a value (ECMA-262, 13.2.5.5).
 pub fn is_proto(name: &str) -> bool
@@ -21,7 +22,10 @@ impl Node {
         ensures { option_map (λ s. chars s.now) result ≡ reference_in (without_parentheses (node_plain self.now)) }
     {
         match self.inner_expression() {
-            Some(Expression::IdentifierReference(node)) => Some(node.name.as_str()),
+            Some(
+                Inner::Expression(Expression::IdentifierReference(node))
+                | Inner::Target(AssignmentTarget::IdentifierReference(node)),
+            ) => Some(node.name.as_str()),
             _ => None,
         }
     }
@@ -31,7 +35,10 @@ impl Node {
         ensures { option_map (λ n. named_by n.now) result ≡ looked_up_in (without_parentheses (node_plain self.now)) }
     {
         match self.inner_expression() {
-            Some(Expression::IdentifierReference(node)) => Some(node),
+            Some(
+                Inner::Expression(Expression::IdentifierReference(node))
+                | Inner::Target(AssignmentTarget::IdentifierReference(node)),
+            ) => Some(node),
             _ => None,
         }
     }
@@ -43,6 +50,7 @@ impl Node {
     {
         match self {
             Node::Expression(_) => None,
+            Node::AssignmentTarget(_) => None,
             Node::Statement(statement) => match statement {
                 Statement::Declaration(node) => node.get().written_name(),
                 _ => None,

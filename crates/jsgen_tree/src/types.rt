@@ -1,7 +1,7 @@
 // Generated from tools/nodes/table.txt; edit that and run tools/nodes/generate.
 // The types of nodes, and the sets that a field's child may be of.
 ghost use Rattle.std.specs.Prelude.{◌≡◌};
-ghost use Rattle.jsgen_tree.specs.Sets.{in_set, is_expression, is_argument, is_array_expression_element, is_chain_element, is_simple_assignment_target, is_assignment_target, is_arrow_function_body, is_for_statement_init, is_for_statement_left, is_object_property_kind, is_property_key, is_declaration, is_statement};
+ghost use Rattle.jsgen_tree.specs.Sets.{in_set, is_expression, is_argument, is_array_expression_element, is_chain_element, is_simple_assignment_target, is_assignment_target_pattern, is_assignment_target, is_assignment_target_maybe_default, is_assignment_target_property, is_arrow_function_body, is_for_statement_init, is_for_statement_left, is_object_property_kind, is_property_key, is_declaration, is_statement};
 
 /// The type of a node.
 #[derive(Clone, Copy, Debug, PartialEq, Eq)]
@@ -66,6 +66,12 @@ pub enum NodeType {
     SwitchCase,
     TryStatement,
     CatchClause,
+    ArrayAssignmentTarget,
+    ObjectAssignmentTarget,
+    AssignmentTargetWithDefault,
+    AssignmentTargetPropertyIdentifier,
+    AssignmentTargetPropertyProperty,
+    AssignmentTargetRest,
 }
 
 /// What the child of a field may be: a member of a set, or a node of one type.
@@ -97,6 +103,10 @@ pub enum NodeSet {
     SwitchCase,
     BlockStatement,
     CatchClause,
+    AssignmentTargetMaybeDefault,
+    AssignmentTargetRest,
+    AssignmentTargetProperty,
+    IdentifierReference,
     Link,
 }
 
@@ -132,6 +142,10 @@ impl NodeType {
             NodeSet::SwitchCase => matches!(&self, NodeType::SwitchCase),
             NodeSet::BlockStatement => matches!(&self, NodeType::BlockStatement),
             NodeSet::CatchClause => matches!(&self, NodeType::CatchClause),
+            NodeSet::AssignmentTargetMaybeDefault => self.is_assignment_target_maybe_default(),
+            NodeSet::AssignmentTargetRest => matches!(&self, NodeType::AssignmentTargetRest),
+            NodeSet::AssignmentTargetProperty => self.is_assignment_target_property(),
+            NodeSet::IdentifierReference => matches!(&self, NodeType::IdentifierReference),
             NodeSet::Link => self.is_expression(),
         }
     }
@@ -270,6 +284,16 @@ impl NodeType {
         )
     }
 
+    /// Whether nodes of this type are in `AssignmentTargetPattern`.
+    pub fn is_assignment_target_pattern(self) -> bool
+        ensures { result ≡ is_assignment_target_pattern self }
+    {
+        matches!(
+            &self,
+            NodeType::ArrayAssignmentTarget | NodeType::ObjectAssignmentTarget
+        )
+    }
+
     /// Whether nodes of this type are in `AssignmentTarget`.
     pub fn is_assignment_target(self) -> bool
         ensures { result ≡ is_assignment_target self }
@@ -279,6 +303,34 @@ impl NodeType {
             NodeType::IdentifierReference
                 | NodeType::StaticMemberExpression
                 | NodeType::ComputedMemberExpression
+                | NodeType::ArrayAssignmentTarget
+                | NodeType::ObjectAssignmentTarget
+        )
+    }
+
+    /// Whether nodes of this type are in `AssignmentTargetMaybeDefault`.
+    pub fn is_assignment_target_maybe_default(self) -> bool
+        ensures { result ≡ is_assignment_target_maybe_default self }
+    {
+        matches!(
+            &self,
+            NodeType::IdentifierReference
+                | NodeType::StaticMemberExpression
+                | NodeType::ComputedMemberExpression
+                | NodeType::ArrayAssignmentTarget
+                | NodeType::ObjectAssignmentTarget
+                | NodeType::AssignmentTargetWithDefault
+        )
+    }
+
+    /// Whether nodes of this type are in `AssignmentTargetProperty`.
+    pub fn is_assignment_target_property(self) -> bool
+        ensures { result ≡ is_assignment_target_property self }
+    {
+        matches!(
+            &self,
+            NodeType::AssignmentTargetPropertyIdentifier
+                | NodeType::AssignmentTargetPropertyProperty
         )
     }
 
@@ -366,6 +418,8 @@ impl NodeType {
                 | NodeType::IdentifierReference
                 | NodeType::StaticMemberExpression
                 | NodeType::ComputedMemberExpression
+                | NodeType::ArrayAssignmentTarget
+                | NodeType::ObjectAssignmentTarget
         )
     }
 

@@ -113,7 +113,7 @@ fn may_be_key<N: CheckNode>(computed: bool, key: &PropertyKey<N>) -> bool
     }
 }
 
-fn check_key<N: CheckNode>(computed: bool, key: &PropertyKey<N>) -> Result<(), TreeFault>
+pub fn check_key<N: CheckNode>(computed: bool, key: &PropertyKey<N>) -> Result<(), TreeFault>
     ensures { result ≡ verdict (key_faults computed (in_property_key N.plain key.now)) }
 {
     if may_be_key(computed, key) {

@@ -8,7 +8,6 @@ ghost use Rattle.jsgen_model.specs.Valid.{own_faults, body_faults, alternate_fau
 ghost use Rattle.jsgen_rules.specs.Verdict.{verdict};
 ghost use Rattle.jsgen_check.specs.Verdict.{surroundings_plain};
 
-use crate::links::{computed_member_has_optional_link, static_member_has_optional_link};
 use crate::{CheckNode, Surroundings};
 use jsgen_model::TreeFault;
 use jsgen_rules::{check_body, check_defaults, check_ends, check_no_optional_link, check_one_name};
@@ -76,16 +75,14 @@ fn check_left<N: CheckNode>(left: &ForStatementLeft<N>) -> Result<(), TreeFault>
             is_one_name(&node.declarations),
             node.span,
         ),
-        ForStatementLeft::IdentifierReference(_) => Ok(()),
-        ForStatementLeft::StaticMemberExpression(node) => check_no_optional_link(
-            static_member_has_optional_link(node),
-            node.span.start,
-        ),
-        ForStatementLeft::ComputedMemberExpression(node) => check_no_optional_link(
-            computed_member_has_optional_link(node),
-            node.span.start,
-        ),
+        ForStatementLeft::AssignmentTarget(node) => check_left_target(node.get()),
     }
+}
+
+fn check_left_target<N: CheckNode>(target: &N) -> Result<(), TreeFault>
+    ensures { result ≡ verdict (left_faults (N.plain target.now)) }
+{
+    check_no_optional_link(target.misfits_left(), target.start())
 }
 
 #[tactic(auto)]

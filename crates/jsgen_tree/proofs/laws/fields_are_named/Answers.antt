@@ -32,4 +32,5 @@ returns c = record {
   arrow_function_expression = λ a. (refl, refl, refl);
   for_of_statement = λ a. refl;
   label_identifier = λ a. refl;
+  assignment_target_property_property = λ a. refl;
 }
