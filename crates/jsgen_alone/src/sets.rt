@@ -13,6 +13,10 @@ use jsgen_nodes::sets::{
     print_assignment_target, print_binding_pattern, print_expression,
     print_simple_assignment_target, print_statement,
 };
+use jsgen_nodes::targets::{
+    print_array_assignment_target, print_assignment_target_property_identifier,
+    print_assignment_target_property_property, print_object_assignment_target,
+};
 use jsgen_nodes::{Inside, PrintNode};
 use jsgen_place::{Context, Place};
 use jsgen_printer::Printer;

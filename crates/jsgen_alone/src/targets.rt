@@ -6,6 +6,10 @@ ghost use Rattle.jsgen_place.specs.Place.{at_level};
 ghost use Rattle.jsgen_model.specs.Spell.{spell};
 
 use crate::PrintAlone;
+use jsgen_nodes::targets::{
+    print_array_assignment_target, print_assignment_target_property_identifier,
+    print_assignment_target_property_property, print_object_assignment_target,
+};
 use jsgen_nodes::{Inside, PrintNode};
 use jsgen_place::{Context, Place};
 use jsgen_printer::Printer;

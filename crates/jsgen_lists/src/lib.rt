@@ -10,7 +10,7 @@ mod heads;
 mod links;
 mod maybe;
 mod members;
-mod rest;
+mod patterns;
 mod statements;
 mod updates;
 
@@ -24,6 +24,6 @@ pub use maybe::{
     print_apart, print_behind_space, print_caught, print_comma_between, print_if_given, print_value,
 };
 pub use members::{PrintMember, print_in_brackets, print_list, print_more};
-pub use rest::print_elements_and_rest;
+pub use patterns::print_elements_and_rest;
 pub use statements::{PrintStatement, print_body, print_deeper_body, print_statements};
 pub use updates::print_update;

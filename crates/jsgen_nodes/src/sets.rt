@@ -20,6 +20,7 @@ use crate::loops::{
 };
 use crate::operations::{print_new_expression, print_update_expression};
 use crate::statements::{print_block_statement, print_if_statement};
+use crate::targets::{print_array_assignment_target, print_object_assignment_target};
 use crate::{Inside, PrintNode};
 use jsgen_inside::{print_binding_identifier, print_identifier_reference};
 use jsgen_place::Place;

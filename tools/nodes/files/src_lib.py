@@ -1,7 +1,5 @@
 """src/lib.rt: the modules, and the names that the crate passes on."""
 
-import re
-
 import layout
 from names import nodes_in_rust
 
@@ -27,6 +25,6 @@ def write(table):
     passed["types"] = ["NodeSet", "NodeType"]
     passed["node_type"] = []
     mods = "".join(f"mod {m};\n" for m in sorted(passed))
-    uses = "".join(f"pub use {m}::{{{', '.join(sorted(names))}}};\n" for m, names in sorted(passed.items()) if names)
-    uses = re.sub(r"\{(\w+)\}", r"\1", uses)
+    # so many names stand on a line each in the layout of rt fmt
+    uses = "".join(f"pub use {m}::{name};\n" for m, names in sorted(passed.items()) for name in sorted(names))
     return {"src/lib.rt": layout.RUST + HEAD + "\n" + mods + "\n" + uses}

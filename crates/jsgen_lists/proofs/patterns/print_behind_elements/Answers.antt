@@ -1,4 +1,4 @@
-use Rattle.jsgen_lists.proofs.rest.print_behind_elements.Goals as goal
+use Rattle.jsgen_lists.proofs.patterns.print_behind_elements.Goals as goal
 
 pub returns-in-Some : goal.returns-in-Some
 returns-in-Some g c = rw c.in-Some.is c.print_rest.ensures
