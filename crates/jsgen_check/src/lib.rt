@@ -29,6 +29,7 @@ mod rules;
 mod sets;
 mod statements;
 mod surroundings;
+mod targets;
 
 use crate::heads::misfits_left;
 use crate::heights::check_top;
