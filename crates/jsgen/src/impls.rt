@@ -3,17 +3,20 @@
 
 use crate::gens::{Gen, GenExpr};
 use jsgen_tree::{
-    Argument, ArrayExpression, ArrayExpressionElement, ArrayPattern, ArrowFunctionExpression,
-    AssignmentExpression, AssignmentPattern, AssignmentTarget, BigIntLiteral, BinaryExpression,
-    BindingIdentifier, BindingPattern, BindingProperty, BindingRestElement, BlockStatement,
-    BooleanLiteral, BreakStatement, CallExpression, CatchClause, ChainExpression, Class, ClassBody,
-    ClassElement, ComputedMemberExpression, ConditionalExpression, ContinueStatement,
-    DebuggerStatement, Directive, DoWhileStatement, EmptyStatement, Expression,
-    ExpressionStatement, ForInStatement, ForOfStatement, ForStatement, ForStatementInit,
-    ForStatementLeft, FormalParameter, FormalParameterRest, FormalParameters, Function,
-    FunctionBody, IdentifierName, IdentifierReference, IfStatement, ImportMeta, LabelIdentifier,
-    LabeledStatement, LogicalExpression, MethodDefinition, NewExpression, NewTarget, NullLiteral,
-    NumericLiteral, ObjectExpression, ObjectPattern, ObjectProperty, ObjectPropertyKind,
+    Argument, ArrayAssignmentTarget, ArrayExpression, ArrayExpressionElement, ArrayPattern,
+    ArrowFunctionExpression, AssignmentExpression, AssignmentPattern, AssignmentTarget,
+    AssignmentTargetMaybeDefault, AssignmentTargetPattern, AssignmentTargetProperty,
+    AssignmentTargetPropertyIdentifier, AssignmentTargetPropertyProperty, AssignmentTargetRest,
+    AssignmentTargetWithDefault, BigIntLiteral, BinaryExpression, BindingIdentifier,
+    BindingPattern, BindingProperty, BindingRestElement, BlockStatement, BooleanLiteral,
+    BreakStatement, CallExpression, CatchClause, ChainExpression, Class, ClassBody, ClassElement,
+    ComputedMemberExpression, ConditionalExpression, ContinueStatement, DebuggerStatement,
+    Directive, DoWhileStatement, EmptyStatement, Expression, ExpressionStatement, ForInStatement,
+    ForOfStatement, ForStatement, ForStatementInit, ForStatementLeft, FormalParameter,
+    FormalParameterRest, FormalParameters, Function, FunctionBody, IdentifierName,
+    IdentifierReference, IfStatement, ImportMeta, LabelIdentifier, LabeledStatement,
+    LogicalExpression, MethodDefinition, NewExpression, NewTarget, NullLiteral, NumericLiteral,
+    ObjectAssignmentTarget, ObjectExpression, ObjectPattern, ObjectProperty, ObjectPropertyKind,
     ParenthesizedExpression, PrivateFieldExpression, PrivateIdentifier, PrivateInExpression,
     Program, PropertyDefinition, PropertyKey, RegExpLiteral, ReturnStatement, SequenceExpression,
     SimpleAssignmentTarget, SpreadElement, Statement, StaticBlock, StaticMemberExpression,
@@ -152,6 +155,18 @@ impl Gen for ArrayPattern {}
 
 impl Gen for AssignmentPattern {}
 
+impl Gen for ArrayAssignmentTarget {}
+
+impl Gen for ObjectAssignmentTarget {}
+
+impl Gen for AssignmentTargetWithDefault {}
+
+impl Gen for AssignmentTargetPropertyIdentifier {}
+
+impl Gen for AssignmentTargetPropertyProperty {}
+
+impl Gen for AssignmentTargetRest {}
+
 impl Gen for PrivateIdentifier {}
 
 impl GenExpr for PrivateFieldExpression {}
@@ -176,7 +191,13 @@ impl Gen for ArrayExpressionElement {}
 
 impl GenExpr for SimpleAssignmentTarget {}
 
+impl Gen for AssignmentTargetPattern {}
+
 impl Gen for AssignmentTarget {}
+
+impl Gen for AssignmentTargetMaybeDefault {}
+
+impl Gen for AssignmentTargetProperty {}
 
 impl Gen for ForStatementInit {}
 

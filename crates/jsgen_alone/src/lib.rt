@@ -10,6 +10,7 @@ mod loops;
 mod operations;
 mod sets;
 mod statements;
+mod targets;
 
 use jsgen_place::{Context, Place};
 use jsgen_printer::Printer;

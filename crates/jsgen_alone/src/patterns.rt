@@ -8,10 +8,7 @@ ghost use Rattle.jsgen_model.specs.Spell.{spell};
 use crate::PrintAlone;
 use jsgen_nodes::patterns::{print_array_pattern, print_binding_property, print_object_pattern};
 use jsgen_nodes::{Inside, PrintNode};
-use jsgen_patterns::{
-    print_array_pattern, print_assignment_pattern, print_binding_property,
-    print_binding_rest_element, print_object_pattern,
-};
+use jsgen_patterns::{print_assignment_pattern, print_binding_rest_element};
 use jsgen_place::{Context, Place};
 use jsgen_printer::Printer;
 use jsgen_syntax::Precedence;
@@ -23,7 +20,7 @@ impl<N: PrintNode> PrintAlone for ObjectPattern<N> {
     ghost alone = { λ n context. spell (object_pattern_row N.plain n) (at_level Lowest context) };
 
     fn print_alone(&self, p: &mut Printer<'_>, context: Context) {
-        print_object_pattern::<_, Inside>(self, p, Place::at_level(Precedence::Lowest, context));
+        print_object_pattern(self, p, Place::at_level(Precedence::Lowest, context));
     }
 }
 
@@ -31,7 +28,7 @@ impl<N: PrintNode> PrintAlone for BindingProperty<N> {
     ghost alone = { λ n context. spell (binding_property_row N.plain n) (at_level Lowest context) };
 
     fn print_alone(&self, p: &mut Printer<'_>, context: Context) {
-        print_binding_property::<_, Inside>(self, p, Place::at_level(Precedence::Lowest, context));
+        print_binding_property(self, p, Place::at_level(Precedence::Lowest, context));
     }
 }
 
@@ -51,7 +48,7 @@ impl<N: PrintNode> PrintAlone for ArrayPattern<N> {
     ghost alone = { λ n context. spell (array_pattern_row N.plain n) (at_level Lowest context) };
 
     fn print_alone(&self, p: &mut Printer<'_>, context: Context) {
-        print_array_pattern::<_, Inside>(self, p, Place::at_level(Precedence::Lowest, context));
+        print_array_pattern(self, p, Place::at_level(Precedence::Lowest, context));
     }
 }
 

@@ -1,7 +1,7 @@
 // Generated from tools/nodes/table.txt; edit that and run tools/nodes/generate.
 // What is printed by itself, or at a level.
 ghost use Rattle.jsgen_tree.specs.Tree.{type_of};
-ghost use Rattle.jsgen_tree.specs.Rows.{in_argument, in_array_expression_element, in_simple_assignment_target, in_assignment_target, in_for_statement_init, in_for_statement_left, in_object_property_kind, in_property_key, expression_plain, statement_plain, binding_pattern_plain, class_element_plain};
+ghost use Rattle.jsgen_tree.specs.Rows.{in_argument, in_array_expression_element, in_simple_assignment_target, in_assignment_target_pattern, in_assignment_target_maybe_default, in_assignment_target_property, in_for_statement_init, in_for_statement_left, in_object_property_kind, in_property_key, expression_plain, assignment_target_plain, statement_plain, binding_pattern_plain, class_element_plain};
 ghost use Rattle.jsgen_syntax.specs.declared.precedence.Precedence.TheVariants.{Lowest, Comma};
 ghost use Rattle.jsgen_place.specs.Place.{at_level, in_brackets, among_statements, loop_head};
 ghost use Rattle.jsgen_model.specs.Items.{◌⊕◌};
@@ -15,13 +15,19 @@ use jsgen_nodes::sets::{
     print_assignment_target, print_binding_pattern, print_expression,
     print_simple_assignment_target, print_statement,
 };
+use jsgen_nodes::targets::{
+    print_array_assignment_target, print_assignment_target_property_identifier,
+    print_assignment_target_property_property, print_object_assignment_target,
+};
 use jsgen_nodes::{Inside, PrintNode};
 use jsgen_place::{Context, Place};
 use jsgen_printer::Printer;
 use jsgen_spelled::{print_spread_element, print_variable_declaration};
 use jsgen_syntax::Precedence;
+use jsgen_targets::print_assignment_target_with_default;
 use jsgen_tree::{
-    Argument, ArrayExpressionElement, AssignmentTarget, BindingPattern, ClassElement, Expression,
+    Argument, ArrayExpressionElement, AssignmentTarget, AssignmentTargetMaybeDefault,
+    AssignmentTargetPattern, AssignmentTargetProperty, BindingPattern, ClassElement, Expression,
     ForStatementInit, ForStatementLeft, ObjectPropertyKind, PropertyKey, SimpleAssignmentTarget,
     Statement,
 };
@@ -70,12 +76,56 @@ impl<N: PrintNode> PrintAtLevel for SimpleAssignmentTarget<N> {
     }
 }
 
+impl<N: PrintNode> PrintAlone for AssignmentTargetPattern<N> {
+    ghost alone = { λ n context. spell (in_assignment_target_pattern N.plain n) (at_level Lowest context) };
+
+    fn print_alone(&self, p: &mut Printer<'_>, context: Context) {
+        let place = Place::at_level(Precedence::Lowest, context);
+        match self {
+            AssignmentTargetPattern::ArrayAssignmentTarget(node) => print_array_assignment_target(
+                node, p, place,
+            ),
+            AssignmentTargetPattern::ObjectAssignmentTarget(node) => print_object_assignment_target(
+                node, p, place,
+            ),
+        }
+    }
+}
+
 impl<N: PrintNode> PrintAlone for AssignmentTarget<N> {
-    ghost alone = { λ n context. spell (in_assignment_target N.plain n) (in_brackets Comma) };
+    ghost alone = { λ n context. spell (assignment_target_plain N.plain n) (in_brackets Comma) };
 
     fn print_alone(&self, p: &mut Printer<'_>, context: Context) {
         let _ = context;
         print_assignment_target(self, p, Place::in_brackets(Precedence::Comma));
+    }
+}
+
+impl<N: PrintNode> PrintAlone for AssignmentTargetMaybeDefault<N> {
+    ghost alone = { λ n context. spell (in_assignment_target_maybe_default N.plain n) (in_brackets Comma) };
+
+    fn print_alone(&self, p: &mut Printer<'_>, context: Context) {
+        let _ = context;
+        let place = Place::in_brackets(Precedence::Comma);
+        match self {
+            AssignmentTargetMaybeDefault::AssignmentTarget(node) => node.get().print(p, place),
+            AssignmentTargetMaybeDefault::AssignmentTargetWithDefault(node) =>
+                print_assignment_target_with_default::<_, Inside>(node, p, place),
+        }
+    }
+}
+
+impl<N: PrintNode> PrintAlone for AssignmentTargetProperty<N> {
+    ghost alone = { λ n context. spell (in_assignment_target_property N.plain n) (at_level Lowest context) };
+
+    fn print_alone(&self, p: &mut Printer<'_>, context: Context) {
+        let place = Place::at_level(Precedence::Lowest, context);
+        match self {
+            AssignmentTargetProperty::AssignmentTargetPropertyIdentifier(node) =>
+                print_assignment_target_property_identifier(node, p, place),
+            AssignmentTargetProperty::AssignmentTargetPropertyProperty(node) =>
+                print_assignment_target_property_property(node, p, place),
+        }
     }
 }
 

@@ -7,7 +7,7 @@ use crate::push::{push_numbers, push_where};
 use jsgen::{Codegen, CodegenError, Context, Gen, GenExpr, TreeFault};
 use jsgen_syntax::{Memory, Precedence, Span};
 use jsgen_tree::{
-    Declaration, Expression, FormalParameters, GetSpan, Node, ObjectProperty, ObjectPropertyKind,
+    Declaration, Expression, FormalParameters, GetSpan, Inner, Node, ObjectProperty, ObjectPropertyKind,
     Program, Statement, VariableDeclaration,
 };
 use std::alloc::Global;
@@ -16,7 +16,10 @@ use std::alloc::Global;
 pub fn expression_in(program: &Program) -> Option<&Expression> {
     match program.body.as_slice().first()?.get() {
         Node::Statement(Statement::ExpressionStatement(node)) => {
-            node.expression.get().inner_expression()
+            match node.expression.get().inner_expression() {
+                Some(Inner::Expression(expression)) => Some(expression),
+                _ => None,
+            }
         }
         _ => None,
     }
@@ -190,7 +193,10 @@ pub fn push_spans(alloc: Global, program: &Program, answer: &mut String) -> Resu
         return Ok(());
     };
     let whole = node.expression.get();
-    let Some(inner) = whole.inner_expression() else {
+    let Some(Inner::Expression(inner)) = whole.inner_expression() else {
+        return Ok(());
+    };
+    let Inner::Expression(bare) = inner.without_parentheses() else {
         return Ok(());
     };
     let spans = [
@@ -198,7 +204,7 @@ pub fn push_spans(alloc: Global, program: &Program, answer: &mut String) -> Resu
         first.get().span(),
         whole.span(),
         inner.span(),
-        inner.without_parentheses().span(),
+        bare.span(),
         second.get().span(),
     ];
     let has_inner = second.get().inner_expression().is_some();

@@ -4,7 +4,7 @@ ghost use Rattle.std.specs.Prelude.{◌≡◌};
 ghost use Rattle.jsgen_tree.specs.Rows.{conditional_expression_row, sequence_expression_row, assignment_expression_row};
 ghost use Rattle.jsgen_check.specs.Verdict.{tree_verdict};
 
-use crate::children::{check_assignment_target, check_expressions};
+use crate::children::check_expressions;
 use crate::heights::{check_node, higher};
 use crate::rules::{check_assignment_expression_rules, check_sequence_expression_rules};
 use crate::{CheckNode, Surroundings, check_child};
@@ -49,7 +49,7 @@ pub fn check_assignment_expression<N: CheckNode>(
     ensures { result ≡ tree_verdict around.now (assignment_expression_row N.plain node.now) }
 {
     let rules = check_assignment_expression_rules(node, around);
-    let left = check_assignment_target(&node.left, around);
+    let left = check_child(node.left.get(), NodeSet::AssignmentTarget, around);
     let right = check_child(node.right.get(), NodeSet::Expression, around);
     check_node(around, node.span, rules, higher(left, right))
 }

@@ -2,7 +2,7 @@
 // Lists, children that may be absent, and sets that don't nest.
 ghost use Rattle.std.specs.Prelude.{◌≡◌, map, option_map};
 ghost use Rattle.jsgen_tree.specs.Tree.{optional, trees, holed};
-ghost use Rattle.jsgen_tree.specs.Rows.{in_expression, in_argument, in_array_expression_element, in_chain_element, in_simple_assignment_target, in_assignment_target, in_arrow_function_body, in_for_statement_init, in_for_statement_left, in_object_property_kind, in_property_key, in_statement, in_binding_pattern, in_class_element, comment_row, directive_row, variable_declarator_row, binding_identifier_row, block_statement_row, formal_parameter_row, formal_parameter_rest_row, function_body_row, label_identifier_row, switch_case_row, catch_clause_row, binding_property_row, binding_rest_element_row};
+ghost use Rattle.jsgen_tree.specs.Rows.{in_expression, in_argument, in_array_expression_element, in_chain_element, in_simple_assignment_target, in_assignment_target_pattern, in_assignment_target_maybe_default, in_assignment_target_property, in_arrow_function_body, in_for_statement_init, in_for_statement_left, in_object_property_kind, in_property_key, in_statement, in_binding_pattern, in_class_element, comment_row, directive_row, variable_declarator_row, binding_identifier_row, block_statement_row, formal_parameter_row, formal_parameter_rest_row, function_body_row, label_identifier_row, switch_case_row, catch_clause_row, binding_property_row, binding_rest_element_row, assignment_target_rest_row};
 ghost use Rattle.jsgen_check.specs.Verdict.{child_verdict, maybe_verdict, children_verdict};
 ghost use Rattle.jsgen_tree.specs.declared.types.NodeSet.TheVariants as sets;
 
@@ -21,10 +21,16 @@ use crate::statements::{
     check_binding_identifier, check_block_statement, check_comment, check_directive,
     check_variable_declaration, check_variable_declarator,
 };
+use crate::targets::{
+    check_array_assignment_target, check_assignment_target_property_identifier,
+    check_assignment_target_property_property, check_assignment_target_rest,
+    check_assignment_target_with_default, check_object_assignment_target,
+};
 use crate::{CheckNode, Surroundings, check_child};
 use jsgen_model::TreeFault;
 use jsgen_tree::{
-    Argument, ArrayExpressionElement, ArrowFunctionBody, AssignmentTarget, BindingIdentifier,
+    Argument, ArrayExpressionElement, ArrowFunctionBody, AssignmentTargetMaybeDefault,
+    AssignmentTargetPattern, AssignmentTargetProperty, AssignmentTargetRest, BindingIdentifier,
     BindingPatternNode, BindingProperty, BindingRestElement, BlockStatement, CatchClause,
     ChainElement, ClassElementNode, Comment, Directive, ExpressionNode, ForStatementInit,
     ForStatementLeft, FormalParameter, FormalParameterRest, FunctionBody, LabelIdentifier, NodeSet,
@@ -166,6 +172,20 @@ pub fn check_binding_properties<N: CheckNode>(
     below
 }
 
+pub fn check_assignment_target_properties<N: CheckNode>(
+    nodes: &[AssignmentTargetProperty<N>],
+    around: &Surroundings<'_>,
+) -> Result<u64, TreeFault>
+    ensures { result ≡ children_verdict around.now sets.AssignmentTargetProperty (trees (map (in_assignment_target_property N.plain) nodes.now)) }
+{
+    let mut below = Ok(0);
+    for node in nodes {
+        let found = check_assignment_target_property(node, around);
+        below = higher(below, found);
+    }
+    below
+}
+
 pub fn check_class_elements<N: CheckNode>(
     nodes: &[ClassElementNode<N>],
     around: &Surroundings<'_>,
@@ -203,6 +223,20 @@ pub fn check_binding_elements_or_holes<N: CheckNode>(
     let mut below = Ok(0);
     for node in nodes {
         let found = check_optional_binding_element(node, around);
+        below = higher(below, found);
+    }
+    below
+}
+
+pub fn check_assignment_target_maybe_defaults_or_holes<N: CheckNode>(
+    nodes: &[Option<AssignmentTargetMaybeDefault<N>>],
+    around: &Surroundings<'_>,
+) -> Result<u64, TreeFault>
+    ensures { result ≡ children_verdict around.now sets.AssignmentTargetMaybeDefault (holed (map (option_map (in_assignment_target_maybe_default N.plain)) nodes.now)) }
+{
+    let mut below = Ok(0);
+    for node in nodes {
+        let found = check_optional_assignment_target_maybe_default(node, around);
         below = higher(below, found);
     }
     below
@@ -340,6 +374,18 @@ pub fn check_optional_binding_rest_element<N: CheckNode>(
     }
 }
 
+pub fn check_optional_assignment_target_rest<N: CheckNode>(
+    node: &Option<Box<AssignmentTargetRest<N>>>,
+    around: &Surroundings<'_>,
+) -> Result<u64, TreeFault>
+    ensures { result ≡ maybe_verdict around.now sets.AssignmentTargetRest (optional (option_map (λ b. assignment_target_rest_row N.plain b.value) node.now)) }
+{
+    match node {
+        Some(node) => check_assignment_target_rest(node, around),
+        None => Ok(0),
+    }
+}
+
 pub fn check_optional_array_expression_element<N: CheckNode>(
     node: &Option<ArrayExpressionElement<N>>,
     around: &Surroundings<'_>,
@@ -360,6 +406,18 @@ pub fn check_optional_binding_element<N: CheckNode>(
 {
     match node {
         Some(node) => check_child(node.get(), NodeSet::BindingElement, around),
+        None => Ok(0),
+    }
+}
+
+pub fn check_optional_assignment_target_maybe_default<N: CheckNode>(
+    node: &Option<AssignmentTargetMaybeDefault<N>>,
+    around: &Surroundings<'_>,
+) -> Result<u64, TreeFault>
+    ensures { result ≡ maybe_verdict around.now sets.AssignmentTargetMaybeDefault (optional (option_map (in_assignment_target_maybe_default N.plain) node.now)) }
+{
+    match node {
+        Some(node) => check_assignment_target_maybe_default(node, around),
         None => Ok(0),
     }
 }
@@ -430,23 +488,50 @@ pub fn check_simple_assignment_target<N: CheckNode>(
     }
 }
 
-pub fn check_assignment_target<N: CheckNode>(
-    node: &AssignmentTarget<N>,
+pub fn check_assignment_target_pattern<N: CheckNode>(
+    node: &AssignmentTargetPattern<N>,
     around: &Surroundings<'_>,
 ) -> Result<u64, TreeFault>
-    ensures { result ≡ child_verdict around.now sets.AssignmentTarget (in_assignment_target N.plain node.now) }
+    ensures { result ≡ child_verdict around.now sets.AssignmentTargetPattern (in_assignment_target_pattern N.plain node.now) }
 {
     match node {
-        AssignmentTarget::IdentifierReference(node) => check_identifier_reference(node, around),
-        AssignmentTarget::StaticMemberExpression(node) => check_static_member_expression(
+        AssignmentTargetPattern::ArrayAssignmentTarget(node) => check_array_assignment_target(
             node, around,
         ),
-        AssignmentTarget::ComputedMemberExpression(node) => check_computed_member_expression(
+        AssignmentTargetPattern::ObjectAssignmentTarget(node) => check_object_assignment_target(
             node, around,
         ),
-        AssignmentTarget::PrivateFieldExpression(node) => check_private_field_expression(
-            node, around,
+    }
+}
+
+pub fn check_assignment_target_maybe_default<N: CheckNode>(
+    node: &AssignmentTargetMaybeDefault<N>,
+    around: &Surroundings<'_>,
+) -> Result<u64, TreeFault>
+    ensures { result ≡ child_verdict around.now sets.AssignmentTargetMaybeDefault (in_assignment_target_maybe_default N.plain node.now) }
+{
+    match node {
+        AssignmentTargetMaybeDefault::AssignmentTarget(node) => check_child(
+            node.get(),
+            NodeSet::AssignmentTargetMaybeDefault,
+            around,
         ),
+        AssignmentTargetMaybeDefault::AssignmentTargetWithDefault(node) =>
+            check_assignment_target_with_default(node, around),
+    }
+}
+
+pub fn check_assignment_target_property<N: CheckNode>(
+    node: &AssignmentTargetProperty<N>,
+    around: &Surroundings<'_>,
+) -> Result<u64, TreeFault>
+    ensures { result ≡ child_verdict around.now sets.AssignmentTargetProperty (in_assignment_target_property N.plain node.now) }
+{
+    match node {
+        AssignmentTargetProperty::AssignmentTargetPropertyIdentifier(node) =>
+            check_assignment_target_property_identifier(node, around),
+        AssignmentTargetProperty::AssignmentTargetPropertyProperty(node) =>
+            check_assignment_target_property_property(node, around),
     }
 }
 
@@ -490,15 +575,10 @@ pub fn check_for_statement_left<N: CheckNode>(
 {
     match node {
         ForStatementLeft::VariableDeclaration(node) => check_variable_declaration(node, around),
-        ForStatementLeft::IdentifierReference(node) => check_identifier_reference(node, around),
-        ForStatementLeft::StaticMemberExpression(node) => check_static_member_expression(
-            node, around,
-        ),
-        ForStatementLeft::ComputedMemberExpression(node) => check_computed_member_expression(
-            node, around,
-        ),
-        ForStatementLeft::PrivateFieldExpression(node) => check_private_field_expression(
-            node, around,
+        ForStatementLeft::AssignmentTarget(node) => check_child(
+            node.get(),
+            NodeSet::ForStatementLeft,
+            around,
         ),
     }
 }

@@ -19,6 +19,7 @@ mod classes;
 mod collections;
 mod expressions;
 mod functions;
+mod heads;
 mod heights;
 mod kinds;
 mod links;
@@ -30,15 +31,17 @@ mod rules;
 mod sets;
 mod statements;
 mod surroundings;
+mod targets;
 
+use crate::heads::misfits_left;
 use crate::heights::check_top;
 use crate::kinds::{expression_fits_kind, method_fits};
 use crate::links::{expression_has_optional_link, has_optional_link};
 use crate::program::check_program_row;
 use crate::rules::binds_nothing;
 use crate::sets::{
-    check_binding_pattern_set, check_class_element_set, check_declaration_set,
-    check_expression_set, check_statement_set,
+    check_assignment_target_set, check_binding_pattern_set, check_class_element_set,
+    check_declaration_set, check_expression_set, check_statement_set,
 };
 pub use crate::surroundings::Surroundings;
 use jsgen_model::TreeFault;
@@ -58,6 +61,7 @@ pub trait CheckNode {
     ghost use Rattle.jsgen_tree.specs.Tree.{Tree};
     ghost use Rattle.jsgen_tree.specs.Inside.{without_parentheses, has_optional_link, looked_up_in, named_by, written_name_in, is_negative};
     ghost use Rattle.jsgen_model.specs.Valid.{is_declaration, fits_kind, fits_method};
+    ghost use Rattle.jsgen_check.specs.Heads.{misfits_left};
 
     ghost plain: { Self → Tree };
 
@@ -94,6 +98,10 @@ pub trait CheckNode {
     /// Whether one of the links up to this one is optional, where it is a member or a call.
     fn has_optional_link(&self) -> bool
         ensures { result ≡ has_optional_link (plain self.now) };
+
+    /// Whether a loop may not give its values to it: a declaration but of one name without a value, or what has an optional link.
+    fn misfits_left(&self) -> bool
+        ensures { result ≡ misfits_left (plain self.now) };
 
     /// Where no rule is broken, how many nodes stand on the longest way down, counted up to what 64 bits hold.
     fn check(&self, around: &Surroundings<'_>) -> Result<u64, TreeFault>
@@ -259,10 +267,15 @@ impl CheckNode for Node {
         has_optional_link(self)
     }
 
+    fn misfits_left(&self) -> bool {
+        misfits_left(self)
+    }
+
     #[cycle(node)]
     fn check(&self, around: &Surroundings<'_>) -> Result<u64, TreeFault> {
         match self {
             Node::Expression(expression) => check_expression_set(expression, around),
+            Node::AssignmentTarget(target) => check_assignment_target_set(target, around),
             Node::Statement(statement) => check_statement_set(statement, around),
             Node::Declaration(declaration) => check_declaration_set(declaration, around),
             Node::BindingPattern(pattern) => check_binding_pattern_set(pattern, around),

@@ -1,7 +1,7 @@
 // Where optional links may stand (ECMA-262, 13.3).
 ghost use Rattle.std.specs.Prelude.{◌≡◌};
 ghost use Rattle.jsgen_tree.specs.Inside.{has_optional_link};
-ghost use Rattle.jsgen_tree.specs.Rows.{static_member_expression_row, computed_member_expression_row, private_field_expression_row, call_expression_row, in_simple_assignment_target, in_assignment_target, in_chain_element, expression_plain};
+ghost use Rattle.jsgen_tree.specs.Rows.{static_member_expression_row, computed_member_expression_row, private_field_expression_row, call_expression_row, in_simple_assignment_target, in_assignment_target, in_chain_element, expression_plain, assignment_target_plain};
 ghost use Rattle.jsgen_tree.specs.Plain.{node_plain};
 
 use crate::CheckNode;
@@ -62,17 +62,6 @@ pub fn target_has_optional_link<N: CheckNode>(node: &SimpleAssignmentTarget<N>) 
     }
 }
 
-pub fn assigned_has_optional_link<N: CheckNode>(node: &AssignmentTarget<N>) -> bool
-    ensures { result ≡ has_optional_link (in_assignment_target N.plain node.now) }
-{
-    match node {
-        AssignmentTarget::IdentifierReference(_) => false,
-        AssignmentTarget::StaticMemberExpression(node) => static_member_has_optional_link(node),
-        AssignmentTarget::ComputedMemberExpression(node) => computed_member_has_optional_link(node),
-        AssignmentTarget::PrivateFieldExpression(node) => private_member_has_optional_link(node),
-    }
-}
-
 /// Whether one of the links up to a node is optional, where it is a member or a call.
 #[cycle(has_optional_link)]
 pub fn has_optional_link(node: &Node) -> bool
@@ -80,6 +69,7 @@ pub fn has_optional_link(node: &Node) -> bool
 {
     match node {
         Node::Expression(expression) => expression_has_optional_link(expression),
+        Node::AssignmentTarget(target) => assigned_has_optional_link(target),
         Node::Statement(statement) => match statement {
             Statement::Declaration(node) => has_optional_link(node.get()),
             _ => false,
@@ -106,6 +96,25 @@ pub fn expression_has_optional_link(expression: &Expression) -> bool
             node.optional || has_optional_link(node.object.get())
         }
         Expression::CallExpression(node) => node.optional || has_optional_link(node.callee.get()),
+        _ => false,
+    }
+}
+
+/// The same of what is given a value.
+#[cycle(has_optional_link)]
+pub fn assigned_has_optional_link(target: &AssignmentTarget) -> bool
+    ensures { result ≡ has_optional_link (assignment_target_plain node_plain target.now) }
+{
+    match target {
+        AssignmentTarget::StaticMemberExpression(node) => {
+            node.optional || has_optional_link(node.object.get())
+        }
+        AssignmentTarget::ComputedMemberExpression(node) => {
+            node.optional || has_optional_link(node.object.get())
+        }
+        AssignmentTarget::PrivateFieldExpression(node) => {
+            node.optional || has_optional_link(node.object.get())
+        }
         _ => false,
     }
 }

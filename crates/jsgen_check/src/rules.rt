@@ -14,6 +14,7 @@ mod keys;
 mod links;
 mod patterns;
 mod statements;
+mod targets;
 
 use crate::{CheckNode, Surroundings};
 pub use classes::{
@@ -34,7 +35,7 @@ use jsgen_tree::{
 };
 pub use keys::check_object_property_rules;
 pub use links::{
-    check_assignment_expression_rules, check_call_expression_rules, check_chain_expression_rules,
+    check_call_expression_rules, check_chain_expression_rules,
     check_computed_member_expression_rules, check_private_field_expression_rules,
     check_static_member_expression_rules, check_update_expression_rules,
 };
@@ -46,6 +47,11 @@ pub use statements::{
     check_do_while_statement_rules, check_for_in_statement_rules, check_for_of_statement_rules,
     check_for_statement_rules, check_if_statement_rules, check_labeled_statement_rules,
     check_switch_statement_rules, check_try_statement_rules, check_while_statement_rules,
+};
+pub use targets::{
+    check_assignment_expression_rules, check_assignment_target_property_identifier_rules,
+    check_assignment_target_property_property_rules, check_assignment_target_rest_rules,
+    check_assignment_target_with_default_rules, check_object_assignment_target_rules,
 };
 
 #[tactic(auto, unfolding(crate::specs::Verdict::surroundings_plain))]

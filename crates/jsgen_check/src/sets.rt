@@ -1,7 +1,7 @@
 // Generated from tools/nodes/table.txt; edit that and run tools/nodes/generate.
 // A member of a set is checked as its own type is.
 ghost use Rattle.std.specs.Prelude.{◌≡◌};
-ghost use Rattle.jsgen_tree.specs.Rows.{expression_plain, declaration_plain, statement_plain, binding_pattern_plain, class_element_plain};
+ghost use Rattle.jsgen_tree.specs.Rows.{expression_plain, assignment_target_plain, declaration_plain, statement_plain, binding_pattern_plain, class_element_plain};
 ghost use Rattle.jsgen_check.specs.Verdict.{tree_verdict};
 
 use crate::assignments::{
@@ -35,9 +35,12 @@ use crate::statements::{
     check_binding_identifier, check_block_statement, check_empty_statement,
     check_expression_statement, check_if_statement, check_variable_declaration,
 };
+use crate::targets::{check_array_assignment_target, check_object_assignment_target};
 use crate::{CheckNode, Surroundings};
 use jsgen_model::TreeFault;
-use jsgen_tree::{BindingPattern, ClassElement, Declaration, Expression, Statement};
+use jsgen_tree::{
+    AssignmentTarget, BindingPattern, ClassElement, Declaration, Expression, Statement,
+};
 
 #[inline(never)]
 pub fn check_expression_set<N: CheckNode>(
@@ -80,6 +83,33 @@ pub fn check_expression_set<N: CheckNode>(
         Expression::Class(node) => check_class(node, around),
         Expression::PrivateFieldExpression(node) => check_private_field_expression(node, around),
         Expression::PrivateInExpression(node) => check_private_in_expression(node, around),
+    }
+}
+
+#[inline(never)]
+pub fn check_assignment_target_set<N: CheckNode>(
+    node: &AssignmentTarget<N>,
+    around: &Surroundings<'_>,
+) -> Result<u64, TreeFault>
+    ensures { result ≡ tree_verdict around.now (assignment_target_plain N.plain node.now) }
+{
+    match node {
+        AssignmentTarget::IdentifierReference(node) => check_identifier_reference(node, around),
+        AssignmentTarget::StaticMemberExpression(node) => check_static_member_expression(
+            node, around,
+        ),
+        AssignmentTarget::ComputedMemberExpression(node) => check_computed_member_expression(
+            node, around,
+        ),
+        AssignmentTarget::PrivateFieldExpression(node) => check_private_field_expression(
+            node, around,
+        ),
+        AssignmentTarget::ArrayAssignmentTarget(node) => check_array_assignment_target(
+            node, around,
+        ),
+        AssignmentTarget::ObjectAssignmentTarget(node) => check_object_assignment_target(
+            node, around,
+        ),
     }
 }
 

@@ -5,7 +5,7 @@ ghost use Rattle.serde_json.specs.View.{view};
 ghost use Rattle.jsgen_tree.specs.RowFields.{private_identifier_fields, private_field_expression_fields, private_in_expression_fields, class_fields, class_body_fields, static_block_fields, method_definition_fields, property_definition_fields};
 ghost use Rattle.jsgen_fields.specs.Reads.{Gives, read_node, read_typed};
 ghost use Rattle.jsgen_pool.specs.Pool.{entries};
-ghost use Rattle.jsgen_fields.specs.Parts.{is_in_statements, is_in_expressions, is_in_collections, is_in_operations, is_in_assignments, is_in_functions, is_in_loops, is_in_choices, is_in_patterns};
+ghost use Rattle.jsgen_fields.specs.Parts.{is_in_statements, is_in_expressions, is_in_collections, is_in_operations, is_in_assignments, is_in_functions, is_in_loops, is_in_choices, is_in_patterns, is_in_targets};
 ghost use Rattle.jsgen_tree.specs.declared.types.NodeType.TheVariants as types;
 
 use jsgen_fields::InputFault;
@@ -16,7 +16,7 @@ use jsgen_fields::asked::{
 use jsgen_fields::fields::boxed;
 use jsgen_fields::kept::{
     row_of_class, row_of_class_body, row_of_class_element, row_of_expression,
-    row_of_private_identifier,
+    row_of_private_field_expression, row_of_private_identifier,
 };
 use jsgen_fields::others::OtherExpression;
 use jsgen_fields::set_fields::{
@@ -88,12 +88,7 @@ fn read_private_field_expression<N: HoldsExpression + Drop, R: RowOf<N> + Drop>(
         field,
     };
     match boxed(alloc, node) {
-        Ok(node) => row_of_expression::<N, R>(
-            alloc,
-            OtherExpression {
-                expression: Expression::PrivateFieldExpression(node),
-            },
-        ),
+        Ok(node) => Ok(row_of_private_field_expression::<N, R>(node)),
         Err(fault) => Err(fault),
     }
 }
@@ -372,6 +367,7 @@ pub fn read_in_classes<N: ReadNode + Drop, R: RowOf<N> + Drop>(
     requires not_in_loops { is_in_loops node_type ≡ false }
     requires not_in_choices { is_in_choices node_type ≡ false }
     requires not_in_patterns { is_in_patterns node_type ≡ false }
+    requires not_in_targets { is_in_targets node_type ≡ false }
     ensures { Gives R.plain result (entries R.plain kept.new.items)
         (read_typed number node_type span (view row.now) (entries R.plain kept.old.items)) }
 {

@@ -9,7 +9,7 @@ ghost use Rattle.jsgen_fields.specs.Parts.{is_in_assignments};
 ghost use Rattle.jsgen_tree.specs.declared.types.NodeType.TheVariants as types;
 
 use jsgen_fields::InputFault;
-use jsgen_fields::asked::{HoldsExpression, ReadNode, RowOf};
+use jsgen_fields::asked::{HoldsAssignmentTarget, HoldsExpression, ReadNode, RowOf};
 use jsgen_fields::fields::boxed;
 use jsgen_fields::kept::row_of_expression;
 use jsgen_fields::others::OtherExpression;
@@ -91,7 +91,10 @@ fn read_sequence_expression<N: HoldsExpression + Drop, R: RowOf<N> + Drop>(
 }
 
 #[tactic(auto, unfolding(jsgen_fields::specs::Reads::read_node))]
-fn read_assignment_expression<N: HoldsExpression + Drop, R: RowOf<N> + Drop>(
+fn read_assignment_expression<
+    N: HoldsExpression + HoldsAssignmentTarget + Drop,
+    R: RowOf<N> + Drop,
+>(
     alloc: Global,
     kept: &mut Vec<Kept<R>>,
     number: usize,

@@ -12,7 +12,10 @@ use crate::literals::read_numeric_literal;
 use jsgen_fields::InputFault;
 use jsgen_fields::asked::{HoldsExpression, PlainNode, ReadNode, RowOf};
 use jsgen_fields::fields::boxed;
-use jsgen_fields::kept::{row_of_expression, row_of_identifier_name};
+use jsgen_fields::kept::{
+    row_of_computed_member_expression, row_of_expression, row_of_identifier_name,
+    row_of_identifier_reference, row_of_static_member_expression,
+};
 use jsgen_fields::others::OtherExpression;
 use jsgen_fields::set_fields::{
     argument_list, needed_chain_element, needed_expression, needed_identifier_name,
@@ -59,12 +62,7 @@ fn read_identifier_reference<N: PlainNode + Drop, R: RowOf<N> + Drop>(
         reference,
     };
     match boxed(alloc, node) {
-        Ok(node) => row_of_expression::<N, R>(
-            alloc,
-            OtherExpression {
-                expression: Expression::IdentifierReference(node),
-            },
-        ),
+        Ok(node) => Ok(row_of_identifier_reference::<N, R>(node)),
         Err(fault) => Err(fault),
     }
 }
@@ -401,12 +399,7 @@ fn read_static_member_expression<N: HoldsExpression + Drop, R: RowOf<N> + Drop>(
         property,
     };
     match boxed(alloc, node) {
-        Ok(node) => row_of_expression::<N, R>(
-            alloc,
-            OtherExpression {
-                expression: Expression::StaticMemberExpression(node),
-            },
-        ),
+        Ok(node) => Ok(row_of_static_member_expression::<N, R>(node)),
         Err(fault) => Err(fault),
     }
 }
@@ -441,12 +434,7 @@ fn read_computed_member_expression<N: HoldsExpression + Drop, R: RowOf<N> + Drop
         expression,
     };
     match boxed(alloc, node) {
-        Ok(node) => row_of_expression::<N, R>(
-            alloc,
-            OtherExpression {
-                expression: Expression::ComputedMemberExpression(node),
-            },
-        ),
+        Ok(node) => Ok(row_of_computed_member_expression::<N, R>(node)),
         Err(fault) => Err(fault),
     }
 }

@@ -2,7 +2,7 @@
 -- The plain data of what the reader keeps.
 use Rattle.std.specs.Prelude.{List}
 use Rattle.jsgen_tree.specs.Tree.{Tree}
-use Rattle.jsgen_tree.specs.Rows.{program_row, comment_row, directive_row, variable_declarator_row, identifier_name_row, spread_element_row, object_property_row, formal_parameter_row, formal_parameter_rest_row, formal_parameters_row, function_row, function_body_row, label_identifier_row, switch_case_row, catch_clause_row, binding_property_row, binding_rest_element_row, private_identifier_row, class_row, class_body_row, expression_plain, declaration_plain, statement_plain, binding_pattern_plain, class_element_plain}
+use Rattle.jsgen_tree.specs.Rows.{program_row, comment_row, directive_row, variable_declarator_row, identifier_reference_row, identifier_name_row, static_member_expression_row, computed_member_expression_row, spread_element_row, object_property_row, formal_parameter_row, formal_parameter_rest_row, formal_parameters_row, function_row, function_body_row, label_identifier_row, switch_case_row, catch_clause_row, binding_property_row, binding_rest_element_row, assignment_target_with_default_row, assignment_target_property_identifier_row, assignment_target_property_property_row, assignment_target_rest_row, private_identifier_row, private_field_expression_row, class_row, class_body_row, expression_plain, assignment_target_plain, declaration_plain, statement_plain, binding_pattern_plain, class_element_plain}
 use Rattle.jsgen_pool.specs.Pool.{Entry}
 use Rattle.jsgen_pool.specs.declared.Kept.{Kept}
 use Rattle.jsgen_fields.specs.declared.kept.Row.{Row}
@@ -18,8 +18,11 @@ row_plain plain (rows.Declaration b) = declaration_plain plain b.value.declarati
 row_plain plain (rows.VariableDeclarator b) = variable_declarator_row plain b.value
 row_plain plain (rows.BindingPattern b) = binding_pattern_plain plain b.value
 row_plain plain (rows.Statement b) = statement_plain plain b.value.statement
+row_plain plain (rows.IdentifierReference b) = identifier_reference_row b.value
 row_plain plain (rows.Expression b) = expression_plain plain b.value.expression
 row_plain plain (rows.IdentifierName b) = identifier_name_row b.value
+row_plain plain (rows.StaticMemberExpression b) = static_member_expression_row plain b.value
+row_plain plain (rows.ComputedMemberExpression b) = computed_member_expression_row plain b.value
 row_plain plain (rows.SpreadElement b) = spread_element_row plain b.value
 row_plain plain (rows.ObjectProperty b) = object_property_row plain b.value
 row_plain plain (rows.FormalParameter b) = formal_parameter_row plain b.value
@@ -32,7 +35,13 @@ row_plain plain (rows.SwitchCase b) = switch_case_row plain b.value
 row_plain plain (rows.CatchClause b) = catch_clause_row plain b.value
 row_plain plain (rows.BindingProperty b) = binding_property_row plain b.value
 row_plain plain (rows.BindingRestElement b) = binding_rest_element_row plain b.value
+row_plain plain (rows.AssignmentTarget b) = assignment_target_plain plain b.value.assignment_target
+row_plain plain (rows.AssignmentTargetWithDefault b) = assignment_target_with_default_row plain b.value
+row_plain plain (rows.AssignmentTargetPropertyIdentifier b) = assignment_target_property_identifier_row plain b.value
+row_plain plain (rows.AssignmentTargetPropertyProperty b) = assignment_target_property_property_row plain b.value
+row_plain plain (rows.AssignmentTargetRest b) = assignment_target_rest_row plain b.value
 row_plain plain (rows.PrivateIdentifier b) = private_identifier_row b.value
+row_plain plain (rows.PrivateFieldExpression b) = private_field_expression_row plain b.value
 row_plain plain (rows.Class b) = class_row plain b.value
 row_plain plain (rows.ClassBody b) = class_body_row plain b.value
 row_plain plain (rows.ClassElement b) = class_element_plain plain b.value

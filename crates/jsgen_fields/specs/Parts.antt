@@ -96,3 +96,12 @@ is_in_patterns types.BindingRestElement = true
 is_in_patterns types.ArrayPattern = true
 is_in_patterns types.AssignmentPattern = true
 is_in_patterns other = false
+
+abbrev pub is_in_targets : NodeType → Bool
+is_in_targets types.ArrayAssignmentTarget = true
+is_in_targets types.ObjectAssignmentTarget = true
+is_in_targets types.AssignmentTargetWithDefault = true
+is_in_targets types.AssignmentTargetPropertyIdentifier = true
+is_in_targets types.AssignmentTargetPropertyProperty = true
+is_in_targets types.AssignmentTargetRest = true
+is_in_targets other = false

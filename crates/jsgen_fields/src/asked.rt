@@ -3,7 +3,7 @@
 ghost use Rattle.std.specs.Prelude.{◌≡◌, IfOk, Some, None, option_map, if◌then◌else◌};
 ghost use Rattle.jsgen_tree.specs.Tree.{type_of};
 ghost use Rattle.jsgen_tree.specs.Sets.{in_set};
-ghost use Rattle.jsgen_tree.specs.Rows.{in_expression, in_declaration, in_statement, in_binding_pattern, in_class_element, expression_plain, declaration_plain, statement_plain, binding_pattern_plain, class_element_plain, expression_plain, declaration_plain, statement_plain, binding_pattern_plain, class_element_plain, in_expression, in_declaration, in_statement, in_binding_pattern, in_class_element};
+ghost use Rattle.jsgen_tree.specs.Rows.{in_expression, in_assignment_target, in_declaration, in_statement, in_binding_pattern, in_class_element, expression_plain, assignment_target_plain, declaration_plain, statement_plain, binding_pattern_plain, class_element_plain, expression_plain, assignment_target_plain, declaration_plain, statement_plain, binding_pattern_plain, class_element_plain, in_expression, in_assignment_target, in_declaration, in_statement, in_binding_pattern, in_class_element};
 ghost use Rattle.jsgen_fields.specs.Kept.{row_plain};
 ghost use Rattle.jsgen_tree.specs.Plain.{node_plain};
 ghost use Rattle.jsgen_tree.specs.declared.types.NodeType.TheVariants as types;
@@ -11,8 +11,9 @@ ghost use Rattle.jsgen_tree.specs.declared.types.NodeType.TheVariants as types;
 use crate::kept::Row;
 use jsgen_pool::Typed;
 use jsgen_tree::{
-    BindingPattern, BindingPatternNode, ClassElement, ClassElementNode, Declaration,
-    DeclarationNode, Expression, ExpressionNode, Node, NodeSet, NodeType, Statement, StatementNode,
+    AssignmentTarget, AssignmentTargetNode, BindingPattern, BindingPatternNode, ClassElement,
+    ClassElementNode, Declaration, DeclarationNode, Expression, ExpressionNode, Node, NodeSet,
+    NodeType, Statement, StatementNode,
 };
 use std::alloc::{AllocError, Global};
 
@@ -39,6 +40,23 @@ impl HoldsExpression for Node {
         ensures { in_expression node_plain result ≡ expression_plain node_plain expression }
     {
         expression.into()
+    }
+}
+
+/// A node that may be an assignment target.
+pub trait HoldsAssignmentTarget: PlainNode {
+    fn assignment_target_node(
+        assignment_target: AssignmentTarget<Self>,
+    ) -> AssignmentTargetNode<Self>
+        ensures { in_assignment_target Self.plain result ≡ assignment_target_plain Self.plain assignment_target };
+}
+
+impl HoldsAssignmentTarget for Node {
+    #[tactic(auto, using(jsgen_tree::proofs::Knot::plain_assignment_target))]
+    fn assignment_target_node(assignment_target: AssignmentTarget) -> AssignmentTargetNode
+        ensures { in_assignment_target node_plain result ≡ assignment_target_plain node_plain assignment_target }
+    {
+        assignment_target.into()
     }
 }
 
@@ -104,12 +122,16 @@ impl HoldsClassElement for Node {
 
 /// What the reader asks of a node where trees nest. Only `Node` implements it.
 pub trait ReadNode: HoldsExpression
+    + HoldsAssignmentTarget
     + HoldsDeclaration
     + HoldsStatement
     + HoldsBindingPattern
     + HoldsClassElement {
     fn expression_type(expression: &Expression<Self>) -> NodeType
         ensures { result ≡ type_of (expression_plain Self.plain expression.now) };
+
+    fn assignment_target_type(assignment_target: &AssignmentTarget<Self>) -> NodeType
+        ensures { result ≡ type_of (assignment_target_plain Self.plain assignment_target.now) };
 
     fn declaration_type(declaration: &Declaration<Self>) -> NodeType
         ensures { result ≡ type_of (declaration_plain Self.plain declaration.now) };
@@ -129,6 +151,12 @@ impl ReadNode for Node {
         ensures { result ≡ type_of (expression_plain node_plain expression.now) }
     {
         expression.node_type()
+    }
+
+    fn assignment_target_type(assignment_target: &AssignmentTarget) -> NodeType
+        ensures { result ≡ type_of (assignment_target_plain node_plain assignment_target.now) }
+    {
+        assignment_target.node_type()
     }
 
     fn declaration_type(declaration: &Declaration) -> NodeType

@@ -3,30 +3,31 @@
 ghost use Rattle.std.specs.Prelude.{◌≡◌, IfOk, Some, None, option_map, if◌then◌else◌};
 ghost use Rattle.jsgen_tree.specs.Tree.{type_of};
 ghost use Rattle.jsgen_tree.specs.Sets.{in_set};
-ghost use Rattle.jsgen_tree.specs.Rows.{in_expression, in_argument, in_array_expression_element, in_chain_element, in_simple_assignment_target, in_assignment_target, in_arrow_function_body, in_for_statement_init, in_for_statement_left, in_object_property_kind, in_property_key, in_statement, in_binding_pattern, in_class_element, comment_row, directive_row, variable_declarator_row, binding_identifier_row, block_statement_row, identifier_name_row, formal_parameter_row, formal_parameter_rest_row, formal_parameters_row, function_row, function_body_row, label_identifier_row, switch_case_row, catch_clause_row, binding_property_row, binding_rest_element_row, private_identifier_row, class_body_row};
+ghost use Rattle.jsgen_tree.specs.Rows.{in_expression, in_argument, in_array_expression_element, in_chain_element, in_simple_assignment_target, in_assignment_target, in_assignment_target_maybe_default, in_assignment_target_property, in_arrow_function_body, in_for_statement_init, in_for_statement_left, in_object_property_kind, in_property_key, in_statement, in_binding_pattern, in_class_element, comment_row, directive_row, variable_declarator_row, binding_identifier_row, block_statement_row, identifier_reference_row, identifier_name_row, formal_parameter_row, formal_parameter_rest_row, formal_parameters_row, function_row, function_body_row, label_identifier_row, switch_case_row, catch_clause_row, binding_property_row, binding_rest_element_row, assignment_target_rest_row, private_identifier_row, class_body_row};
 ghost use Rattle.jsgen_fields.specs.Kept.{row_plain};
 ghost use Rattle.jsgen_tree.specs.declared.types.NodeSet.TheVariants as sets;
 
 use crate::asked::{
-    Child, HoldsBindingPattern, HoldsClassElement, HoldsDeclaration, HoldsExpression,
-    HoldsStatement, PlainNode,
+    Child, HoldsAssignmentTarget, HoldsBindingPattern, HoldsClassElement, HoldsDeclaration,
+    HoldsExpression, HoldsStatement, PlainNode,
 };
 use crate::kept::Row;
 use crate::members::{
     argument_of_expression, array_expression_element_of_expression,
-    arrow_function_body_of_expression, assignment_target_of_expression,
+    arrow_function_body_of_expression, assignment_target_maybe_default_of_assignment_target,
     binding_identifier_of_binding_pattern_in_box, block_statement_of_statement_in_box,
     chain_element_of_expression, for_statement_init_of_declaration,
-    for_statement_init_of_expression, for_statement_left_of_declaration,
-    for_statement_left_of_expression, property_key_of_expression,
-    simple_assignment_target_of_expression, statement_of_declaration,
+    for_statement_init_of_expression, for_statement_left_of_assignment_target,
+    for_statement_left_of_declaration, property_key_of_expression, statement_of_declaration,
 };
 use jsgen_tree::{
-    Argument, ArrayExpressionElement, ArrowFunctionBody, AssignmentTarget, BindingIdentifier,
-    BindingPatternNode, BindingProperty, BindingRestElement, BlockStatement, CatchClause,
-    ChainElement, ClassBody, ClassElementNode, Comment, Declaration, Directive, Expression,
-    ExpressionNode, ForStatementInit, ForStatementLeft, FormalParameter, FormalParameterRest,
-    FormalParameters, Function, FunctionBody, IdentifierName, LabelIdentifier, NodeSet,
+    Argument, ArrayExpressionElement, ArrowFunctionBody, AssignmentTarget,
+    AssignmentTargetMaybeDefault, AssignmentTargetNode, AssignmentTargetProperty,
+    AssignmentTargetRest, BindingIdentifier, BindingPatternNode, BindingProperty,
+    BindingRestElement, BlockStatement, CatchClause, ChainElement, ClassBody, ClassElementNode,
+    Comment, Declaration, Directive, Expression, ExpressionNode, ForStatementInit,
+    ForStatementLeft, FormalParameter, FormalParameterRest, FormalParameters, Function,
+    FunctionBody, IdentifierName, IdentifierReference, LabelIdentifier, NodeSet,
     ObjectPropertyKind, PrivateIdentifier, PropertyKey, SimpleAssignmentTarget, StatementNode,
     SwitchCase, VariableDeclarator,
 };
@@ -184,8 +185,20 @@ impl<N: HoldsExpression + Drop> Child<N> for ExpressionNode<N> {
     {
         let _ = alloc;
         match row {
+            Row::IdentifierReference(row) => Ok(Some(N::expression_node(
+                Expression::IdentifierReference(row),
+            ))),
             Row::Expression(row) => Ok(Some(N::expression_node(Box::into_inner(row).expression))),
+            Row::StaticMemberExpression(row) => Ok(Some(N::expression_node(
+                Expression::StaticMemberExpression(row),
+            ))),
+            Row::ComputedMemberExpression(row) => Ok(Some(N::expression_node(
+                Expression::ComputedMemberExpression(row),
+            ))),
             Row::Function(row) => Ok(Some(N::expression_node(Expression::Function(row)))),
+            Row::PrivateFieldExpression(row) => Ok(Some(N::expression_node(
+                Expression::PrivateFieldExpression(row),
+            ))),
             Row::Class(row) => Ok(Some(N::expression_node(Expression::Class(row)))),
             rest => {
                 rest.let_go();
@@ -235,14 +248,30 @@ impl<N: HoldsExpression + Drop> Child<N> for Argument<N> {
             ≡ (if in_set sets.Argument (type_of (row_plain N.plain row)) then Some (row_plain N.plain row) else None)) }
     {
         match row {
+            Row::IdentifierReference(row) => argument_of_expression(
+                alloc,
+                N::expression_node(Expression::IdentifierReference(row)),
+            ),
             Row::Expression(row) => argument_of_expression(
                 alloc,
                 N::expression_node(Box::into_inner(row).expression),
+            ),
+            Row::StaticMemberExpression(row) => argument_of_expression(
+                alloc,
+                N::expression_node(Expression::StaticMemberExpression(row)),
+            ),
+            Row::ComputedMemberExpression(row) => argument_of_expression(
+                alloc,
+                N::expression_node(Expression::ComputedMemberExpression(row)),
             ),
             Row::SpreadElement(row) => Ok(Some(Argument::SpreadElement(row))),
             Row::Function(row) => argument_of_expression(
                 alloc,
                 N::expression_node(Expression::Function(row)),
+            ),
+            Row::PrivateFieldExpression(row) => argument_of_expression(
+                alloc,
+                N::expression_node(Expression::PrivateFieldExpression(row)),
             ),
             Row::Class(row) => argument_of_expression(
                 alloc,
@@ -273,6 +302,11 @@ impl<N: PlainNode + Drop> Child<N> for ChainElement<N> {
         let _ = alloc;
         match row {
             Row::Expression(row) => Ok(chain_element_of_expression(Box::into_inner(row))),
+            Row::StaticMemberExpression(row) => Ok(Some(ChainElement::StaticMemberExpression(row))),
+            Row::ComputedMemberExpression(row) => Ok(Some(ChainElement::ComputedMemberExpression(
+                row,
+            ))),
+            Row::PrivateFieldExpression(row) => Ok(Some(ChainElement::PrivateFieldExpression(row))),
             rest => {
                 rest.let_go();
                 Ok(None)
@@ -296,14 +330,30 @@ impl<N: HoldsExpression + Drop> Child<N> for ArrayExpressionElement<N> {
             ≡ (if in_set sets.ArrayExpressionElement (type_of (row_plain N.plain row)) then Some (row_plain N.plain row) else None)) }
     {
         match row {
+            Row::IdentifierReference(row) => array_expression_element_of_expression(
+                alloc,
+                N::expression_node(Expression::IdentifierReference(row)),
+            ),
             Row::Expression(row) => array_expression_element_of_expression(
                 alloc,
                 N::expression_node(Box::into_inner(row).expression),
+            ),
+            Row::StaticMemberExpression(row) => array_expression_element_of_expression(
+                alloc,
+                N::expression_node(Expression::StaticMemberExpression(row)),
+            ),
+            Row::ComputedMemberExpression(row) => array_expression_element_of_expression(
+                alloc,
+                N::expression_node(Expression::ComputedMemberExpression(row)),
             ),
             Row::SpreadElement(row) => Ok(Some(ArrayExpressionElement::SpreadElement(row))),
             Row::Function(row) => array_expression_element_of_expression(
                 alloc,
                 N::expression_node(Expression::Function(row)),
+            ),
+            Row::PrivateFieldExpression(row) => array_expression_element_of_expression(
+                alloc,
+                N::expression_node(Expression::PrivateFieldExpression(row)),
             ),
             Row::Class(row) => array_expression_element_of_expression(
                 alloc,
@@ -332,16 +382,32 @@ impl<N: HoldsExpression + Drop> Child<N> for PropertyKey<N> {
             ≡ (if in_set sets.PropertyKey (type_of (row_plain N.plain row)) then Some (row_plain N.plain row) else None)) }
     {
         match row {
+            Row::IdentifierReference(row) => property_key_of_expression(
+                alloc,
+                N::expression_node(Expression::IdentifierReference(row)),
+            ),
             Row::Expression(row) => property_key_of_expression(
                 alloc,
                 N::expression_node(Box::into_inner(row).expression),
             ),
             Row::IdentifierName(row) => Ok(Some(PropertyKey::IdentifierName(row))),
+            Row::StaticMemberExpression(row) => property_key_of_expression(
+                alloc,
+                N::expression_node(Expression::StaticMemberExpression(row)),
+            ),
+            Row::ComputedMemberExpression(row) => property_key_of_expression(
+                alloc,
+                N::expression_node(Expression::ComputedMemberExpression(row)),
+            ),
             Row::Function(row) => property_key_of_expression(
                 alloc,
                 N::expression_node(Expression::Function(row)),
             ),
             Row::PrivateIdentifier(row) => Ok(Some(PropertyKey::PrivateIdentifier(row))),
+            Row::PrivateFieldExpression(row) => property_key_of_expression(
+                alloc,
+                N::expression_node(Expression::PrivateFieldExpression(row)),
+            ),
             Row::Class(row) => property_key_of_expression(
                 alloc,
                 N::expression_node(Expression::Class(row)),
@@ -396,9 +462,18 @@ impl<N: PlainNode + Drop> Child<N> for SimpleAssignmentTarget<N> {
     {
         let _ = alloc;
         match row {
-            Row::Expression(row) => Ok(simple_assignment_target_of_expression(Box::into_inner(
+            Row::IdentifierReference(row) => Ok(Some(SimpleAssignmentTarget::IdentifierReference(
                 row,
             ))),
+            Row::StaticMemberExpression(row) => Ok(Some(
+                SimpleAssignmentTarget::StaticMemberExpression(row),
+            )),
+            Row::ComputedMemberExpression(row) => Ok(Some(
+                SimpleAssignmentTarget::ComputedMemberExpression(row),
+            )),
+            Row::PrivateFieldExpression(row) => Ok(Some(
+                SimpleAssignmentTarget::PrivateFieldExpression(row),
+            )),
             rest => {
                 rest.let_go();
                 Ok(None)
@@ -407,7 +482,7 @@ impl<N: PlainNode + Drop> Child<N> for SimpleAssignmentTarget<N> {
     }
 }
 
-impl<N: PlainNode + Drop> Child<N> for AssignmentTarget<N> {
+impl<N: HoldsAssignmentTarget + Drop> Child<N> for AssignmentTargetNode<N> {
     ghost plain = { λ n. in_assignment_target N.plain n };
 
     ghost of_set = { sets.AssignmentTarget };
@@ -417,13 +492,27 @@ impl<N: PlainNode + Drop> Child<N> for AssignmentTarget<N> {
     }
 
     #[tactic(auto, using(crate::proofs::Sets::takes_assignment_targets))]
-    fn from_row(alloc: Global, row: Row<N>) -> Result<Option<AssignmentTarget<N>>, AllocError>
+    fn from_row(alloc: Global, row: Row<N>) -> Result<Option<AssignmentTargetNode<N>>, AllocError>
         ensures { IfOk result (λ child. option_map (in_assignment_target N.plain) child
             ≡ (if in_set sets.AssignmentTarget (type_of (row_plain N.plain row)) then Some (row_plain N.plain row) else None)) }
     {
         let _ = alloc;
         match row {
-            Row::Expression(row) => Ok(assignment_target_of_expression(Box::into_inner(row))),
+            Row::IdentifierReference(row) => Ok(Some(N::assignment_target_node(
+                AssignmentTarget::IdentifierReference(row),
+            ))),
+            Row::StaticMemberExpression(row) => Ok(Some(N::assignment_target_node(
+                AssignmentTarget::StaticMemberExpression(row),
+            ))),
+            Row::ComputedMemberExpression(row) => Ok(Some(N::assignment_target_node(
+                AssignmentTarget::ComputedMemberExpression(row),
+            ))),
+            Row::AssignmentTarget(row) => Ok(Some(N::assignment_target_node(
+                Box::into_inner(row).assignment_target,
+            ))),
+            Row::PrivateFieldExpression(row) => Ok(Some(N::assignment_target_node(
+                AssignmentTarget::PrivateFieldExpression(row),
+            ))),
             rest => {
                 rest.let_go();
                 Ok(None)
@@ -577,15 +666,31 @@ impl<N: HoldsExpression + Drop> Child<N> for ArrowFunctionBody<N> {
             ≡ (if in_set sets.ArrowFunctionBody (type_of (row_plain N.plain row)) then Some (row_plain N.plain row) else None)) }
     {
         match row {
+            Row::IdentifierReference(row) => arrow_function_body_of_expression(
+                alloc,
+                N::expression_node(Expression::IdentifierReference(row)),
+            ),
             Row::Expression(row) => arrow_function_body_of_expression(
                 alloc,
                 N::expression_node(Box::into_inner(row).expression),
+            ),
+            Row::StaticMemberExpression(row) => arrow_function_body_of_expression(
+                alloc,
+                N::expression_node(Expression::StaticMemberExpression(row)),
+            ),
+            Row::ComputedMemberExpression(row) => arrow_function_body_of_expression(
+                alloc,
+                N::expression_node(Expression::ComputedMemberExpression(row)),
             ),
             Row::Function(row) => arrow_function_body_of_expression(
                 alloc,
                 N::expression_node(Expression::Function(row)),
             ),
             Row::FunctionBody(row) => Ok(Some(ArrowFunctionBody::FunctionBody(row))),
+            Row::PrivateFieldExpression(row) => arrow_function_body_of_expression(
+                alloc,
+                N::expression_node(Expression::PrivateFieldExpression(row)),
+            ),
             Row::Class(row) => arrow_function_body_of_expression(
                 alloc,
                 N::expression_node(Expression::Class(row)),
@@ -614,13 +719,29 @@ impl<N: HoldsExpression + Drop> Child<N> for ForStatementInit<N> {
     {
         match row {
             Row::Declaration(row) => Ok(for_statement_init_of_declaration(Box::into_inner(row))),
+            Row::IdentifierReference(row) => for_statement_init_of_expression(
+                alloc,
+                N::expression_node(Expression::IdentifierReference(row)),
+            ),
             Row::Expression(row) => for_statement_init_of_expression(
                 alloc,
                 N::expression_node(Box::into_inner(row).expression),
             ),
+            Row::StaticMemberExpression(row) => for_statement_init_of_expression(
+                alloc,
+                N::expression_node(Expression::StaticMemberExpression(row)),
+            ),
+            Row::ComputedMemberExpression(row) => for_statement_init_of_expression(
+                alloc,
+                N::expression_node(Expression::ComputedMemberExpression(row)),
+            ),
             Row::Function(row) => for_statement_init_of_expression(
                 alloc,
                 N::expression_node(Expression::Function(row)),
+            ),
+            Row::PrivateFieldExpression(row) => for_statement_init_of_expression(
+                alloc,
+                N::expression_node(Expression::PrivateFieldExpression(row)),
             ),
             Row::Class(row) => for_statement_init_of_expression(
                 alloc,
@@ -634,7 +755,7 @@ impl<N: HoldsExpression + Drop> Child<N> for ForStatementInit<N> {
     }
 }
 
-impl<N: PlainNode + Drop> Child<N> for ForStatementLeft<N> {
+impl<N: HoldsAssignmentTarget + Drop> Child<N> for ForStatementLeft<N> {
     ghost plain = { λ n. in_for_statement_left N.plain n };
 
     ghost of_set = { sets.ForStatementLeft };
@@ -648,10 +769,28 @@ impl<N: PlainNode + Drop> Child<N> for ForStatementLeft<N> {
         ensures { IfOk result (λ child. option_map (in_for_statement_left N.plain) child
             ≡ (if in_set sets.ForStatementLeft (type_of (row_plain N.plain row)) then Some (row_plain N.plain row) else None)) }
     {
-        let _ = alloc;
         match row {
             Row::Declaration(row) => Ok(for_statement_left_of_declaration(Box::into_inner(row))),
-            Row::Expression(row) => Ok(for_statement_left_of_expression(Box::into_inner(row))),
+            Row::IdentifierReference(row) => for_statement_left_of_assignment_target(
+                alloc,
+                N::assignment_target_node(AssignmentTarget::IdentifierReference(row)),
+            ),
+            Row::StaticMemberExpression(row) => for_statement_left_of_assignment_target(
+                alloc,
+                N::assignment_target_node(AssignmentTarget::StaticMemberExpression(row)),
+            ),
+            Row::ComputedMemberExpression(row) => for_statement_left_of_assignment_target(
+                alloc,
+                N::assignment_target_node(AssignmentTarget::ComputedMemberExpression(row)),
+            ),
+            Row::AssignmentTarget(row) => for_statement_left_of_assignment_target(
+                alloc,
+                N::assignment_target_node(Box::into_inner(row).assignment_target),
+            ),
+            Row::PrivateFieldExpression(row) => for_statement_left_of_assignment_target(
+                alloc,
+                N::assignment_target_node(AssignmentTarget::PrivateFieldExpression(row)),
+            ),
             rest => {
                 rest.let_go();
                 Ok(None)
@@ -805,6 +944,144 @@ impl<N: PlainNode + Drop> Child<N> for Box<BindingRestElement<N>> {
         let _ = alloc;
         match row {
             Row::BindingRestElement(row) => Ok(Some(row)),
+            rest => {
+                rest.let_go();
+                Ok(None)
+            }
+        }
+    }
+}
+
+impl<N: HoldsAssignmentTarget + Drop> Child<N> for AssignmentTargetMaybeDefault<N> {
+    ghost plain = { λ n. in_assignment_target_maybe_default N.plain n };
+
+    ghost of_set = { sets.AssignmentTargetMaybeDefault };
+
+    fn set() -> NodeSet {
+        NodeSet::AssignmentTargetMaybeDefault
+    }
+
+    #[tactic(auto, using(crate::proofs::Sets::takes_assignment_target_maybe_defaults))]
+    fn from_row(
+        alloc: Global,
+        row: Row<N>,
+    ) -> Result<Option<AssignmentTargetMaybeDefault<N>>, AllocError>
+        ensures { IfOk result (λ child. option_map (in_assignment_target_maybe_default N.plain) child
+            ≡ (if in_set sets.AssignmentTargetMaybeDefault (type_of (row_plain N.plain row)) then Some (row_plain N.plain row) else None)) }
+    {
+        match row {
+            Row::IdentifierReference(row) => assignment_target_maybe_default_of_assignment_target(
+                alloc,
+                N::assignment_target_node(AssignmentTarget::IdentifierReference(row)),
+            ),
+            Row::StaticMemberExpression(row) =>
+                assignment_target_maybe_default_of_assignment_target(
+                    alloc,
+                    N::assignment_target_node(AssignmentTarget::StaticMemberExpression(row)),
+                ),
+            Row::ComputedMemberExpression(row) =>
+                assignment_target_maybe_default_of_assignment_target(
+                    alloc,
+                    N::assignment_target_node(AssignmentTarget::ComputedMemberExpression(row)),
+                ),
+            Row::AssignmentTarget(row) => assignment_target_maybe_default_of_assignment_target(
+                alloc,
+                N::assignment_target_node(Box::into_inner(row).assignment_target),
+            ),
+            Row::AssignmentTargetWithDefault(row) => Ok(Some(
+                AssignmentTargetMaybeDefault::AssignmentTargetWithDefault(row),
+            )),
+            Row::PrivateFieldExpression(row) =>
+                assignment_target_maybe_default_of_assignment_target(
+                    alloc,
+                    N::assignment_target_node(AssignmentTarget::PrivateFieldExpression(row)),
+                ),
+            rest => {
+                rest.let_go();
+                Ok(None)
+            }
+        }
+    }
+}
+
+impl<N: PlainNode + Drop> Child<N> for Box<AssignmentTargetRest<N>> {
+    ghost plain = { λ n. assignment_target_rest_row N.plain n.value };
+
+    ghost of_set = { sets.AssignmentTargetRest };
+
+    fn set() -> NodeSet {
+        NodeSet::AssignmentTargetRest
+    }
+
+    #[tactic(auto, using(crate::proofs::Sets::takes_assignment_target_rests))]
+    fn from_row(
+        alloc: Global,
+        row: Row<N>,
+    ) -> Result<Option<Box<AssignmentTargetRest<N>>>, AllocError>
+        ensures { IfOk result (λ child. option_map (λ b. assignment_target_rest_row N.plain b.value) child
+            ≡ (if in_set sets.AssignmentTargetRest (type_of (row_plain N.plain row)) then Some (row_plain N.plain row) else None)) }
+    {
+        let _ = alloc;
+        match row {
+            Row::AssignmentTargetRest(row) => Ok(Some(row)),
+            rest => {
+                rest.let_go();
+                Ok(None)
+            }
+        }
+    }
+}
+
+impl<N: PlainNode + Drop> Child<N> for AssignmentTargetProperty<N> {
+    ghost plain = { λ n. in_assignment_target_property N.plain n };
+
+    ghost of_set = { sets.AssignmentTargetProperty };
+
+    fn set() -> NodeSet {
+        NodeSet::AssignmentTargetProperty
+    }
+
+    #[tactic(auto, using(crate::proofs::Sets::takes_assignment_target_propertys))]
+    fn from_row(
+        alloc: Global,
+        row: Row<N>,
+    ) -> Result<Option<AssignmentTargetProperty<N>>, AllocError>
+        ensures { IfOk result (λ child. option_map (in_assignment_target_property N.plain) child
+            ≡ (if in_set sets.AssignmentTargetProperty (type_of (row_plain N.plain row)) then Some (row_plain N.plain row) else None)) }
+    {
+        let _ = alloc;
+        match row {
+            Row::AssignmentTargetPropertyIdentifier(row) => Ok(Some(
+                AssignmentTargetProperty::AssignmentTargetPropertyIdentifier(row),
+            )),
+            Row::AssignmentTargetPropertyProperty(row) => Ok(Some(
+                AssignmentTargetProperty::AssignmentTargetPropertyProperty(row),
+            )),
+            rest => {
+                rest.let_go();
+                Ok(None)
+            }
+        }
+    }
+}
+
+impl<N: PlainNode + Drop> Child<N> for Box<IdentifierReference> {
+    ghost plain = { λ n. identifier_reference_row n.value };
+
+    ghost of_set = { sets.IdentifierReference };
+
+    fn set() -> NodeSet {
+        NodeSet::IdentifierReference
+    }
+
+    #[tactic(auto, using(crate::proofs::Sets::takes_identifier_references))]
+    fn from_row(alloc: Global, row: Row<N>) -> Result<Option<Box<IdentifierReference>>, AllocError>
+        ensures { IfOk result (λ child. option_map (λ b. identifier_reference_row b.value) child
+            ≡ (if in_set sets.IdentifierReference (type_of (row_plain N.plain row)) then Some (row_plain N.plain row) else None)) }
+    {
+        let _ = alloc;
+        match row {
+            Row::IdentifierReference(row) => Ok(Some(row)),
             rest => {
                 rest.let_go();
                 Ok(None)

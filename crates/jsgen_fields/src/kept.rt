@@ -3,21 +3,24 @@
 ghost use Rattle.std.specs.Prelude.{◌≡◌, IfOk, Some, None, option_map, if◌then◌else◌, Ok};
 ghost use Rattle.jsgen_tree.specs.Tree.{type_of};
 ghost use Rattle.jsgen_tree.specs.Sets.{in_set};
-ghost use Rattle.jsgen_tree.specs.Rows.{program_row, comment_row, directive_row, variable_declarator_row, identifier_name_row, spread_element_row, object_property_row, formal_parameter_row, formal_parameter_rest_row, formal_parameters_row, function_row, function_body_row, label_identifier_row, switch_case_row, catch_clause_row, binding_property_row, binding_rest_element_row, private_identifier_row, class_row, class_body_row, expression_plain, declaration_plain, statement_plain, binding_pattern_plain, class_element_plain, expression_plain, declaration_plain, statement_plain, binding_pattern_plain, class_element_plain, program_row};
+ghost use Rattle.jsgen_tree.specs.Rows.{program_row, comment_row, directive_row, variable_declarator_row, identifier_reference_row, identifier_name_row, static_member_expression_row, computed_member_expression_row, spread_element_row, object_property_row, formal_parameter_row, formal_parameter_rest_row, formal_parameters_row, function_row, function_body_row, label_identifier_row, switch_case_row, catch_clause_row, binding_property_row, binding_rest_element_row, assignment_target_with_default_row, assignment_target_property_identifier_row, assignment_target_property_property_row, assignment_target_rest_row, private_identifier_row, private_field_expression_row, class_row, class_body_row, expression_plain, assignment_target_plain, declaration_plain, statement_plain, binding_pattern_plain, class_element_plain, expression_plain, assignment_target_plain, declaration_plain, statement_plain, binding_pattern_plain, class_element_plain, program_row};
 ghost use Rattle.jsgen_fields.specs.Kept.{row_plain, any_row_plain};
 ghost use Rattle.jsgen_fields.specs.Values.{Same};
 ghost use Rattle.jsgen_fields.specs.Meaning.{is_program};
 
 use crate::InputFault;
 use crate::asked::{Child, PlainNode, ReadNode, RowOf};
-use crate::others::{OtherDeclaration, OtherExpression, OtherStatement};
+use crate::others::{OtherAssignmentTarget, OtherDeclaration, OtherExpression, OtherStatement};
 use jsgen_pool::Typed;
 use jsgen_tree::{
-    BindingPattern, BindingProperty, BindingRestElement, CatchClause, Class, ClassBody,
-    ClassElement, Comment, Declaration, Directive, Expression, FormalParameter,
-    FormalParameterRest, FormalParameters, Function, FunctionBody, IdentifierName, LabelIdentifier,
-    Node, NodeType, ObjectProperty, PrivateIdentifier, Program, SpreadElement, Statement,
-    SwitchCase, VariableDeclarator,
+    AssignmentTarget, AssignmentTargetPropertyIdentifier, AssignmentTargetPropertyProperty,
+    AssignmentTargetRest, AssignmentTargetWithDefault, BindingPattern, BindingProperty,
+    BindingRestElement, CatchClause, Class, ClassBody, ClassElement, Comment,
+    ComputedMemberExpression, Declaration, Directive, Expression, FormalParameter,
+    FormalParameterRest, FormalParameters, Function, FunctionBody, IdentifierName,
+    IdentifierReference, LabelIdentifier, Node, NodeType, ObjectProperty, PrivateFieldExpression,
+    PrivateIdentifier, Program, SpreadElement, Statement, StaticMemberExpression, SwitchCase,
+    VariableDeclarator,
 };
 use std::alloc::{AllocError, Global};
 
@@ -32,8 +35,11 @@ pub enum Row<N = Node> {
     VariableDeclarator(Box<VariableDeclarator<N>>),
     BindingPattern(Box<BindingPattern<N>>),
     Statement(Box<OtherStatement<N>>),
+    IdentifierReference(Box<IdentifierReference>),
     Expression(Box<OtherExpression<N>>),
     IdentifierName(Box<IdentifierName>),
+    StaticMemberExpression(Box<StaticMemberExpression<N>>),
+    ComputedMemberExpression(Box<ComputedMemberExpression<N>>),
     SpreadElement(Box<SpreadElement<N>>),
     ObjectProperty(Box<ObjectProperty<N>>),
     FormalParameter(Box<FormalParameter<N>>),
@@ -46,7 +52,13 @@ pub enum Row<N = Node> {
     CatchClause(Box<CatchClause<N>>),
     BindingProperty(Box<BindingProperty<N>>),
     BindingRestElement(Box<BindingRestElement<N>>),
+    AssignmentTarget(Box<OtherAssignmentTarget<N>>),
+    AssignmentTargetWithDefault(Box<AssignmentTargetWithDefault<N>>),
+    AssignmentTargetPropertyIdentifier(Box<AssignmentTargetPropertyIdentifier<N>>),
+    AssignmentTargetPropertyProperty(Box<AssignmentTargetPropertyProperty<N>>),
+    AssignmentTargetRest(Box<AssignmentTargetRest<N>>),
     PrivateIdentifier(Box<PrivateIdentifier>),
+    PrivateFieldExpression(Box<PrivateFieldExpression<N>>),
     Class(Box<Class<N>>),
     ClassBody(Box<ClassBody<N>>),
     ClassElement(Box<ClassElement<N>>),
@@ -84,8 +96,11 @@ impl<N: ReadNode> Typed for AnyRow<N> {
             Row::VariableDeclarator(_) => NodeType::VariableDeclarator,
             Row::BindingPattern(row) => N::binding_pattern_type(&**row),
             Row::Statement(row) => N::statement_type(&(**row).statement),
+            Row::IdentifierReference(_) => NodeType::IdentifierReference,
             Row::Expression(row) => N::expression_type(&(**row).expression),
             Row::IdentifierName(_) => NodeType::IdentifierName,
+            Row::StaticMemberExpression(_) => NodeType::StaticMemberExpression,
+            Row::ComputedMemberExpression(_) => NodeType::ComputedMemberExpression,
             Row::SpreadElement(_) => NodeType::SpreadElement,
             Row::ObjectProperty(_) => NodeType::ObjectProperty,
             Row::FormalParameter(_) => NodeType::FormalParameter,
@@ -98,7 +113,14 @@ impl<N: ReadNode> Typed for AnyRow<N> {
             Row::CatchClause(_) => NodeType::CatchClause,
             Row::BindingProperty(_) => NodeType::BindingProperty,
             Row::BindingRestElement(_) => NodeType::BindingRestElement,
+            Row::AssignmentTarget(row) => N::assignment_target_type(&(**row).assignment_target),
+            Row::AssignmentTargetWithDefault(_) => NodeType::AssignmentTargetWithDefault,
+            Row::AssignmentTargetPropertyIdentifier(_) =>
+                NodeType::AssignmentTargetPropertyIdentifier,
+            Row::AssignmentTargetPropertyProperty(_) => NodeType::AssignmentTargetPropertyProperty,
+            Row::AssignmentTargetRest(_) => NodeType::AssignmentTargetRest,
             Row::PrivateIdentifier(_) => NodeType::PrivateIdentifier,
+            Row::PrivateFieldExpression(_) => NodeType::PrivateFieldExpression,
             Row::Class(_) => NodeType::Class,
             Row::ClassBody(_) => NodeType::ClassBody,
             Row::ClassElement(row) => N::class_element_type(&**row),
@@ -197,6 +219,14 @@ pub fn row_of_statement<N: PlainNode + Drop, R: RowOf<N>>(
     Ok(R::of_row(Row::Statement(other)))
 }
 
+pub fn row_of_identifier_reference<N: PlainNode + Drop, R: RowOf<N>>(
+    identifier_reference: Box<IdentifierReference>,
+) -> R
+    ensures { R.plain result ≡ identifier_reference_row identifier_reference.value }
+{
+    R::of_row(Row::IdentifierReference(identifier_reference))
+}
+
 pub fn row_of_expression<N: PlainNode + Drop, R: RowOf<N>>(
     alloc: Global,
     other: OtherExpression<N>,
@@ -213,6 +243,22 @@ pub fn row_of_identifier_name<N: PlainNode + Drop, R: RowOf<N>>(
     ensures { R.plain result ≡ identifier_name_row identifier_name.value }
 {
     R::of_row(Row::IdentifierName(identifier_name))
+}
+
+pub fn row_of_static_member_expression<N: PlainNode + Drop, R: RowOf<N>>(
+    static_member_expression: Box<StaticMemberExpression<N>>,
+) -> R
+    ensures { R.plain result ≡ static_member_expression_row N.plain static_member_expression.value }
+{
+    R::of_row(Row::StaticMemberExpression(static_member_expression))
+}
+
+pub fn row_of_computed_member_expression<N: PlainNode + Drop, R: RowOf<N>>(
+    computed_member_expression: Box<ComputedMemberExpression<N>>,
+) -> R
+    ensures { R.plain result ≡ computed_member_expression_row N.plain computed_member_expression.value }
+{
+    R::of_row(Row::ComputedMemberExpression(computed_member_expression))
 }
 
 pub fn row_of_spread_element<N: PlainNode + Drop, R: RowOf<N>>(
@@ -305,12 +351,62 @@ pub fn row_of_binding_rest_element<N: PlainNode + Drop, R: RowOf<N>>(
     R::of_row(Row::BindingRestElement(binding_rest_element))
 }
 
+pub fn row_of_assignment_target<N: PlainNode + Drop, R: RowOf<N>>(
+    alloc: Global,
+    other: OtherAssignmentTarget<N>,
+) -> Result<R, InputFault>
+    ensures { Same R.plain result (Ok (assignment_target_plain N.plain other.assignment_target)) }
+{
+    let other = Box::new(alloc, other)?;
+    Ok(R::of_row(Row::AssignmentTarget(other)))
+}
+
+pub fn row_of_assignment_target_with_default<N: PlainNode + Drop, R: RowOf<N>>(
+    assignment_target_with_default: Box<AssignmentTargetWithDefault<N>>,
+) -> R
+    ensures { R.plain result ≡ assignment_target_with_default_row N.plain assignment_target_with_default.value }
+{
+    R::of_row(Row::AssignmentTargetWithDefault(assignment_target_with_default))
+}
+
+pub fn row_of_assignment_target_property_identifier<N: PlainNode + Drop, R: RowOf<N>>(
+    assignment_target_property_identifier: Box<AssignmentTargetPropertyIdentifier<N>>,
+) -> R
+    ensures { R.plain result ≡ assignment_target_property_identifier_row N.plain assignment_target_property_identifier.value }
+{
+    R::of_row(Row::AssignmentTargetPropertyIdentifier(assignment_target_property_identifier))
+}
+
+pub fn row_of_assignment_target_property_property<N: PlainNode + Drop, R: RowOf<N>>(
+    assignment_target_property_property: Box<AssignmentTargetPropertyProperty<N>>,
+) -> R
+    ensures { R.plain result ≡ assignment_target_property_property_row N.plain assignment_target_property_property.value }
+{
+    R::of_row(Row::AssignmentTargetPropertyProperty(assignment_target_property_property))
+}
+
+pub fn row_of_assignment_target_rest<N: PlainNode + Drop, R: RowOf<N>>(
+    assignment_target_rest: Box<AssignmentTargetRest<N>>,
+) -> R
+    ensures { R.plain result ≡ assignment_target_rest_row N.plain assignment_target_rest.value }
+{
+    R::of_row(Row::AssignmentTargetRest(assignment_target_rest))
+}
+
 pub fn row_of_private_identifier<N: PlainNode + Drop, R: RowOf<N>>(
     private_identifier: Box<PrivateIdentifier>,
 ) -> R
     ensures { R.plain result ≡ private_identifier_row private_identifier.value }
 {
     R::of_row(Row::PrivateIdentifier(private_identifier))
+}
+
+pub fn row_of_private_field_expression<N: PlainNode + Drop, R: RowOf<N>>(
+    private_field_expression: Box<PrivateFieldExpression<N>>,
+) -> R
+    ensures { R.plain result ≡ private_field_expression_row N.plain private_field_expression.value }
+{
+    R::of_row(Row::PrivateFieldExpression(private_field_expression))
 }
 
 pub fn row_of_class<N: PlainNode + Drop, R: RowOf<N>>(class: Box<Class<N>>) -> R

@@ -3,16 +3,16 @@
 ghost use Rattle.std.specs.Prelude.{◌≡◌, IfOk, Some, None, option_map, if◌then◌else◌};
 ghost use Rattle.jsgen_tree.specs.Tree.{type_of};
 ghost use Rattle.jsgen_tree.specs.Sets.{in_set};
-ghost use Rattle.jsgen_tree.specs.Rows.{in_expression, in_argument, in_array_expression_element, in_chain_element, in_simple_assignment_target, in_assignment_target, in_arrow_function_body, in_for_statement_init, in_for_statement_left, in_property_key, in_declaration, in_statement, binding_identifier_row, block_statement_row, expression_plain, declaration_plain, statement_plain, binding_pattern_plain};
+ghost use Rattle.jsgen_tree.specs.Rows.{in_expression, in_argument, in_array_expression_element, in_chain_element, in_assignment_target, in_assignment_target_maybe_default, in_arrow_function_body, in_for_statement_init, in_for_statement_left, in_property_key, in_declaration, in_statement, binding_identifier_row, block_statement_row, expression_plain, declaration_plain, statement_plain, binding_pattern_plain};
 ghost use Rattle.jsgen_tree.specs.declared.types.NodeSet.TheVariants as sets;
 
 use crate::asked::{HoldsStatement, PlainNode};
 use crate::others::{OtherDeclaration, OtherExpression, OtherStatement};
 use jsgen_tree::{
-    Argument, ArrayExpressionElement, ArrowFunctionBody, AssignmentTarget, BindingIdentifier,
-    BindingPattern, BlockStatement, ChainElement, Declaration, DeclarationNode, Expression,
-    ExpressionNode, ForStatementInit, ForStatementLeft, PropertyKey, SimpleAssignmentTarget,
-    Statement, StatementNode,
+    Argument, ArrayExpressionElement, ArrowFunctionBody, AssignmentTargetMaybeDefault,
+    AssignmentTargetNode, BindingIdentifier, BindingPattern, BlockStatement, ChainElement,
+    Declaration, DeclarationNode, Expression, ExpressionNode, ForStatementInit, ForStatementLeft,
+    PropertyKey, Statement, StatementNode,
 };
 use std::alloc::{AllocError, Global};
 
@@ -78,6 +78,26 @@ pub fn for_statement_init_of_expression<N: PlainNode + Drop>(
     Ok(Some(ForStatementInit::Expression(expression)))
 }
 
+pub fn for_statement_left_of_assignment_target<N: PlainNode + Drop>(
+    alloc: Global,
+    assignment_target: AssignmentTargetNode<N>,
+) -> Result<Option<ForStatementLeft<N>>, AllocError>
+    ensures { IfOk result (λ child. option_map (in_for_statement_left N.plain) child ≡ Some (in_assignment_target N.plain assignment_target)) }
+{
+    let assignment_target = Box::new(alloc, assignment_target)?;
+    Ok(Some(ForStatementLeft::AssignmentTarget(assignment_target)))
+}
+
+pub fn assignment_target_maybe_default_of_assignment_target<N: PlainNode + Drop>(
+    alloc: Global,
+    assignment_target: AssignmentTargetNode<N>,
+) -> Result<Option<AssignmentTargetMaybeDefault<N>>, AllocError>
+    ensures { IfOk result (λ child. option_map (in_assignment_target_maybe_default N.plain) child ≡ Some (in_assignment_target N.plain assignment_target)) }
+{
+    let assignment_target = Box::new(alloc, assignment_target)?;
+    Ok(Some(AssignmentTargetMaybeDefault::AssignmentTarget(assignment_target)))
+}
+
 // ---- a place that takes some types of a set
 
 pub fn chain_element_of_expression<N: PlainNode + Drop>(
@@ -88,64 +108,7 @@ pub fn chain_element_of_expression<N: PlainNode + Drop>(
 {
     let expression = row.expression;
     match expression {
-        Expression::StaticMemberExpression(row) => Some(ChainElement::StaticMemberExpression(row)),
-        Expression::ComputedMemberExpression(row) => Some(ChainElement::ComputedMemberExpression(
-            row,
-        )),
         Expression::CallExpression(row) => Some(ChainElement::CallExpression(row)),
-        Expression::PrivateFieldExpression(row) => Some(ChainElement::PrivateFieldExpression(row)),
-        rest => {
-            drop(rest);
-            None
-        }
-    }
-}
-
-pub fn simple_assignment_target_of_expression<N: PlainNode + Drop>(
-    row: OtherExpression<N>,
-) -> Option<SimpleAssignmentTarget<N>>
-    ensures { option_map (in_simple_assignment_target N.plain) result
-        ≡ (if in_set sets.SimpleAssignmentTarget (type_of (expression_plain N.plain row.expression)) then Some (expression_plain N.plain row.expression) else None) }
-{
-    let expression = row.expression;
-    match expression {
-        Expression::IdentifierReference(row) => Some(SimpleAssignmentTarget::IdentifierReference(
-            row,
-        )),
-        Expression::StaticMemberExpression(row) => Some(
-            SimpleAssignmentTarget::StaticMemberExpression(row),
-        ),
-        Expression::ComputedMemberExpression(row) => Some(
-            SimpleAssignmentTarget::ComputedMemberExpression(row),
-        ),
-        Expression::PrivateFieldExpression(row) => Some(
-            SimpleAssignmentTarget::PrivateFieldExpression(row),
-        ),
-        rest => {
-            drop(rest);
-            None
-        }
-    }
-}
-
-pub fn assignment_target_of_expression<N: PlainNode + Drop>(
-    row: OtherExpression<N>,
-) -> Option<AssignmentTarget<N>>
-    ensures { option_map (in_assignment_target N.plain) result
-        ≡ (if in_set sets.AssignmentTarget (type_of (expression_plain N.plain row.expression)) then Some (expression_plain N.plain row.expression) else None) }
-{
-    let expression = row.expression;
-    match expression {
-        Expression::IdentifierReference(row) => Some(AssignmentTarget::IdentifierReference(row)),
-        Expression::StaticMemberExpression(row) => Some(AssignmentTarget::StaticMemberExpression(
-            row,
-        )),
-        Expression::ComputedMemberExpression(row) => Some(
-            AssignmentTarget::ComputedMemberExpression(row),
-        ),
-        Expression::PrivateFieldExpression(row) => Some(AssignmentTarget::PrivateFieldExpression(
-            row,
-        )),
         rest => {
             drop(rest);
             None
@@ -193,31 +156,6 @@ pub fn for_statement_left_of_declaration<N: PlainNode + Drop>(
     let declaration = row.declaration;
     match declaration {
         Declaration::VariableDeclaration(row) => Some(ForStatementLeft::VariableDeclaration(row)),
-        rest => {
-            drop(rest);
-            None
-        }
-    }
-}
-
-pub fn for_statement_left_of_expression<N: PlainNode + Drop>(
-    row: OtherExpression<N>,
-) -> Option<ForStatementLeft<N>>
-    ensures { option_map (in_for_statement_left N.plain) result
-        ≡ (if in_set sets.ForStatementLeft (type_of (expression_plain N.plain row.expression)) then Some (expression_plain N.plain row.expression) else None) }
-{
-    let expression = row.expression;
-    match expression {
-        Expression::IdentifierReference(row) => Some(ForStatementLeft::IdentifierReference(row)),
-        Expression::StaticMemberExpression(row) => Some(ForStatementLeft::StaticMemberExpression(
-            row,
-        )),
-        Expression::ComputedMemberExpression(row) => Some(
-            ForStatementLeft::ComputedMemberExpression(row),
-        ),
-        Expression::PrivateFieldExpression(row) => Some(ForStatementLeft::PrivateFieldExpression(
-            row,
-        )),
         rest => {
             drop(rest);
             None

@@ -61,7 +61,7 @@ const TYPE_NAMES: [(&str, NodeType); 50] = [
     ("DoWhileStatement", NodeType::DoWhileStatement),
 ];
 
-const TYPE_NAMES_2: [(&str, NodeType); 24] = [
+const TYPE_NAMES_2: [(&str, NodeType); 30] = [
     ("LabelIdentifier", NodeType::LabelIdentifier),
     ("LabeledStatement", NodeType::LabeledStatement),
     ("ContinueStatement", NodeType::ContinueStatement),
@@ -78,6 +78,21 @@ const TYPE_NAMES_2: [(&str, NodeType); 24] = [
     ("BindingRestElement", NodeType::BindingRestElement),
     ("ArrayPattern", NodeType::ArrayPattern),
     ("AssignmentPattern", NodeType::AssignmentPattern),
+    ("ArrayAssignmentTarget", NodeType::ArrayAssignmentTarget),
+    ("ObjectAssignmentTarget", NodeType::ObjectAssignmentTarget),
+    (
+        "AssignmentTargetWithDefault",
+        NodeType::AssignmentTargetWithDefault,
+    ),
+    (
+        "AssignmentTargetPropertyIdentifier",
+        NodeType::AssignmentTargetPropertyIdentifier,
+    ),
+    (
+        "AssignmentTargetPropertyProperty",
+        NodeType::AssignmentTargetPropertyProperty,
+    ),
+    ("AssignmentTargetRest", NodeType::AssignmentTargetRest),
     ("PrivateIdentifier", NodeType::PrivateIdentifier),
     ("PrivateFieldExpression", NodeType::PrivateFieldExpression),
     ("PrivateInExpression", NodeType::PrivateInExpression),

@@ -4,7 +4,7 @@ ghost use Rattle.std.specs.Prelude.{true, false, map, option_map};
 ghost use Rattle.serde_json.specs.View.{view};
 ghost use Rattle.jsgen_tree.specs.Tree.{optional, trees, holed};
 ghost use Rattle.jsgen_tree.specs.Table.{needed, may_be_absent, child, children as many, children_or_holes as many_or_holes};
-ghost use Rattle.jsgen_tree.specs.Rows.{in_expression, in_argument, in_array_expression_element, in_chain_element, in_simple_assignment_target, in_assignment_target, in_arrow_function_body, in_for_statement_init, in_for_statement_left, in_object_property_kind, in_property_key, in_statement, in_binding_pattern, in_class_element, comment_row, directive_row, variable_declarator_row, binding_identifier_row, block_statement_row, identifier_name_row, formal_parameter_row, formal_parameter_rest_row, formal_parameters_row, function_row, function_body_row, label_identifier_row, switch_case_row, catch_clause_row, binding_property_row, binding_rest_element_row, private_identifier_row, class_body_row};
+ghost use Rattle.jsgen_tree.specs.Rows.{in_expression, in_argument, in_array_expression_element, in_chain_element, in_simple_assignment_target, in_assignment_target, in_assignment_target_maybe_default, in_assignment_target_property, in_arrow_function_body, in_for_statement_init, in_for_statement_left, in_object_property_kind, in_property_key, in_statement, in_binding_pattern, in_class_element, comment_row, directive_row, variable_declarator_row, binding_identifier_row, block_statement_row, identifier_reference_row, identifier_name_row, formal_parameter_row, formal_parameter_rest_row, formal_parameters_row, function_row, function_body_row, label_identifier_row, switch_case_row, catch_clause_row, binding_property_row, binding_rest_element_row, assignment_target_rest_row, private_identifier_row, class_body_row};
 ghost use Rattle.jsgen_fields.specs.Values.{at, field as value_under};
 ghost use Rattle.jsgen_fields.specs.Meaning.{a_child, a_maybe, a_list};
 ghost use Rattle.jsgen_fields.specs.Reads.{Gives, read_children};
@@ -13,18 +13,20 @@ ghost use Rattle.jsgen_tree.specs.declared.types.NodeSet.TheVariants as sets;
 
 use crate::InputFault;
 use crate::asked::{
-    HoldsBindingPattern, HoldsClassElement, HoldsDeclaration, HoldsExpression, HoldsStatement,
-    PlainNode, RowOf,
+    HoldsAssignmentTarget, HoldsBindingPattern, HoldsClassElement, HoldsDeclaration,
+    HoldsExpression, HoldsStatement, PlainNode, RowOf,
 };
 use crate::fields::{children, children_or_holes, needed_child, optional_child};
 use jsgen_pool::Kept;
 use jsgen_tree::{
-    Argument, ArrayExpressionElement, ArrowFunctionBody, AssignmentTarget, BindingIdentifier,
+    Argument, ArrayExpressionElement, ArrowFunctionBody, AssignmentTargetMaybeDefault,
+    AssignmentTargetNode, AssignmentTargetProperty, AssignmentTargetRest, BindingIdentifier,
     BindingPatternNode, BindingProperty, BindingRestElement, BlockStatement, CatchClause,
     ChainElement, ClassBody, ClassElementNode, Comment, Directive, ExpressionNode,
     ForStatementInit, ForStatementLeft, FormalParameter, FormalParameterRest, FormalParameters,
-    Function, FunctionBody, IdentifierName, LabelIdentifier, ObjectPropertyKind, PrivateIdentifier,
-    PropertyKey, SimpleAssignmentTarget, StatementNode, SwitchCase, VariableDeclarator,
+    Function, FunctionBody, IdentifierName, IdentifierReference, LabelIdentifier,
+    ObjectPropertyKind, PrivateIdentifier, PropertyKey, SimpleAssignmentTarget, StatementNode,
+    SwitchCase, VariableDeclarator,
 };
 use serde_json::Value;
 use std::alloc::Global;
@@ -267,14 +269,14 @@ pub fn expression_list<N: HoldsExpression + Drop, R: RowOf<N> + Drop>(
     children::<N, R, _>(alloc, kept, number, field, row, name)
 }
 
-pub fn needed_assignment_target<N: PlainNode + Drop, R: RowOf<N> + Drop>(
+pub fn needed_assignment_target<N: HoldsAssignmentTarget + Drop, R: RowOf<N> + Drop>(
     alloc: Global,
     kept: &mut Vec<Kept<R>>,
     number: usize,
     field: usize,
     row: &Value,
     name: &str,
-) -> Result<AssignmentTarget<N>, InputFault>
+) -> Result<AssignmentTargetNode<N>, InputFault>
     ensures { Gives (λ c. a_child (in_assignment_target N.plain c)) result (entries R.plain kept.new.items)
         (read_children (at number field) true needed (child sets.AssignmentTarget) (value_under name.now (view row.now)) (entries R.plain kept.old.items)) }
 {
@@ -379,7 +381,7 @@ pub fn optional_for_statement_init<N: HoldsExpression + Drop, R: RowOf<N> + Drop
     optional_child::<N, R, _>(alloc, kept, number, field, row, name)
 }
 
-pub fn needed_for_statement_left<N: PlainNode + Drop, R: RowOf<N> + Drop>(
+pub fn needed_for_statement_left<N: HoldsAssignmentTarget + Drop, R: RowOf<N> + Drop>(
     alloc: Global,
     kept: &mut Vec<Kept<R>>,
     number: usize,
@@ -531,6 +533,79 @@ pub fn binding_pattern_or_hole_list<N: HoldsBindingPattern + Drop, R: RowOf<N> +
         (read_children (at number field) false may_be_absent (many_or_holes sets.BindingPattern) (value_under name.now (view row.now)) (entries R.plain kept.old.items)) }
 {
     children_or_holes::<N, R, _>(alloc, kept, number, field, row, name)
+}
+
+pub fn assignment_target_maybe_default_or_hole_list<
+    N: HoldsAssignmentTarget + Drop,
+    R: RowOf<N> + Drop,
+>(
+    alloc: Global,
+    kept: &mut Vec<Kept<R>>,
+    number: usize,
+    field: usize,
+    row: &Value,
+    name: &str,
+) -> Result<Vec<Option<AssignmentTargetMaybeDefault<N>>>, InputFault>
+    ensures { Gives (λ v. a_list (holed (map (option_map (in_assignment_target_maybe_default N.plain)) v.items))) result (entries R.plain kept.new.items)
+        (read_children (at number field) false may_be_absent (many_or_holes sets.AssignmentTargetMaybeDefault) (value_under name.now (view row.now)) (entries R.plain kept.old.items)) }
+{
+    children_or_holes::<N, R, _>(alloc, kept, number, field, row, name)
+}
+
+pub fn optional_assignment_target_rest<N: PlainNode + Drop, R: RowOf<N> + Drop>(
+    alloc: Global,
+    kept: &mut Vec<Kept<R>>,
+    number: usize,
+    field: usize,
+    row: &Value,
+    name: &str,
+) -> Result<Option<Box<AssignmentTargetRest<N>>>, InputFault>
+    ensures { Gives (λ o. a_maybe (optional (option_map (λ b. assignment_target_rest_row N.plain b.value) o))) result (entries R.plain kept.new.items)
+        (read_children (at number field) false may_be_absent (child sets.AssignmentTargetRest) (value_under name.now (view row.now)) (entries R.plain kept.old.items)) }
+{
+    optional_child::<N, R, _>(alloc, kept, number, field, row, name)
+}
+
+pub fn assignment_target_property_list<N: PlainNode + Drop, R: RowOf<N> + Drop>(
+    alloc: Global,
+    kept: &mut Vec<Kept<R>>,
+    number: usize,
+    field: usize,
+    row: &Value,
+    name: &str,
+) -> Result<Vec<AssignmentTargetProperty<N>>, InputFault>
+    ensures { Gives (λ v. a_list (trees (map (in_assignment_target_property N.plain) v.items))) result (entries R.plain kept.new.items)
+        (read_children (at number field) false may_be_absent (many sets.AssignmentTargetProperty) (value_under name.now (view row.now)) (entries R.plain kept.old.items)) }
+{
+    children::<N, R, _>(alloc, kept, number, field, row, name)
+}
+
+pub fn needed_identifier_reference<N: PlainNode + Drop, R: RowOf<N> + Drop>(
+    alloc: Global,
+    kept: &mut Vec<Kept<R>>,
+    number: usize,
+    field: usize,
+    row: &Value,
+    name: &str,
+) -> Result<Box<IdentifierReference>, InputFault>
+    ensures { Gives (λ c. a_child (identifier_reference_row c.value)) result (entries R.plain kept.new.items)
+        (read_children (at number field) true needed (child sets.IdentifierReference) (value_under name.now (view row.now)) (entries R.plain kept.old.items)) }
+{
+    needed_child::<N, R, _>(alloc, kept, number, field, row, name)
+}
+
+pub fn needed_assignment_target_maybe_default<N: HoldsAssignmentTarget + Drop, R: RowOf<N> + Drop>(
+    alloc: Global,
+    kept: &mut Vec<Kept<R>>,
+    number: usize,
+    field: usize,
+    row: &Value,
+    name: &str,
+) -> Result<AssignmentTargetMaybeDefault<N>, InputFault>
+    ensures { Gives (λ c. a_child (in_assignment_target_maybe_default N.plain c)) result (entries R.plain kept.new.items)
+        (read_children (at number field) true needed (child sets.AssignmentTargetMaybeDefault) (value_under name.now (view row.now)) (entries R.plain kept.old.items)) }
+{
+    needed_child::<N, R, _>(alloc, kept, number, field, row, name)
 }
 
 pub fn needed_private_identifier<N: PlainNode + Drop, R: RowOf<N> + Drop>(

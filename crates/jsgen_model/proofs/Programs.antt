@@ -3,10 +3,11 @@
 use Rattle.std.proofs.Common.{refl}
 use Rattle.std.proofs.lemmas.Bool.{and_from}
 use Rattle.jsgen_tree.specs.Plain.{node_plain, layer}
-use Rattle.jsgen_tree.proofs.Cases.{with_argument, with_array_expression_element, with_object_property_kind, variable_declarator_by_init, if_statement_by_alternate, chain_expression_by_expression, boxed_object_property_by_key, update_expression_by_argument, assignment_expression_by_left, formal_parameter_by_initializer, boxed_formal_parameters_by_rest, function_by_params, boxed_function_by_params, function_by_body, boxed_function_by_body, arrow_function_expression_by_params, arrow_function_expression_by_body, for_statement_by_init, for_statement_by_test, for_statement_by_update, for_in_statement_by_left, for_of_statement_by_left, return_statement_by_argument, switch_case_by_test, try_statement_by_handler, try_statement_by_finalizer, boxed_catch_clause_by_param, object_pattern_by_rest, binding_property_by_key, array_pattern_by_rest, class_by_heritage, method_definition_by_key, method_definition_by_value, property_definition_by_key, property_definition_by_value}
+use Rattle.jsgen_tree.proofs.Cases.{with_argument, with_array_expression_element, with_assignment_target_maybe_default, with_assignment_target_property, with_object_property_kind, variable_declarator_by_init, if_statement_by_alternate, chain_expression_by_expression, boxed_object_property_by_key, update_expression_by_argument, formal_parameter_by_initializer, boxed_formal_parameters_by_rest, function_by_params, boxed_function_by_params, function_by_body, boxed_function_by_body, arrow_function_expression_by_params, arrow_function_expression_by_body, for_statement_by_init, for_statement_by_test, for_statement_by_update, for_in_statement_by_left, for_of_statement_by_left, return_statement_by_argument, switch_case_by_test, try_statement_by_handler, try_statement_by_finalizer, boxed_catch_clause_by_param, object_pattern_by_rest, binding_property_by_key, array_pattern_by_rest, array_assignment_target_by_rest, object_assignment_target_by_rest, boxed_assignment_target_property_identifier_by_init, boxed_assignment_target_property_property_by_name, boxed_assignment_target_property_property_by_binding, class_by_heritage, method_definition_by_key, method_definition_by_value, property_definition_by_key, property_definition_by_value}
 use Rattle.jsgen_tree.specs.declared.nodes.Node.{Node, Node-F, map-Node}
 use Rattle.jsgen_tree.specs.Tree.{Tree}
 use Rattle.jsgen_tree.specs.declared.sets.Expression.{Expression}
+use Rattle.jsgen_tree.specs.declared.sets.AssignmentTarget.{AssignmentTarget}
 use Rattle.jsgen_tree.specs.declared.sets.Declaration.{Declaration}
 use Rattle.jsgen_tree.specs.declared.sets.Statement.{Statement}
 use Rattle.jsgen_tree.specs.declared.sets.BindingPattern.{BindingPattern}
@@ -15,6 +16,7 @@ use Rattle.jsgen_tree.proofs.Layers.{with_hole}
 use Rattle.jsgen_model.proofs.FormedRows.{IsFormed, no_hole, all_formed, no_hole_changed, all_changed, all_changed_or_holes, if_given_formed, number_is_formed, string_is_formed}
 use Rattle.jsgen_tree.specs.declared.nodes.Node.TheOpen as opened
 use Rattle.jsgen_tree.specs.declared.sets.Expression.TheVariants as expressions
+use Rattle.jsgen_tree.specs.declared.sets.AssignmentTarget.TheVariants as assignment_targets
 use Rattle.jsgen_tree.specs.declared.sets.Declaration.TheVariants as declarations
 use Rattle.jsgen_tree.specs.declared.sets.Statement.TheVariants as statements
 use Rattle.jsgen_tree.specs.declared.sets.BindingPattern.TheVariants as binding_patterns
@@ -47,12 +49,20 @@ module _ {A : Type 0} (f : A → Node) (h : (a : A) → IsFormed (node_plain (f 
   expression_is_formed (expressions.ImportMeta b) = (refl, tt)
   expression_is_formed (expressions.ConditionalExpression b) = (refl, (h b.value.test.node, (h b.value.consequent.node, (h b.value.alternate.node, tt))))
   expression_is_formed (expressions.SequenceExpression b) = (no_hole_changed _ _ _ b.value.expressions.items, (all_changed _ _ _ (λ n. h n.node) b.value.expressions.items, tt))
-  expression_is_formed (expressions.AssignmentExpression b) = (assignment_expression_by_left (λ n. IsFormed (layer (map-Node Node Tree node_plain (map-Node A Node f (opened.Expression (expressions.AssignmentExpression (record b { value = n }))))))) (λ n_left. (λ n. (refl, ((refl, tt), (h n.right.node, tt))))) (λ n_left. (λ n. (refl, ((refl, (h n_left.value.object.node, ((refl, tt), tt))), (h n.right.node, tt))))) (λ n_left. (λ n. (refl, ((refl, (h n_left.value.object.node, (h n_left.value.expression.node, tt))), (h n.right.node, tt))))) (λ n_left. (λ n. (refl, ((refl, (h n_left.value.object.node, ((refl, tt), tt))), (h n.right.node, tt)))))) b.value
+  expression_is_formed (expressions.AssignmentExpression b) = (refl, (h b.value.left.node, (h b.value.right.node, tt)))
   expression_is_formed (expressions.Function b) = (function_by_params (λ n. IsFormed (layer (map-Node Node Tree node_plain (map-Node A Node f (opened.Expression (expressions.Function (record b { value = n }))))))) (boxed_formal_parameters_by_rest _ (λ n_params. (function_by_body _ (λ n. (refl, (if_given_formed _ (λ b. (refl, tt)) n.id, ((no_hole_changed _ _ _ n_params.value.items.items, (all_changed _ _ _ (formal_parameter_by_initializer _ (λ n. (refl, (h n.pattern.node, (tt, tt)))) (λ n_initializer. (λ n. (refl, (h n.pattern.node, (h n_initializer.node, tt)))))) n_params.value.items.items, (tt, tt))), (tt, tt))))) (λ n_body. (λ n. (refl, (if_given_formed _ (λ b. (refl, tt)) n.id, ((no_hole_changed _ _ _ n_params.value.items.items, (all_changed _ _ _ (formal_parameter_by_initializer _ (λ n. (refl, (h n.pattern.node, (tt, tt)))) (λ n_initializer. (λ n. (refl, (h n.pattern.node, (h n_initializer.node, tt)))))) n_params.value.items.items, (tt, tt))), ((and_from _ _ (no_hole _ n_body.value.directives.items) (no_hole_changed _ _ _ n_body.value.statements.items), (all_formed _ (λ d. (refl, tt)) n_body.value.directives.items, (all_changed _ _ _ (λ n. h n.node) n_body.value.statements.items, tt))), tt)))))))) (λ n_params_rest. (λ n_params. (function_by_body _ (λ n. (refl, (if_given_formed _ (λ b. (refl, tt)) n.id, ((no_hole_changed _ _ _ n_params.value.items.items, (all_changed _ _ _ (formal_parameter_by_initializer _ (λ n. (refl, (h n.pattern.node, (tt, tt)))) (λ n_initializer. (λ n. (refl, (h n.pattern.node, (h n_initializer.node, tt)))))) n_params.value.items.items, ((refl, (h n_params_rest.value.argument.node, tt)), tt))), (tt, tt))))) (λ n_body. (λ n. (refl, (if_given_formed _ (λ b. (refl, tt)) n.id, ((no_hole_changed _ _ _ n_params.value.items.items, (all_changed _ _ _ (formal_parameter_by_initializer _ (λ n. (refl, (h n.pattern.node, (tt, tt)))) (λ n_initializer. (λ n. (refl, (h n.pattern.node, (h n_initializer.node, tt)))))) n_params.value.items.items, ((refl, (h n_params_rest.value.argument.node, tt)), tt))), ((and_from _ _ (no_hole _ n_body.value.directives.items) (no_hole_changed _ _ _ n_body.value.statements.items), (all_formed _ (λ d. (refl, tt)) n_body.value.directives.items, (all_changed _ _ _ (λ n. h n.node) n_body.value.statements.items, tt))), tt))))))))))) b.value
   expression_is_formed (expressions.ArrowFunctionExpression b) = (arrow_function_expression_by_params (λ n. IsFormed (layer (map-Node Node Tree node_plain (map-Node A Node f (opened.Expression (expressions.ArrowFunctionExpression (record b { value = n }))))))) (boxed_formal_parameters_by_rest _ (λ n_params. (arrow_function_expression_by_body _ (λ n_body. (λ n. (refl, ((no_hole_changed _ _ _ n_params.value.items.items, (all_changed _ _ _ (formal_parameter_by_initializer _ (λ n. (refl, (h n.pattern.node, (tt, tt)))) (λ n_initializer. (λ n. (refl, (h n.pattern.node, (h n_initializer.node, tt)))))) n_params.value.items.items, (tt, tt))), ((and_from _ _ (no_hole _ n_body.value.directives.items) (no_hole_changed _ _ _ n_body.value.statements.items), (all_formed _ (λ d. (refl, tt)) n_body.value.directives.items, (all_changed _ _ _ (λ n. h n.node) n_body.value.statements.items, tt))), tt))))) (λ n_body. (λ n. (refl, ((no_hole_changed _ _ _ n_params.value.items.items, (all_changed _ _ _ (formal_parameter_by_initializer _ (λ n. (refl, (h n.pattern.node, (tt, tt)))) (λ n_initializer. (λ n. (refl, (h n.pattern.node, (h n_initializer.node, tt)))))) n_params.value.items.items, (tt, tt))), (h n_body.value.node, tt))))))) (λ n_params_rest. (λ n_params. (arrow_function_expression_by_body _ (λ n_body. (λ n. (refl, ((no_hole_changed _ _ _ n_params.value.items.items, (all_changed _ _ _ (formal_parameter_by_initializer _ (λ n. (refl, (h n.pattern.node, (tt, tt)))) (λ n_initializer. (λ n. (refl, (h n.pattern.node, (h n_initializer.node, tt)))))) n_params.value.items.items, ((refl, (h n_params_rest.value.argument.node, tt)), tt))), ((and_from _ _ (no_hole _ n_body.value.directives.items) (no_hole_changed _ _ _ n_body.value.statements.items), (all_formed _ (λ d. (refl, tt)) n_body.value.directives.items, (all_changed _ _ _ (λ n. h n.node) n_body.value.statements.items, tt))), tt))))) (λ n_body. (λ n. (refl, ((no_hole_changed _ _ _ n_params.value.items.items, (all_changed _ _ _ (formal_parameter_by_initializer _ (λ n. (refl, (h n.pattern.node, (tt, tt)))) (λ n_initializer. (λ n. (refl, (h n.pattern.node, (h n_initializer.node, tt)))))) n_params.value.items.items, ((refl, (h n_params_rest.value.argument.node, tt)), tt))), (h n_body.value.node, tt)))))))))) b.value
   expression_is_formed (expressions.Class b) = (class_by_heritage (λ n. IsFormed (layer (map-Node Node Tree node_plain (map-Node A Node f (opened.Expression (expressions.Class (record b { value = n }))))))) (λ n. (refl, (if_given_formed _ (λ b. (refl, tt)) n.id, (tt, ((no_hole_changed _ _ _ n.body.value.body.items, (all_changed _ _ _ (λ n. h n.node) n.body.value.body.items, tt)), tt))))) (λ n_heritage. (λ n. (refl, (if_given_formed _ (λ b. (refl, tt)) n.id, (h n_heritage.node, ((no_hole_changed _ _ _ n.body.value.body.items, (all_changed _ _ _ (λ n. h n.node) n.body.value.body.items, tt)), tt))))))) b.value
   expression_is_formed (expressions.PrivateFieldExpression b) = (refl, (h b.value.object.node, ((refl, tt), tt)))
   expression_is_formed (expressions.PrivateInExpression b) = (refl, ((refl, tt), (h b.value.right.node, tt)))
+
+  assignment_target_is_formed : (n : AssignmentTarget A) → IsFormed (layer (map-Node Node Tree node_plain (map-Node A Node f (opened.AssignmentTarget n))))
+  assignment_target_is_formed (assignment_targets.IdentifierReference b) = (refl, tt)
+  assignment_target_is_formed (assignment_targets.StaticMemberExpression b) = (refl, (h b.value.object.node, ((refl, tt), tt)))
+  assignment_target_is_formed (assignment_targets.ComputedMemberExpression b) = (refl, (h b.value.object.node, (h b.value.expression.node, tt)))
+  assignment_target_is_formed (assignment_targets.PrivateFieldExpression b) = (refl, (h b.value.object.node, ((refl, tt), tt)))
+  assignment_target_is_formed (assignment_targets.ArrayAssignmentTarget b) = (array_assignment_target_by_rest (λ n. IsFormed (layer (map-Node Node Tree node_plain (map-Node A Node f (opened.AssignmentTarget (assignment_targets.ArrayAssignmentTarget (record b { value = n }))))))) (λ n. (refl, (all_changed_or_holes _ _ _ (with_hole _ tt (with_assignment_target_maybe_default _ (λ b. h b.value.node) (λ b. (refl, (h b.value.binding.node, (h b.value.init.node, tt)))))) n.elements.items, (tt, tt)))) (λ n_rest. (λ n. (refl, (all_changed_or_holes _ _ _ (with_hole _ tt (with_assignment_target_maybe_default _ (λ b. h b.value.node) (λ b. (refl, (h b.value.binding.node, (h b.value.init.node, tt)))))) n.elements.items, ((refl, (h n_rest.value.target.node, tt)), tt)))))) b.value
+  assignment_target_is_formed (assignment_targets.ObjectAssignmentTarget b) = (object_assignment_target_by_rest (λ n. IsFormed (layer (map-Node Node Tree node_plain (map-Node A Node f (opened.AssignmentTarget (assignment_targets.ObjectAssignmentTarget (record b { value = n }))))))) (λ n. (no_hole_changed _ _ _ n.properties.items, (all_changed _ _ _ (with_assignment_target_property _ (boxed_assignment_target_property_identifier_by_init _ (λ n. (refl, ((refl, tt), (tt, tt)))) (λ n_init. (λ n. (refl, ((refl, tt), (h n_init.node, tt)))))) (boxed_assignment_target_property_property_by_name _ (λ n_name. (boxed_assignment_target_property_property_by_binding _ (λ n_binding. (λ n. (refl, ((refl, tt), (h n_binding.value.node, tt))))) (λ n_binding. (λ n. (refl, ((refl, tt), ((refl, (h n_binding.value.binding.node, (h n_binding.value.init.node, tt))), tt))))))) (λ n_name. (boxed_assignment_target_property_property_by_binding _ (λ n_binding. (λ n. (refl, ((refl, tt), (h n_binding.value.node, tt))))) (λ n_binding. (λ n. (refl, ((refl, tt), ((refl, (h n_binding.value.binding.node, (h n_binding.value.init.node, tt))), tt))))))) (λ n_name. (boxed_assignment_target_property_property_by_binding _ (λ n_binding. (λ n. (refl, (h n_name.value.node, (h n_binding.value.node, tt))))) (λ n_binding. (λ n. (refl, (h n_name.value.node, ((refl, (h n_binding.value.binding.node, (h n_binding.value.init.node, tt))), tt))))))))) n.properties.items, (tt, tt)))) (λ n_rest. (λ n. (no_hole_changed _ _ _ n.properties.items, (all_changed _ _ _ (with_assignment_target_property _ (boxed_assignment_target_property_identifier_by_init _ (λ n. (refl, ((refl, tt), (tt, tt)))) (λ n_init. (λ n. (refl, ((refl, tt), (h n_init.node, tt)))))) (boxed_assignment_target_property_property_by_name _ (λ n_name. (boxed_assignment_target_property_property_by_binding _ (λ n_binding. (λ n. (refl, ((refl, tt), (h n_binding.value.node, tt))))) (λ n_binding. (λ n. (refl, ((refl, tt), ((refl, (h n_binding.value.binding.node, (h n_binding.value.init.node, tt))), tt))))))) (λ n_name. (boxed_assignment_target_property_property_by_binding _ (λ n_binding. (λ n. (refl, ((refl, tt), (h n_binding.value.node, tt))))) (λ n_binding. (λ n. (refl, ((refl, tt), ((refl, (h n_binding.value.binding.node, (h n_binding.value.init.node, tt))), tt))))))) (λ n_name. (boxed_assignment_target_property_property_by_binding _ (λ n_binding. (λ n. (refl, (h n_name.value.node, (h n_binding.value.node, tt))))) (λ n_binding. (λ n. (refl, (h n_name.value.node, ((refl, (h n_binding.value.binding.node, (h n_binding.value.init.node, tt))), tt))))))))) n.properties.items, ((refl, (h n_rest.value.target.node, tt)), tt)))))) b.value
 
   declaration_is_formed : (n : Declaration A) → IsFormed (layer (map-Node Node Tree node_plain (map-Node A Node f (opened.Declaration n))))
   declaration_is_formed (declarations.VariableDeclaration b) = (no_hole_changed _ _ _ b.value.declarations.items, (all_changed _ _ _ (variable_declarator_by_init _ (λ n. (refl, (h n.id.node, (tt, tt)))) (λ n_init. (λ n. (refl, (h n.id.node, (h n_init.node, tt)))))) b.value.declarations.items, tt))
@@ -66,8 +76,8 @@ module _ {A : Type 0} (f : A → Node) (h : (a : A) → IsFormed (node_plain (f 
   statement_is_formed (statements.IfStatement b) = (if_statement_by_alternate (λ n. IsFormed (layer (map-Node Node Tree node_plain (map-Node A Node f (opened.Statement (statements.IfStatement (record b { value = n }))))))) (λ n. (refl, (h n.test.node, (h n.consequent.node, (tt, tt))))) (λ n_alternate. (λ n. (refl, (h n.test.node, (h n.consequent.node, (h n_alternate.node, tt))))))) b.value
   statement_is_formed (statements.EmptyStatement b) = (refl, tt)
   statement_is_formed (statements.ForStatement b) = (for_statement_by_init (λ n. IsFormed (layer (map-Node Node Tree node_plain (map-Node A Node f (opened.Statement (statements.ForStatement (record b { value = n }))))))) (for_statement_by_test _ (for_statement_by_update _ (λ n. (refl, (tt, (tt, (tt, (h n.body.node, tt)))))) (λ n_update. (λ n. (refl, (tt, (tt, (h n_update.node, (h n.body.node, tt)))))))) (λ n_test. (for_statement_by_update _ (λ n. (refl, (tt, (h n_test.node, (tt, (h n.body.node, tt)))))) (λ n_update. (λ n. (refl, (tt, (h n_test.node, (h n_update.node, (h n.body.node, tt)))))))))) (λ n_init. (for_statement_by_test _ (for_statement_by_update _ (λ n. (refl, ((no_hole_changed _ _ _ n_init.value.declarations.items, (all_changed _ _ _ (variable_declarator_by_init _ (λ n. (refl, (h n.id.node, (tt, tt)))) (λ n_init. (λ n. (refl, (h n.id.node, (h n_init.node, tt)))))) n_init.value.declarations.items, tt)), (tt, (tt, (h n.body.node, tt)))))) (λ n_update. (λ n. (refl, ((no_hole_changed _ _ _ n_init.value.declarations.items, (all_changed _ _ _ (variable_declarator_by_init _ (λ n. (refl, (h n.id.node, (tt, tt)))) (λ n_init. (λ n. (refl, (h n.id.node, (h n_init.node, tt)))))) n_init.value.declarations.items, tt)), (tt, (h n_update.node, (h n.body.node, tt)))))))) (λ n_test. (for_statement_by_update _ (λ n. (refl, ((no_hole_changed _ _ _ n_init.value.declarations.items, (all_changed _ _ _ (variable_declarator_by_init _ (λ n. (refl, (h n.id.node, (tt, tt)))) (λ n_init. (λ n. (refl, (h n.id.node, (h n_init.node, tt)))))) n_init.value.declarations.items, tt)), (h n_test.node, (tt, (h n.body.node, tt)))))) (λ n_update. (λ n. (refl, ((no_hole_changed _ _ _ n_init.value.declarations.items, (all_changed _ _ _ (variable_declarator_by_init _ (λ n. (refl, (h n.id.node, (tt, tt)))) (λ n_init. (λ n. (refl, (h n.id.node, (h n_init.node, tt)))))) n_init.value.declarations.items, tt)), (h n_test.node, (h n_update.node, (h n.body.node, tt))))))))))) (λ n_init. (for_statement_by_test _ (for_statement_by_update _ (λ n. (refl, (h n_init.value.node, (tt, (tt, (h n.body.node, tt)))))) (λ n_update. (λ n. (refl, (h n_init.value.node, (tt, (h n_update.node, (h n.body.node, tt)))))))) (λ n_test. (for_statement_by_update _ (λ n. (refl, (h n_init.value.node, (h n_test.node, (tt, (h n.body.node, tt)))))) (λ n_update. (λ n. (refl, (h n_init.value.node, (h n_test.node, (h n_update.node, (h n.body.node, tt)))))))))))) b.value
-  statement_is_formed (statements.ForInStatement b) = (for_in_statement_by_left (λ n. IsFormed (layer (map-Node Node Tree node_plain (map-Node A Node f (opened.Statement (statements.ForInStatement (record b { value = n }))))))) (λ n_left. (λ n. (refl, ((no_hole_changed _ _ _ n_left.value.declarations.items, (all_changed _ _ _ (variable_declarator_by_init _ (λ n. (refl, (h n.id.node, (tt, tt)))) (λ n_init. (λ n. (refl, (h n.id.node, (h n_init.node, tt)))))) n_left.value.declarations.items, tt)), (h n.right.node, (h n.body.node, tt)))))) (λ n_left. (λ n. (refl, ((refl, tt), (h n.right.node, (h n.body.node, tt)))))) (λ n_left. (λ n. (refl, ((refl, (h n_left.value.object.node, ((refl, tt), tt))), (h n.right.node, (h n.body.node, tt)))))) (λ n_left. (λ n. (refl, ((refl, (h n_left.value.object.node, (h n_left.value.expression.node, tt))), (h n.right.node, (h n.body.node, tt)))))) (λ n_left. (λ n. (refl, ((refl, (h n_left.value.object.node, ((refl, tt), tt))), (h n.right.node, (h n.body.node, tt))))))) b.value
-  statement_is_formed (statements.ForOfStatement b) = (for_of_statement_by_left (λ n. IsFormed (layer (map-Node Node Tree node_plain (map-Node A Node f (opened.Statement (statements.ForOfStatement (record b { value = n }))))))) (λ n_left. (λ n. (refl, ((no_hole_changed _ _ _ n_left.value.declarations.items, (all_changed _ _ _ (variable_declarator_by_init _ (λ n. (refl, (h n.id.node, (tt, tt)))) (λ n_init. (λ n. (refl, (h n.id.node, (h n_init.node, tt)))))) n_left.value.declarations.items, tt)), (h n.right.node, (h n.body.node, tt)))))) (λ n_left. (λ n. (refl, ((refl, tt), (h n.right.node, (h n.body.node, tt)))))) (λ n_left. (λ n. (refl, ((refl, (h n_left.value.object.node, ((refl, tt), tt))), (h n.right.node, (h n.body.node, tt)))))) (λ n_left. (λ n. (refl, ((refl, (h n_left.value.object.node, (h n_left.value.expression.node, tt))), (h n.right.node, (h n.body.node, tt)))))) (λ n_left. (λ n. (refl, ((refl, (h n_left.value.object.node, ((refl, tt), tt))), (h n.right.node, (h n.body.node, tt))))))) b.value
+  statement_is_formed (statements.ForInStatement b) = (for_in_statement_by_left (λ n. IsFormed (layer (map-Node Node Tree node_plain (map-Node A Node f (opened.Statement (statements.ForInStatement (record b { value = n }))))))) (λ n_left. (λ n. (refl, ((no_hole_changed _ _ _ n_left.value.declarations.items, (all_changed _ _ _ (variable_declarator_by_init _ (λ n. (refl, (h n.id.node, (tt, tt)))) (λ n_init. (λ n. (refl, (h n.id.node, (h n_init.node, tt)))))) n_left.value.declarations.items, tt)), (h n.right.node, (h n.body.node, tt)))))) (λ n_left. (λ n. (refl, (h n_left.value.node, (h n.right.node, (h n.body.node, tt))))))) b.value
+  statement_is_formed (statements.ForOfStatement b) = (for_of_statement_by_left (λ n. IsFormed (layer (map-Node Node Tree node_plain (map-Node A Node f (opened.Statement (statements.ForOfStatement (record b { value = n }))))))) (λ n_left. (λ n. (refl, ((no_hole_changed _ _ _ n_left.value.declarations.items, (all_changed _ _ _ (variable_declarator_by_init _ (λ n. (refl, (h n.id.node, (tt, tt)))) (λ n_init. (λ n. (refl, (h n.id.node, (h n_init.node, tt)))))) n_left.value.declarations.items, tt)), (h n.right.node, (h n.body.node, tt)))))) (λ n_left. (λ n. (refl, (h n_left.value.node, (h n.right.node, (h n.body.node, tt))))))) b.value
   statement_is_formed (statements.WhileStatement b) = (refl, (h b.value.test.node, (h b.value.body.node, tt)))
   statement_is_formed (statements.DoWhileStatement b) = (refl, (h b.value.body.node, (h b.value.test.node, tt)))
   statement_is_formed (statements.LabeledStatement b) = (refl, ((refl, tt), (h b.value.body.node, tt)))
@@ -92,6 +102,7 @@ module _ {A : Type 0} (f : A → Node) (h : (a : A) → IsFormed (node_plain (f 
 
   pub layer_is_formed : (y : Node-F A) → IsFormed (layer (map-Node Node Tree node_plain (map-Node A Node f y)))
   layer_is_formed (opened.Expression n) = expression_is_formed n
+  layer_is_formed (opened.AssignmentTarget n) = assignment_target_is_formed n
   layer_is_formed (opened.Declaration n) = declaration_is_formed n
   layer_is_formed (opened.Statement n) = statement_is_formed n
   layer_is_formed (opened.BindingPattern n) = binding_pattern_is_formed n

@@ -61,6 +61,8 @@ pub data Items : Type 0 where
   wrapped_at_start : Bool → Opener → Items → Items
   -- in parentheses, which minified text leaves out
   parentheses_unless_minified : Items → Items
+  -- items that minified text leaves out
+  unless_minified : Items → Items
   -- the first items where two names are printed the same, else the second
   where_same : Named → Named → Items → Items → Items
   -- the end of a statement; the semicolon that it may leave to what follows, printed or dropped

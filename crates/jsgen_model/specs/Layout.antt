@@ -14,7 +14,7 @@ use Rattle.jsgen_tree.specs.Options.{Options}
 use Rattle.jsgen_tree.specs.Job.{Tables}
 use Rattle.jsgen_tree.specs.Named.{Named, printed_name}
 use Rattle.jsgen_model.specs.Punctuator.{Punctuator, plus, plus_plus, minus, minus_minus, bang, equal_equal, equal_equal_equal, punctuator_text, Round, opening, closing}
-use Rattle.jsgen_model.specs.Items.{Items, nothing, ◌⊕◌, word, name, private_name, number, literal, regular_expression, string, first_string, directive, punctuator, operator, member_dot, soft_space, soft_line, hard_space, indentation, body_space, deeper, in_class, brackets, wrapped, wrapped_at_start, Opener, a_brace, a_declaration, parentheses_unless_minified, where_same, statement_end, due_semicolon, drop_semicolon, statement_begins, arrow_body_begins, default_export_begins, mark, end_mark, link_mark, marked_word, comments, orphans, annotation}
+use Rattle.jsgen_model.specs.Items.{Items, nothing, ◌⊕◌, word, name, private_name, number, literal, regular_expression, string, first_string, directive, punctuator, operator, member_dot, soft_space, soft_line, hard_space, indentation, body_space, deeper, in_class, brackets, wrapped, wrapped_at_start, Opener, a_brace, a_declaration, parentheses_unless_minified, where_same, statement_end, due_semicolon, drop_semicolon, statement_begins, arrow_body_begins, default_export_begins, mark, end_mark, link_mark, marked_word, comments, orphans, annotation, unless_minified}
 use Rattle.jsgen_model.specs.Private.{classes_within, printed_private}
 
 -- what never changes: whether the text is minified and whether it is ASCII, the quote of pretty text and of directives, what a level of indentation is made of, and the tables by which names are printed
@@ -252,6 +252,7 @@ layout (brackets b items) pen = written (closing b) other_end (layout items (wri
 layout (wrapped test items) pen = written_if test (closing Round) (layout items (written_if test (opening Round) pen))
 layout (wrapped_at_start test opener items) pen = written_if (test || is_barred opener pen.start) (closing Round) (layout items (written_if (test || is_barred opener pen.start) (opening Round) pen))
 layout (parentheses_unless_minified items) pen = written_if (not pen.style.minified) (closing Round) (layout items (written_if (not pen.style.minified) (opening Round) pen))
+layout (unless_minified items) pen = if pen.style.minified then pen else layout items pen
 layout (where_same m n a b) pen = if are_same pen.style.tables m n then layout a pen else layout b pen
 layout statement_end pen = end_statement pen.style.minified pen
 layout due_semicolon pen = print_due pen

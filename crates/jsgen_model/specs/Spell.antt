@@ -2,6 +2,7 @@
 use Rattle.std.specs.Prelude.{ℕ, suc, List, ◌++◌, Bool, true, false, not, ◌||◌, nat_lt, codes, decimal, Option, Some, None, if◌then◌else◌}
 use Rattle.std.specs.Str.{encode_utf8_all}
 use Rattle.jsgen_syntax.specs.Operator.{binary_level, lower_level, logical_level, logical_lower_level}
+use Rattle.jsgen_syntax.specs.declared.span.Span.{Span}
 use Rattle.jsgen_syntax.specs.declared.precedence.Precedence.{Precedence}
 use Rattle.jsgen_syntax.specs.declared.precedence.Precedence.TheVariants.{Lowest, Comma, Yield, Assign, Conditional, Multiply, Exponentiation, Prefix, Postfix, New, Call}
 use Rattle.jsgen_place.specs.declared.place.Place.{Place}
@@ -22,18 +23,18 @@ use Rattle.jsgen_tree.specs.declared.classes.MethodDefinitionKind.{MethodDefinit
 use Rattle.jsgen_tree.specs.declared.classes.MethodDefinitionKind.TheVariants as method_kinds
 use Rattle.jsgen_tree.specs.declared.types.NodeType.{NodeType}
 use Rattle.jsgen_tree.specs.declared.types.NodeType.TheVariants as types
-use Rattle.jsgen_tree.specs.Named.{Named, as_written}
+use Rattle.jsgen_tree.specs.Named.{Named, as_written, own_name}
 use Rattle.jsgen_tree.specs.Inside.{without_parentheses, ends_open, reference_named, binding_named, looked_up_in, bound_in, written_name_in, is_proto, is_method, behind_minus, is_negative_number}
 use Rattle.jsgen_tree.specs.Words.{declaration_word}
 use Rattle.jsgen_tree.specs.Number.{NumericKind, Whole, Raw}
 use Rattle.jsgen_tree.specs.Tree.{Tree, Maybe, absent, given, Trees, no_trees, more, hole, Atoms, type_of}
-use Rattle.jsgen_tree.specs.Values.{as_text, directive_directive, variable_declaration_kind, identifier_name_name, label_identifier_name, boolean_literal_value, numeric_literal_kind, numeric_literal_negative, numeric_literal_digits, numeric_literal_text, big_int_literal_value, string_literal_value, binary_expression_operator, logical_expression_operator, unary_expression_operator, update_expression_operator, update_expression_prefix, object_property_kind, object_property_method, object_property_shorthand, object_property_computed, function_kind, function_pife, assignment_expression_operator, static_member_expression_optional, computed_member_expression_optional, call_expression_optional, arrow_function_expression_pife, binding_property_computed, private_identifier_name, private_field_expression_optional, class_kind, method_definition_kind, method_definition_computed, method_definition_is_static, property_definition_computed, property_definition_is_static}
+use Rattle.jsgen_tree.specs.Values.{as_text, directive_directive, variable_declaration_kind, identifier_name_name, label_identifier_name, boolean_literal_value, numeric_literal_kind, numeric_literal_negative, numeric_literal_digits, numeric_literal_text, big_int_literal_value, string_literal_value, binary_expression_operator, logical_expression_operator, unary_expression_operator, update_expression_operator, update_expression_prefix, object_property_kind, object_property_method, object_property_shorthand, object_property_computed, function_kind, function_pife, assignment_expression_operator, static_member_expression_optional, computed_member_expression_optional, call_expression_optional, arrow_function_expression_pife, binding_property_computed, private_identifier_name, private_field_expression_optional, class_kind, method_definition_kind, method_definition_computed, method_definition_is_static, property_definition_computed, property_definition_is_static, assignment_target_property_property_computed}
 use Rattle.jsgen_tree.specs.Job.{JobData}
 use Rattle.jsgen_tree.specs.Nodes as tree
 use Rattle.jsgen_model.specs.Numbers.{takes_no_dot}
 use Rattle.jsgen_model.specs.Punctuator.{ellipsis, comma, semicolon, equal, minus, Round, Square, Brace, colon, question, question_dot, arrow}
 use Rattle.jsgen_model.specs.Quotes.{is_require_call, is_definition_call, is_key_of_exports, is_export_mark}
-use Rattle.jsgen_model.specs.Items.{Items, nothing, ◌⊕◌, word, name, private_name, number, string, first_string, directive, punctuator, operator, member_dot, brackets, soft_space, soft_line, hard_space, body_space, deeper, in_class, indentation, wrapped, wrapped_at_start, a_brace, a_declaration, parentheses_unless_minified, where_same, statement_end, due_semicolon, drop_semicolon, statement_begins, arrow_body_begins}
+use Rattle.jsgen_model.specs.Items.{Items, nothing, ◌⊕◌, word, name, private_name, number, string, first_string, directive, punctuator, operator, member_dot, brackets, soft_space, soft_line, hard_space, body_space, deeper, in_class, indentation, wrapped, wrapped_at_start, a_brace, a_declaration, parentheses_unless_minified, where_same, statement_end, due_semicolon, drop_semicolon, statement_begins, arrow_body_begins, unless_minified}
 use Rattle.jsgen_model.specs.Layout.{layout, empty_pen, style_of}
 use Rattle.jsgen_model.specs.Operators.{operator_item, logical_item, unary_sign, behind_unary, update_item, assignment_item}
 -- generated from tools/nodes/table.txt: names
@@ -402,6 +403,36 @@ method_kind_word method_kinds.Get = key_word (codes "get")
 method_kind_word method_kinds.Set = key_word (codes "set")
 method_kind_word kind = nothing
 
+-- ---- targets
+
+-- a name without a mark has an empty span
+abbrev pub unmarked : Span
+unmarked = record { start = 0; end = 0 }
+
+-- a name's own text, and behind a colon what it is printed as
+abbrev pub renamed_items : Named → Items
+renamed_items n = name unmarked (as_written (own_name n)) ⊕ (punctuator colon ⊕ (soft_space ⊕ name unmarked n))
+
+-- a name alone, or where it is printed otherwise, that behind its own
+abbrev pub own_or_renamed : Option Named → Items → Items
+own_or_renamed None items = items
+own_or_renamed (Some n) items = where_same n (as_written (own_name n)) items (renamed_items n)
+
+-- the name that a target is, where it is one, also of a target with a default
+abbrev pub target_named : Tree → Option Named
+target_named (tree.target_with_default a binding init) = looked_up_in binding
+target_named t = looked_up_in t
+
+-- what stands before the target of a property: its key, which may be a name, but in minified text where the target alone says it
+abbrev pub before_target : Option (List ℕ) → Option Named → Items → Items
+before_target (Some w) (Some n) key = where_same n (as_written w) (unless_minified key) key
+before_target w n key = key
+
+-- an assignment in parentheses where the test holds, and where it begins with a brace that may not stand there (ECMA-262, 14.5)
+abbrev pub assignment_items : NodeType → Bool → Items → Items
+assignment_items types.ObjectAssignmentTarget test items = wrapped_at_start test a_brace items
+assignment_items type test items = wrapped test items
+
 -- ---- the whole
 
 abbrev mutual
@@ -473,7 +504,16 @@ abbrev mutual
       ⊕ spell value (in_brackets Comma))
   -- an assignment binds to the right, and hands on what is forbidden
   spell (tree.assignment a left right) place =
-      operation (wraps Assign place) (assignment_item (assignment_expression_operator a)) (spell left (quoted_plainly (is_key_of_exports left) (in_brackets Comma))) (spell right (child Comma place))
+      assignment_items (type_of left) (wraps Assign place) (spell left (quoted_plainly (is_key_of_exports left) (in_brackets Comma)) ⊕ (soft_space
+      ⊕ (assignment_item (assignment_expression_operator a) ⊕ (soft_space ⊕ spell right (child Comma place)))))
+  spell (tree.array_target a elements rest) place =
+      mark a.span ⊕ brackets Square (spell_elements false elements (in_brackets Comma) ⊕ behind_elements elements rest (spell_if_given rest (in_brackets Comma)))
+  spell (tree.object_target a properties rest) place =
+      mark a.span ⊕ brackets Brace (spell_list properties (in_brackets Comma) ⊕ (comma_between properties rest ⊕ spell_if_given rest (in_brackets Comma)))
+  spell (tree.target_property_identifier a binding init) place = own_or_renamed (looked_up_in binding) (spell binding (in_brackets Comma)) ⊕ spell_value init (in_brackets Comma)
+  spell (tree.target_property a key binding) place =
+      before_target (written_name_in key) (target_named binding) (key_items (needs_brackets (assignment_target_property_property_computed a) key) key (spell key (in_brackets Comma)) ⊕ (punctuator colon ⊕ soft_space))
+      ⊕ spell binding (in_brackets Comma)
   spell (tree.formal_parameters a items rest) place = spell_list items place ⊕ (comma_between items rest ⊕ spell_if_given rest place)
   -- no line end stands before the arrow (ECMA-262, 15.3)
   spell (tree.arrow_function a params body) place =
@@ -560,6 +600,9 @@ abbrev mutual
   spell (tree.binding_rest_element a argument) place = mark a.span ⊕ (punctuator ellipsis ⊕ spell argument (child Lowest place))
   spell (tree.assignment_pattern a left right) place =
       spell left (child Lowest place) ⊕ (soft_space ⊕ (punctuator equal ⊕ (soft_space ⊕ spell right (in_brackets Comma))))
+  spell (tree.target_with_default a binding init) place =
+      spell binding (in_brackets Comma) ⊕ (soft_space ⊕ (punctuator equal ⊕ (soft_space ⊕ spell init (in_brackets Comma))))
+  spell (tree.target_rest a target) place = mark a.span ⊕ (punctuator ellipsis ⊕ spell target (in_brackets Comma))
   -- end of what is generated: clauses
   spell t place = nothing
 

@@ -13,6 +13,8 @@ use Rattle.jsgen_tree.specs.declared.statements.CommentKind.{CommentKind}
 use Rattle.jsgen_tree.specs.declared.statements.CommentKind.TheVariants as comments
 use Rattle.jsgen_tree.specs.declared.collections.PropertyKind.{PropertyKind}
 use Rattle.jsgen_tree.specs.declared.collections.PropertyKind.TheVariants as property_kinds
+use Rattle.jsgen_syntax.specs.declared.operator.AssignmentOperator.{AssignmentOperator}
+use Rattle.jsgen_syntax.specs.declared.operator.AssignmentOperator.TheVariants as assignment_operators
 use Rattle.jsgen_tree.specs.declared.functions.FunctionKind.{FunctionKind}
 use Rattle.jsgen_tree.specs.declared.functions.FunctionKind.TheVariants as function_kinds
 use Rattle.jsgen_tree.specs.declared.classes.ClassKind.{ClassKind}
@@ -31,7 +33,7 @@ use Rattle.jsgen_tree.specs.Number.{NumericKind, Whole, Raw}
 use Rattle.jsgen_tree.specs.Inside.{without_parentheses, looked_up_in, reference_named, binding_named, declared_kind, function_in, class_kind_in, written_name_in, is_proto, is_method, is_negative_number, is_negative_big_integer, has_optional_link}
 use Rattle.jsgen_tree.specs.Tree.{Tree, node, Slots, no_slots, one, maybe, many, maybe_many, Maybe, absent, given, Trees, no_trees, more, hole, MaybeTrees, no_list, listed, type_of, span_of}
 use Rattle.jsgen_tree.specs.Nodes as tree
-use Rattle.jsgen_tree.specs.Values.{as_text, program_source, comment_kind, directive_directive, identifier_name_name, label_identifier_name, numeric_literal_kind, numeric_literal_text, big_int_literal_value, reg_exp_literal_pattern, reg_exp_literal_flags, object_property_kind, object_property_method, object_property_shorthand, object_property_computed, function_kind, static_member_expression_optional, computed_member_expression_optional, call_expression_optional, binding_property_computed, private_identifier_name, class_kind, method_definition_kind, method_definition_computed, property_definition_computed}
+use Rattle.jsgen_tree.specs.Values.{as_text, program_source, comment_kind, directive_directive, identifier_name_name, label_identifier_name, numeric_literal_kind, numeric_literal_text, big_int_literal_value, reg_exp_literal_pattern, reg_exp_literal_flags, object_property_kind, object_property_method, object_property_shorthand, object_property_computed, function_kind, static_member_expression_optional, computed_member_expression_optional, call_expression_optional, binding_property_computed, private_identifier_name, class_kind, method_definition_kind, method_definition_computed, property_definition_computed, assignment_expression_operator, identifier_reference_name, assignment_target_property_property_computed}
 use Rattle.jsgen_model.specs.Numbers.{is_raw_number, is_big_integer}
 use Rattle.jsgen_model.specs.RegularExpressions.{is_body, are_flags}
 use Rattle.jsgen_model.specs.Tokens.{has_line_end}
@@ -294,6 +296,31 @@ chain_faults s element = fault_if (not (has_optional_link element)) (faults.Plac
 abbrev pub target_faults : Tree → List TreeFault
 target_faults target = fault_if (has_optional_link target) (faults.Place (span_of target).start)
 
+-- a target that is given several values
+abbrev pub is_target_pattern : NodeType → Bool
+is_target_pattern types.ArrayAssignmentTarget = true
+is_target_pattern types.ObjectAssignmentTarget = true
+is_target_pattern type = false
+
+-- the value is given as it is
+abbrev pub assigns_alone : AssignmentOperator → Bool
+assigns_alone assignment_operators.Assign = true
+assigns_alone o = false
+
+-- what is given a value has no optional link, and is a pattern for `=` alone (ECMA-262, 13.15.1)
+abbrev pub assigned_faults : AssignmentOperator → Tree → List TreeFault
+assigned_faults o target = fault_if (has_optional_link target || (not (assigns_alone o) && is_target_pattern (type_of target))) (faults.Place (span_of target).start)
+
+-- what takes the rest of an object is no pattern (ECMA-262, 13.15.5.1)
+abbrev pub object_rest_faults : Maybe → List TreeFault
+object_rest_faults (given (tree.target_rest a target)) = fault_if (is_target_pattern (type_of target)) (faults.Place (span_of target).start)
+object_rest_faults rest = []
+
+-- the own name of what a property of its name is given to is a name, be it reserved or not, since it may be printed as a key
+abbrev pub shorthand_name_faults : Tree → List TreeFault
+shorthand_name_faults (tree.identifier_reference a) = written_name_faults a.span (identifier_reference_name a)
+shorthand_name_faults t = []
+
 -- a loop over the values of another binds one name or one pattern, without a value (ECMA-262, 14.7.5)
 abbrev pub is_one_name : Trees → Bool
 is_one_name (more (tree.variable_declarator a id absent) no_trees) = true
@@ -433,7 +460,7 @@ own_faults around (tree.computed_member a object expression) = super_faults (com
 own_faults around (tree.call a callee arguments) = super_faults (call_expression_optional a) callee
 own_faults around (tree.chain a element) = chain_faults a.span element
 own_faults around (tree.update a argument) = target_faults argument
-own_faults around (tree.assignment a left right) = target_faults left
+own_faults around (tree.assignment a left right) = assigned_faults (assignment_expression_operator a) left
 own_faults around (tree.object_property a key value) = key_faults (object_property_computed a) key
     ++ (if is_method (object_property_kind a) (object_property_method a) then method_faults (object_property_kind a) (object_property_computed a) key value else shorthand_faults around.tables (object_property_shorthand a) key value)
 own_faults around (tree.function a id params body) = function_faults a.span (function_kind a) id body
@@ -447,6 +474,11 @@ own_faults around (tree.return_statement a argument) = return_faults around.in_f
 own_faults around (tree.sequence a expressions) = sequence_faults a.span expressions
 own_faults around (tree.object_pattern a properties rest) = rest_faults rest
 own_faults around (tree.binding_property a key value) = key_faults (binding_property_computed a) key
+own_faults around (tree.object_target a properties rest) = object_rest_faults rest
+own_faults around (tree.target_with_default a binding init) = target_faults binding
+own_faults around (tree.target_property_identifier a binding init) = shorthand_name_faults binding
+own_faults around (tree.target_property a key binding) = key_faults (assignment_target_property_property_computed a) key
+own_faults around (tree.target_rest a target) = target_faults target
 own_faults around t = []
 
 abbrev pub takes_super : NodeSet → Bool

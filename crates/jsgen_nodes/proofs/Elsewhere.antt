@@ -1,12 +1,14 @@
 -- What is printed as a method of what is no function.
 use Rattle.std.proofs.Common.{◌≡◌, refl}
 use Rattle.jsgen_tree.specs.Plain.{node_plain}
-use Rattle.jsgen_tree.specs.Rows.{expression_plain, statement_plain, declaration_plain}
+use Rattle.jsgen_tree.specs.Rows.{expression_plain, assignment_target_plain, statement_plain, declaration_plain}
 use Rattle.jsgen_tree.specs.declared.nodes.Node.{Node}
 use Rattle.jsgen_tree.specs.declared.sets.Expression.{Expression}
+use Rattle.jsgen_tree.specs.declared.sets.AssignmentTarget.{AssignmentTarget}
 use Rattle.jsgen_tree.specs.declared.sets.Statement.{Statement}
 use Rattle.jsgen_tree.specs.declared.sets.Declaration.{Declaration}
 use Rattle.jsgen_tree.specs.declared.sets.Expression.TheVariants as expressions
+use Rattle.jsgen_tree.specs.declared.sets.AssignmentTarget.TheVariants as targets
 use Rattle.jsgen_tree.specs.declared.sets.Statement.TheVariants as statements
 use Rattle.jsgen_tree.specs.declared.sets.Declaration.TheVariants as declarations
 use Rattle.jsgen_nodes.proofs.IsNot.{IsNot}
@@ -17,6 +19,13 @@ use Rattle.jsgen_model.specs.Spell.{spell_method}
 pub no_expression_method : (n : Expression Node) (place : Place) → IsNot n expressions.Function → nothing ≡ spell_method (expression_plain node_plain n) place
 no_expression_method (expressions.Function b) place no_function = absurd (no_function b refl)
 no_expression_method n place no_function = refl
+
+pub no_target_method : (n : AssignmentTarget Node) (place : Place) → nothing ≡ spell_method (assignment_target_plain node_plain n) place
+no_target_method (targets.IdentifierReference b) place = refl
+no_target_method (targets.StaticMemberExpression b) place = refl
+no_target_method (targets.ComputedMemberExpression b) place = refl
+no_target_method (targets.ArrayAssignmentTarget b) place = refl
+no_target_method (targets.ObjectAssignmentTarget b) place = refl
 
 pub no_declaration_method : (n : Declaration Node) (place : Place) → IsNot n declarations.Function → nothing ≡ spell_method (declaration_plain node_plain n) place
 no_declaration_method (declarations.VariableDeclaration b) place no_function = refl

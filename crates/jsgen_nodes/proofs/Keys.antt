@@ -1,5 +1,5 @@
 -- Keys of properties, and properties of which none is left out.
-use Rattle.std.proofs.Common.{◌≡◌, ℕ, Bool, true, false, Option, Some, None, List, [], ◌∷◌, map, refl, sym, ap, ◌∙◌, if◌then◌else◌}
+use Rattle.std.proofs.Common.{◌≡◌, ℕ, Bool, true, false, ◌&&◌, Option, Some, None, List, [], ◌∷◌, map, refl, sym, ap, ◌∙◌, if◌then◌else◌}
 use Rattle.std.specs.Option.{option_map_or}
 use Rattle.std.proofs.lemmas.Bool.{both_ways}
 use Rattle.jsgen_tree.specs.Tree.{Tree, more, holed, trees, type_of}
@@ -7,13 +7,13 @@ use Rattle.jsgen_tree.specs.Nodes as tree
 use Rattle.jsgen_tree.specs.Named.{Named, as_written}
 use Rattle.jsgen_tree.specs.Inside.{without_parentheses, is_proto, is_negative_number}
 use Rattle.jsgen_model.specs.Punctuator.{colon}
-use Rattle.jsgen_model.specs.Items.{Items, nothing, ◌⊕◌, string, punctuator, soft_space}
-use Rattle.jsgen_model.specs.Spell.{string_in, key_text, items_unless, unless_said, before_value, before_bound}
+use Rattle.jsgen_model.specs.Items.{Items, nothing, ◌⊕◌, string, punctuator, soft_space, unless_minified}
+use Rattle.jsgen_model.specs.Spell.{string_in, key_text, items_unless, unless_said, before_value, before_bound, before_target}
 use Rattle.jsgen_printer.specs.Printer.{pen_of}
 use Rattle.jsgen_printer.specs.Steps.{Lays}
 use Rattle.jsgen_printer.specs.declared.printer.Printer.{Printer}
-use Rattle.jsgen_printer.proofs.Sequence.{where_same_laid}
-use Rattle.jsgen_nodes.specs.Keys.{is_string, is_number, is_said, is_value_alone, is_bound_alone}
+use Rattle.jsgen_printer.proofs.Sequence.{where_same_laid, left_out_laid}
+use Rattle.jsgen_nodes.specs.Keys.{is_string, is_number, is_said, is_value_alone, is_bound_alone, is_key_said}
 
 pub bare_string : (t : Tree) → is_string (type_of t) ≡ true → string_in (without_parentheses t) ≡ string_in t
 bare_string (tree.parenthesized a t) h = absurd (both_ways false refl h)
@@ -58,3 +58,26 @@ before_value_laid shorthand said (Some w) value key e h = said_by_key (is_proto 
 pub before_bound_laid : {a b : Printer} (said : Bool) (name : Option (List ℕ)) (value : Option Named) (key : Items) → said ≡ is_bound_alone (pen_of a).style.tables name value → Lays a b (if said then nothing else (key ⊕ (punctuator colon ⊕ soft_space))) → Lays a b (before_bound name value key)
 before_bound_laid said None value key e h = rw e at h
 before_bound_laid said (Some w) value key e h = said_by_name w value said (key ⊕ (punctuator colon ⊕ soft_space)) e h
+
+-- ---- what stands before the target of a property, or in minified text nothing where the target alone says the key
+
+dropped : {a b : Printer} (said : Bool) (key : Items) → true ≡ (pen_of a).style.minified → Lays a b (if said then nothing else key) → Lays a b (if said then unless_minified key else key)
+dropped true key m h = left_out_laid key true m h
+dropped false key m h = h
+
+kept : {a b : Printer} (said : Bool) (key : Items) → false ≡ (pen_of a).style.minified → Lays a b key → Lays a b (if said then unless_minified key else key)
+kept true key m h = left_out_laid key false m h
+kept false key m h = h
+
+left_out : {a b : Printer} (minified said : Bool) (w : List ℕ) (n : Named) (key : Items) → minified ≡ (pen_of a).style.minified → said ≡ is_said (pen_of a).style.tables (Some n) w → Lays a b (if minified && said then nothing else key) → Lays a b (before_target (Some w) (Some n) key)
+left_out true said w n key m e h = where_same_laid n (as_written w) (unless_minified key) key said e (dropped said key m h)
+left_out false said w n key m e h = where_same_laid n (as_written w) (unless_minified key) key said e (kept said key m h)
+
+nothing_said : {a b : Printer} (minified said : Bool) (key : Items) → said ≡ false → Lays a b (if minified && said then nothing else key) → Lays a b key
+nothing_said true said key e h = rw e at h
+nothing_said false said key e h = h
+
+pub before_target_laid : {a b : Printer} (minified said : Bool) (name : Option (List ℕ)) (target : Option Named) (key : Items) → minified ≡ (pen_of a).style.minified → said ≡ is_key_said (pen_of a).style.tables name target → Lays a b (if minified && said then nothing else key) → Lays a b (before_target name target key)
+before_target_laid minified said None target key m e h = nothing_said minified said key e h
+before_target_laid minified said (Some w) None key m e h = nothing_said minified said key e h
+before_target_laid minified said (Some w) (Some n) key m e h = left_out minified said w n key m e h

@@ -1,5 +1,6 @@
 pub mod Arrows
 pub mod Asked
+pub mod Assigned
 pub mod Constructions
 pub mod Elsewhere
 pub mod Filled

@@ -2,12 +2,14 @@
 -- A member that is in no earlier part of the choice, and of no type of this one, is in a later part.
 use Rattle.std.proofs.Common.{◌≡◌, true, false, refl, nat_le}
 use Rattle.jsgen_nodes.proofs.IsNot.{IsNot}
-use Rattle.jsgen_nodes.specs.Parts.{expression_part, declaration_part, statement_part, binding_pattern_part}
+use Rattle.jsgen_nodes.specs.Parts.{expression_part, assignment_target_part, declaration_part, statement_part, binding_pattern_part}
 use Rattle.jsgen_tree.specs.declared.sets.Expression.{Expression}
+use Rattle.jsgen_tree.specs.declared.sets.AssignmentTarget.{AssignmentTarget}
 use Rattle.jsgen_tree.specs.declared.sets.Declaration.{Declaration}
 use Rattle.jsgen_tree.specs.declared.sets.Statement.{Statement}
 use Rattle.jsgen_tree.specs.declared.sets.BindingPattern.{BindingPattern}
 use Rattle.jsgen_tree.specs.declared.sets.Expression.TheVariants as expressions
+use Rattle.jsgen_tree.specs.declared.sets.AssignmentTarget.TheVariants as assignment_targets
 use Rattle.jsgen_tree.specs.declared.sets.Declaration.TheVariants as declarations
 use Rattle.jsgen_tree.specs.declared.sets.Statement.TheVariants as statements
 use Rattle.jsgen_tree.specs.declared.sets.BindingPattern.TheVariants as binding_patterns
@@ -168,6 +170,28 @@ expression_past_5 (expressions.ArrowFunctionExpression b) later no_0 no_1 no_2 =
 expression_past_5 (expressions.PrivateFieldExpression b) later no_0 no_1 no_2 = absurd (no_0 b refl)
 expression_past_5 (expressions.PrivateInExpression b) later no_0 no_1 no_2 = absurd (no_1 b refl)
 expression_past_5 (expressions.Class b) later no_0 no_1 no_2 = absurd (no_2 b refl)
+
+pub assignment_target_past_0 : {N : Type 0} (n : AssignmentTarget N) → IsNot n assignment_targets.IdentifierReference → IsNot n assignment_targets.StaticMemberExpression → IsNot n assignment_targets.ComputedMemberExpression → nat_le 1 (assignment_target_part n) ≡ true
+assignment_target_past_0 (assignment_targets.IdentifierReference b) no_0 no_1 no_2 = absurd (no_0 b refl)
+assignment_target_past_0 (assignment_targets.StaticMemberExpression b) no_0 no_1 no_2 = absurd (no_1 b refl)
+assignment_target_past_0 (assignment_targets.ComputedMemberExpression b) no_0 no_1 no_2 = absurd (no_2 b refl)
+assignment_target_past_0 n no_0 no_1 no_2 = refl
+
+pub assignment_target_past_1 : {N : Type 0} (n : AssignmentTarget N) → nat_le 1 (assignment_target_part n) ≡ true → IsNot n assignment_targets.ArrayAssignmentTarget → IsNot n assignment_targets.ObjectAssignmentTarget → nat_le 2 (assignment_target_part n) ≡ true
+assignment_target_past_1 (assignment_targets.IdentifierReference b) later no_0 no_1 = let no : false ≡ true = later in cc
+assignment_target_past_1 (assignment_targets.StaticMemberExpression b) later no_0 no_1 = let no : false ≡ true = later in cc
+assignment_target_past_1 (assignment_targets.ComputedMemberExpression b) later no_0 no_1 = let no : false ≡ true = later in cc
+assignment_target_past_1 (assignment_targets.ArrayAssignmentTarget b) later no_0 no_1 = absurd (no_0 b refl)
+assignment_target_past_1 (assignment_targets.ObjectAssignmentTarget b) later no_0 no_1 = absurd (no_1 b refl)
+assignment_target_past_1 n later no_0 no_1 = refl
+
+pub assignment_target_past_2 : {N : Type 0} (n : AssignmentTarget N) → nat_le 2 (assignment_target_part n) ≡ true → IsNot n assignment_targets.PrivateFieldExpression → ⊥
+assignment_target_past_2 (assignment_targets.IdentifierReference b) later no_0 = let no : false ≡ true = later in cc
+assignment_target_past_2 (assignment_targets.StaticMemberExpression b) later no_0 = let no : false ≡ true = later in cc
+assignment_target_past_2 (assignment_targets.ComputedMemberExpression b) later no_0 = let no : false ≡ true = later in cc
+assignment_target_past_2 (assignment_targets.ArrayAssignmentTarget b) later no_0 = let no : false ≡ true = later in cc
+assignment_target_past_2 (assignment_targets.ObjectAssignmentTarget b) later no_0 = let no : false ≡ true = later in cc
+assignment_target_past_2 (assignment_targets.PrivateFieldExpression b) later no_0 = absurd (no_0 b refl)
 
 pub declaration_past_0 : {N : Type 0} (n : Declaration N) → IsNot n declarations.VariableDeclaration → nat_le 1 (declaration_part n) ≡ true
 declaration_past_0 (declarations.VariableDeclaration b) no_0 = absurd (no_0 b refl)

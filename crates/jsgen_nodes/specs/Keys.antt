@@ -38,3 +38,8 @@ is_bound_alone tables (Some w) value = is_said tables value w
 -- a key, in brackets where it needs them
 abbrev pub key_of : Bool → Tree → Items
 key_of computed key = key_items (needs_brackets computed key) key (spell key (in_brackets Comma))
+
+-- by the tables a key, which may be a name, is what the target of a property is printed as
+abbrev pub is_key_said : Tables → Option (List ℕ) → Option Named → Bool
+is_key_said tables None target = false
+is_key_said tables (Some w) target = is_said tables target w

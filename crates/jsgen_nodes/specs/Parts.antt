@@ -2,10 +2,12 @@
 -- In which part of the choice within its set a member is.
 use Rattle.std.specs.Prelude.{ℕ}
 use Rattle.jsgen_tree.specs.declared.sets.Expression.{Expression}
+use Rattle.jsgen_tree.specs.declared.sets.AssignmentTarget.{AssignmentTarget}
 use Rattle.jsgen_tree.specs.declared.sets.Declaration.{Declaration}
 use Rattle.jsgen_tree.specs.declared.sets.Statement.{Statement}
 use Rattle.jsgen_tree.specs.declared.sets.BindingPattern.{BindingPattern}
 use Rattle.jsgen_tree.specs.declared.sets.Expression.TheVariants as expression
+use Rattle.jsgen_tree.specs.declared.sets.AssignmentTarget.TheVariants as assignment_target
 use Rattle.jsgen_tree.specs.declared.sets.Declaration.TheVariants as declaration
 use Rattle.jsgen_tree.specs.declared.sets.Statement.TheVariants as statement
 use Rattle.jsgen_tree.specs.declared.sets.BindingPattern.TheVariants as binding_pattern
@@ -42,6 +44,14 @@ expression_part (expression.ArrowFunctionExpression b) = 4
 expression_part (expression.PrivateFieldExpression b) = 5
 expression_part (expression.PrivateInExpression b) = 5
 expression_part (expression.Class b) = 5
+
+abbrev pub assignment_target_part : {N : Type 0} → AssignmentTarget N → ℕ
+assignment_target_part (assignment_target.IdentifierReference b) = 0
+assignment_target_part (assignment_target.StaticMemberExpression b) = 0
+assignment_target_part (assignment_target.ComputedMemberExpression b) = 0
+assignment_target_part (assignment_target.ArrayAssignmentTarget b) = 1
+assignment_target_part (assignment_target.ObjectAssignmentTarget b) = 1
+assignment_target_part (assignment_target.PrivateFieldExpression b) = 2
 
 abbrev pub declaration_part : {N : Type 0} → Declaration N → ℕ
 declaration_part (declaration.VariableDeclaration b) = 0

@@ -176,8 +176,8 @@ fn is_value_alone<N: PrintNode>(node: &ObjectProperty<N>, p: &Printer<'_>) -> bo
     }
 }
 
-// Whether the value is a reference, and printed as this name is written.
-fn is_said<N: PrintNode>(value: &N, name: &str, p: &Printer<'_>) -> bool
+/// Whether the value is a reference, and printed as this name is written.
+pub fn is_said<N: PrintNode>(value: &N, name: &str, p: &Printer<'_>) -> bool
     ensures { result ≡ is_said (pen_of p.now).style.tables (looked_up_in (without_parentheses (N.plain value.now))) (chars name.now) }
 {
     match value.looked_up() {
@@ -186,6 +186,7 @@ fn is_said<N: PrintNode>(value: &N, name: &str, p: &Printer<'_>) -> bool
     }
 }
 
+/// The name that a key is as it is written.
 pub fn key_name<N: PrintNode>(key: &PropertyKey<N>) -> Option<&str>
     ensures { option_map (λ s. chars s.now) result ≡ written_name_in (in_property_key N.plain key.now) }
 {

@@ -14,6 +14,7 @@ pub mod patterns;
 pub mod quotes;
 pub mod sets;
 pub mod statements;
+pub mod targets;
 
 ghost use Rattle.std.specs.Prelude.{◌≡◌, option_map};
 ghost use Rattle.std.specs.Str.{chars};
@@ -21,8 +22,8 @@ ghost use Rattle.jsgen_syntax.specs.Units.{js_units};
 ghost use Rattle.jsgen_tree.specs.Tree.{Tree, type_of};
 ghost use Rattle.jsgen_tree.specs.Inside.{without_parentheses, ends_open, looked_up_in, named_by, bound_in, bound_by, written_name_in, is_negative};
 ghost use Rattle.jsgen_tree.specs.Plain.{node_plain};
-ghost use Rattle.jsgen_model.specs.Quotes.{is_member_of, is_named};
-ghost use Rattle.jsgen_model.specs.Spell.{spell, spell_method, string_in, string_statement};
+ghost use Rattle.jsgen_model.specs.Quotes.{is_member_of, is_named, is_key_of_exports};
+ghost use Rattle.jsgen_model.specs.Spell.{spell, spell_method, string_in, string_statement, target_named};
 ghost use Rattle.jsgen_printer.specs.Steps.{Lays};
 ghost use Rattle.jsgen_questions.specs.Names.{is_binding_name};
 ghost use Rattle.jsgen_questions.specs.Operands.{operand_of};
@@ -32,15 +33,17 @@ pub use inside::Inside;
 use jsgen_place::Place;
 use jsgen_printer::Printer;
 use jsgen_questions::{
-    Operand, ends_open, is_binding_name, is_member, is_named, operand_of, string, string_statement,
+    Operand, bare_looked_up, ends_open, is_binding_name, is_member, is_named, operand_of, string,
+    string_statement,
 };
 use jsgen_syntax::JsStr;
 use jsgen_tree::{
     BindingIdentifier, Declaration, Expression, IdentifierReference, Node, NodeType, Statement,
 };
+use quotes::{is_key_of_exports, member_is_key_of_exports};
 use sets::{
-    print_binding_pattern, print_class_element, print_declaration, print_expression,
-    print_statement,
+    print_assignment_target, print_binding_pattern, print_class_element, print_declaration,
+    print_expression, print_statement,
 };
 
 /// Where trees nest: what the print functions ask of a child. Only `Node` implements it.
@@ -85,6 +88,15 @@ pub trait PrintNode {
     fn bound(&self) -> Option<&BindingIdentifier>
         ensures { option_map (λ n. bound_by n.now) result ≡ bound_in (plain self.now) };
 
+    /// The reference itself, where no parentheses are round it, be it where a target may have a default or elsewhere.
+    fn bare_looked_up(&self) -> Option<&IdentifierReference>
+        ensures reference { option_map (λ n. named_by n.now) result ≡ looked_up_in (plain self.now) }
+        ensures target { option_map (λ n. named_by n.now) result ≡ target_named (plain self.now) };
+
+    /// Whether the key in what is given a value is never in backticks.
+    fn is_key_of_exports(&self) -> bool
+        ensures { result ≡ is_key_of_exports (plain self.now) };
+
     /// The name that stands there as it is written.
     fn written_name(&self) -> Option<&str>
         ensures { option_map (λ s. chars s.now) result ≡ written_name_in (plain self.now) };
@@ -114,6 +126,7 @@ impl PrintNode for Node {
     fn print(&self, p: &mut Printer<'_>, place: Place) {
         match self {
             Node::Expression(node) => print_expression(node, p, place),
+            Node::AssignmentTarget(node) => print_assignment_target(node, p, place),
             Node::Statement(node) => print_statement(node, p, place),
             Node::Declaration(node) => print_declaration(node, p, place),
             Node::BindingPattern(node) => print_binding_pattern(node, p, place),
@@ -128,6 +141,7 @@ impl PrintNode for Node {
                 Expression::Function(function) => print_behind_name(function, p, place),
                 _ => {}
             },
+            Node::AssignmentTarget(_) => {}
             Node::Statement(statement) => match statement {
                 Statement::Declaration(declaration) => declaration.get().print_as_method(p, place),
                 _ => {}
@@ -175,6 +189,28 @@ impl PrintNode for Node {
 
     fn bound(&self) -> Option<&BindingIdentifier> {
         self.bound()
+    }
+
+    fn bare_looked_up(&self) -> Option<&IdentifierReference> {
+        bare_looked_up(self)
+    }
+
+    #[cycle(node)]
+    fn is_key_of_exports(&self) -> bool {
+        match self {
+            Node::Expression(expression) => match expression {
+                Expression::ComputedMemberExpression(node) => member_is_key_of_exports(node),
+                _ => false,
+            },
+            Node::AssignmentTarget(target) => is_key_of_exports(target),
+            Node::Statement(statement) => match statement {
+                Statement::Declaration(declaration) => declaration.get().is_key_of_exports(),
+                _ => false,
+            },
+            Node::Declaration(_) => false,
+            Node::BindingPattern(_) => false,
+            Node::ClassElement(_) => false,
+        }
     }
 
     fn written_name(&self) -> Option<&str> {

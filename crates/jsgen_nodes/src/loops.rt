@@ -12,9 +12,9 @@ ghost use Rattle.jsgen_printer.specs.Printer.{pen_of};
 ghost use Rattle.jsgen_nodes.specs.Keys.{is_said};
 
 use crate::PrintNode;
-use crate::expressions::{print_computed_member_expression, print_static_member_expression};
 use crate::inside::Inside;
 use crate::statements::Statements;
+use crate::targets::is_bare_said;
 use jsgen_classes::print_private_field_expression;
 use jsgen_inside::{Nested, print_body, print_identifier_reference, shape_of};
 use jsgen_lists::{PrintMember, print_apart, print_deeper_body, print_if_given};
@@ -24,7 +24,7 @@ use jsgen_spelled::print_variable_declaration;
 use jsgen_syntax::Precedence;
 use jsgen_tree::{
     DoWhileStatement, ForInStatement, ForOfStatement, ForStatement, ForStatementInit,
-    ForStatementLeft, StatementNode,
+    ForStatementLeft, NodeType, StatementNode,
 };
 
 pub fn print_for_statement<N: PrintNode>(node: &ForStatement<N>, p: &mut Printer<'_>, place: Place)
@@ -155,23 +155,28 @@ pub fn print_for_of_statement<N: PrintNode>(
 pub fn print_left<N: PrintNode>(left: &ForStatementLeft<N>, p: &mut Printer<'_>)
     ensures { Lays p.old p.new (spell (in_for_statement_left N.plain left.now) (left_place (type_of (in_for_statement_left N.plain left.now)))) }
 {
-    let target = Place::in_brackets(Precedence::Comma);
     match left {
         ForStatementLeft::VariableDeclaration(node) => print_variable_declaration::<_, Inside>(
             node,
             p,
             Place::loop_head(),
         ),
-        ForStatementLeft::IdentifierReference(node) => print_identifier_reference(node, p, target),
-        ForStatementLeft::StaticMemberExpression(node) => print_static_member_expression(
-            node, p, target,
-        ),
-        ForStatementLeft::ComputedMemberExpression(node) => print_computed_member_expression(
-            node, p, target,
-        ),
-        ForStatementLeft::PrivateFieldExpression(node) => {
-            print_private_field_expression::<_, Inside>(node, p, target)
-        }
+        ForStatementLeft::AssignmentTarget(node) => print_target(node.get(), p),
+    }
+}
+
+fn print_target<N: PrintNode>(target: &N, p: &mut Printer<'_>)
+    ensures { Lays p.old p.new (spell (N.plain target.now) (left_place (type_of (N.plain target.now)))) }
+{
+    target.print(p, left_place(target.node_type()));
+}
+
+fn left_place(node_type: NodeType) -> Place
+    ensures { result ≡ left_place node_type }
+{
+    match node_type {
+        NodeType::VariableDeclaration => Place::loop_head(),
+        _ => Place::in_brackets(Precedence::Comma),
     }
 }
 
@@ -198,11 +203,7 @@ fn is_async<N: PrintNode>(left: &ForStatementLeft<N>, p: &Printer<'_>) -> bool
     ensures { result ≡ is_said (pen_of p.now).style.tables (looked_up_in (in_for_statement_left N.plain left.now)) (codes "async") }
 {
     match left {
-        ForStatementLeft::IdentifierReference(node) => p.prints_as(
-            node.name.as_str(),
-            node.reference,
-            "async",
-        ),
-        _ => false,
+        ForStatementLeft::VariableDeclaration(_) => false,
+        ForStatementLeft::AssignmentTarget(node) => is_bare_said(node.get(), "async", p),
     }
 }

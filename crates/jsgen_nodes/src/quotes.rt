@@ -4,7 +4,7 @@ ghost use Rattle.jsgen_syntax.specs.Units.{js_units};
 ghost use Rattle.jsgen_syntax.specs.declared.precedence.Precedence.TheVariants.{Comma, Lowest};
 ghost use Rattle.jsgen_tree.specs.Tree.{trees};
 ghost use Rattle.jsgen_tree.specs.Inside.{without_parentheses};
-ghost use Rattle.jsgen_tree.specs.Rows.{in_argument, in_expression, in_assignment_target, expression_plain, computed_member_expression_row, call_expression_row};
+ghost use Rattle.jsgen_tree.specs.Rows.{in_argument, in_expression, assignment_target_plain, expression_plain, computed_member_expression_row, call_expression_row};
 ghost use Rattle.jsgen_tree.specs.Plain.{node_plain};
 ghost use Rattle.jsgen_place.specs.Place.{free, at_level, quoted_plainly};
 ghost use Rattle.jsgen_model.specs.Quotes.{is_string, is_one_string, has_second_string, defines_property, is_exports, is_key_of_exports, is_require_call, is_definition_call, is_export_mark};
@@ -21,7 +21,7 @@ use crate::sets::print_assignment_target;
 use jsgen_lists::PlainQuotes;
 use jsgen_place::{Context, Place};
 use jsgen_printer::Printer;
-use jsgen_questions::{bare_string, is_definition_call, is_export_mark, is_require_call};
+use jsgen_questions::{inner_string, is_definition_call, is_export_mark, is_require_call};
 use jsgen_syntax::{BinaryOperator, JsStr, Precedence};
 use jsgen_tree::{
     Argument, AssignmentTarget, CallExpression, ComputedMemberExpression, Expression,
@@ -74,7 +74,8 @@ fn is_exports<N: PrintNode>(node: &N) -> bool
     node.is_named("exports") || node.is_member("module", "exports")
 }
 
-fn member_is_key_of_exports<N: PrintNode>(node: &ComputedMemberExpression<N>) -> bool
+/// The same of a member.
+pub fn member_is_key_of_exports<N: PrintNode>(node: &ComputedMemberExpression<N>) -> bool
     ensures { result ≡ is_key_of_exports (computed_member_expression_row N.plain node.now) }
 {
     is_exports(node.object.get()) && is_string(node.expression.get())
@@ -82,7 +83,7 @@ fn member_is_key_of_exports<N: PrintNode>(node: &ComputedMemberExpression<N>) ->
 
 /// Whether the key in what is given a value is never in backticks.
 pub fn is_key_of_exports<N: PrintNode>(target: &AssignmentTarget<N>) -> bool
-    ensures { result ≡ is_key_of_exports (in_assignment_target N.plain target.now) }
+    ensures { result ≡ is_key_of_exports (assignment_target_plain N.plain target.now) }
 {
     match target {
         AssignmentTarget::ComputedMemberExpression(node) => member_is_key_of_exports(node),
@@ -175,9 +176,9 @@ pub fn try_print_exports_computed_target<N: PrintNode>(
     target: &AssignmentTarget<N>,
     context: Context,
 ) -> bool
-    ensures applies { result ≡ ((pen_of p.old).style.minified && is_key_of_exports (in_assignment_target N.plain target.now)) }
-    ensures text { Lays p.old p.new (where_it_holds ((pen_of p.old).style.minified && is_key_of_exports (in_assignment_target N.plain target.now))
-        (spell (in_assignment_target N.plain target.now) (quoted_plainly true (at_level Comma context)))) }
+    ensures applies { result ≡ ((pen_of p.old).style.minified && is_key_of_exports (assignment_target_plain N.plain target.now)) }
+    ensures text { Lays p.old p.new (where_it_holds ((pen_of p.old).style.minified && is_key_of_exports (assignment_target_plain N.plain target.now))
+        (spell (assignment_target_plain N.plain target.now) (quoted_plainly true (at_level Comma context)))) }
 {
     let applies = p.is_minified() && is_key_of_exports(target);
     print_target_if(applies, p, target, context);
@@ -190,7 +191,7 @@ fn print_target_if<N: PrintNode>(
     target: &AssignmentTarget<N>,
     context: Context,
 )
-    ensures { Lays p.old p.new (where_it_holds test (spell (in_assignment_target N.plain target.now) (quoted_plainly true (at_level Comma context)))) }
+    ensures { Lays p.old p.new (where_it_holds test (spell (assignment_target_plain N.plain target.now) (quoted_plainly true (at_level Comma context)))) }
 {
     if test {
         let place = Place::at_level(Precedence::Comma, context);
@@ -209,7 +210,7 @@ pub fn try_print_equality_string(
     ensures text { Lays p.old p.new (where_it_holds ((pen_of p.old).style.minified && is_export_mark operator (expression_plain node_plain operand.now))
         (plain_string (string_in (without_parentheses (expression_plain node_plain operand.now))))) }
 {
-    let string = bare_string(operand.without_parentheses());
+    let string = inner_string(operand.without_parentheses());
     let applies = p.is_minified() && is_export_mark(operator, string);
     print_string_if(applies, string, p);
     applies

@@ -1,10 +1,10 @@
 // Generated from tools/nodes/table.txt; edit that and run tools/nodes/generate.
 // A set prints as its member does.
 ghost use Rattle.std.specs.Prelude.{◌≡◌, true, nat_le};
-ghost use Rattle.jsgen_tree.specs.Rows.{in_simple_assignment_target, in_assignment_target, expression_plain, declaration_plain, statement_plain, binding_pattern_plain, class_element_plain};
+ghost use Rattle.jsgen_tree.specs.Rows.{in_simple_assignment_target, expression_plain, assignment_target_plain, declaration_plain, statement_plain, binding_pattern_plain, class_element_plain};
 ghost use Rattle.jsgen_printer.specs.Steps.{Lays};
 ghost use Rattle.jsgen_model.specs.Spell.{spell};
-ghost use Rattle.jsgen_nodes.specs.Parts.{expression_part, declaration_part, statement_part, binding_pattern_part};
+ghost use Rattle.jsgen_nodes.specs.Parts.{expression_part, assignment_target_part, declaration_part, statement_part, binding_pattern_part};
 
 use crate::assignments::print_assignment_expression;
 use crate::choices::{print_switch_statement, print_try_statement};
@@ -21,13 +21,14 @@ use crate::loops::{
 use crate::operations::{print_new_expression, print_update_expression};
 use crate::patterns::{print_array_pattern, print_object_pattern};
 use crate::statements::{print_block_statement, print_if_statement};
+use crate::targets::{print_array_assignment_target, print_object_assignment_target};
 use crate::{Inside, PrintNode};
 use jsgen_classes::{
     print_class, print_method_definition, print_private_field_expression,
     print_private_in_expression, print_property_definition, print_static_block,
 };
 use jsgen_inside::{print_binding_identifier, print_identifier_reference};
-use jsgen_patterns::{print_array_pattern, print_assignment_pattern, print_object_pattern};
+use jsgen_patterns::print_assignment_pattern;
 use jsgen_place::Place;
 use jsgen_printer::Printer;
 use jsgen_spelled::{
@@ -161,6 +162,61 @@ fn print_expression_in_classes<N: PrintNode>(
     }
 }
 
+pub fn print_assignment_target<N: PrintNode>(
+    node: &AssignmentTarget<N>,
+    p: &mut Printer<'_>,
+    place: Place,
+)
+    ensures { Lays p.old p.new (spell (assignment_target_plain N.plain node.now) place) }
+{
+    match node {
+        AssignmentTarget::IdentifierReference(node) => print_identifier_reference(node, p, place),
+        AssignmentTarget::StaticMemberExpression(node) => print_static_member_expression(
+            node, p, place,
+        ),
+        AssignmentTarget::ComputedMemberExpression(node) => print_computed_member_expression(
+            node, p, place,
+        ),
+        _ => print_assignment_target_in_targets(node, p, place),
+    }
+}
+
+fn print_assignment_target_in_targets<N: PrintNode>(
+    node: &AssignmentTarget<N>,
+    p: &mut Printer<'_>,
+    place: Place,
+)
+    requires { nat_le 1 (assignment_target_part node.now) ≡ true }
+    ensures { Lays p.old p.new (spell (assignment_target_plain N.plain node.now) place) }
+{
+    match node {
+        AssignmentTarget::ArrayAssignmentTarget(node) => print_array_assignment_target(
+            node, p, place,
+        ),
+        AssignmentTarget::ObjectAssignmentTarget(node) => print_object_assignment_target(
+            node, p, place,
+        ),
+        _ => print_assignment_target_in_classes(node, p, place),
+    }
+}
+
+fn print_assignment_target_in_classes<N: PrintNode>(
+    node: &AssignmentTarget<N>,
+    p: &mut Printer<'_>,
+    place: Place,
+)
+    requires { nat_le 2 (assignment_target_part node.now) ≡ true }
+    ensures { Lays p.old p.new (spell (assignment_target_plain N.plain node.now) place) }
+{
+    match node {
+        AssignmentTarget::PrivateFieldExpression(node) => print_private_field_expression::<
+            _,
+            Inside,
+        >(node, p, place),
+        _ => unreachable!(),
+    }
+}
+
 pub fn print_declaration<N: PrintNode>(node: &Declaration<N>, p: &mut Printer<'_>, place: Place)
     ensures { Lays p.old p.new (spell (declaration_plain N.plain node.now) place) }
 {
@@ -281,8 +337,8 @@ fn print_binding_pattern_in_patterns<N: PrintNode>(
     ensures { Lays p.old p.new (spell (binding_pattern_plain N.plain node.now) place) }
 {
     match node {
-        BindingPattern::ObjectPattern(node) => print_object_pattern::<_, Inside>(node, p, place),
-        BindingPattern::ArrayPattern(node) => print_array_pattern::<_, Inside>(node, p, place),
+        BindingPattern::ObjectPattern(node) => print_object_pattern(node, p, place),
+        BindingPattern::ArrayPattern(node) => print_array_pattern(node, p, place),
         BindingPattern::AssignmentPattern(node) => print_assignment_pattern::<_, Inside>(
             node, p, place,
         ),
@@ -322,28 +378,6 @@ pub fn print_simple_assignment_target<N: PrintNode>(
             node, p, place,
         ),
         SimpleAssignmentTarget::PrivateFieldExpression(node) => print_private_field_expression::<
-            _,
-            Inside,
-        >(node, p, place),
-    }
-}
-
-pub fn print_assignment_target<N: PrintNode>(
-    node: &AssignmentTarget<N>,
-    p: &mut Printer<'_>,
-    place: Place,
-)
-    ensures { Lays p.old p.new (spell (in_assignment_target N.plain node.now) place) }
-{
-    match node {
-        AssignmentTarget::IdentifierReference(node) => print_identifier_reference(node, p, place),
-        AssignmentTarget::StaticMemberExpression(node) => print_static_member_expression(
-            node, p, place,
-        ),
-        AssignmentTarget::ComputedMemberExpression(node) => print_computed_member_expression(
-            node, p, place,
-        ),
-        AssignmentTarget::PrivateFieldExpression(node) => print_private_field_expression::<
             _,
             Inside,
         >(node, p, place),

@@ -3,3 +3,4 @@
 #![tactic(auto)]
 
 pub mod patterns;
+pub mod targets;

@@ -1,7 +1,7 @@
 -- What a step adds stands behind the code before.
 use Rattle.std.proofs.Common.{ℕ, Bool, true, false, ◌||◌, List, [], ◌∷◌, if◌then◌else◌}
 use Rattle.jsgen_model.specs.Punctuator.{Round, opening, closing}
-use Rattle.jsgen_model.specs.Items.{Items, ◌⊕◌, indentation, deeper, brackets, wrapped, wrapped_at_start, parentheses_unless_minified, where_same, statement_end, in_class}
+use Rattle.jsgen_model.specs.Items.{Items, ◌⊕◌, indentation, deeper, brackets, wrapped, wrapped_at_start, parentheses_unless_minified, where_same, statement_end, in_class, unless_minified}
 use Rattle.jsgen_model.specs.Layout.{Pen, layout, written, written_if, text_if, other_end, indented, indent_or_space, at_indentation, end_statement, deeper_level, entered, are_same, is_barred, not}
 use Rattle.jsgen_model.specs.Printing.{IsPrefix}
 use Rattle.jsgen_printer.proofs.Prefixes.{whole_prefix, prefix_append, more_prefix, prefix_of_prefix}
@@ -37,6 +37,7 @@ layout_appends (brackets b a) pen = more_prefix (closing b) (prefix_of_prefix (p
 layout_appends (wrapped test a) pen = wrapped_appends test a pen (λ at. layout_appends a at)
 layout_appends (wrapped_at_start test opener a) pen = wrapped_appends (test || is_barred opener pen.start) a pen (λ at. layout_appends a at)
 layout_appends (parentheses_unless_minified a) pen = wrapped_appends (not pen.style.minified) a pen (λ at. layout_appends a at)
+layout_appends (unless_minified a) pen = either_appends pen.style.minified pen.code pen (layout a pen) (whole_prefix pen.code) (layout_appends a pen)
 layout_appends (where_same m n a b) pen = either_appends (are_same pen.style.tables m n) pen.code (layout a pen) (layout b pen) (layout_appends a pen) (layout_appends b pen)
 layout_appends indentation pen = indentation_appends pen.style.minified pen
 layout_appends statement_end pen = end_appends pen.style.minified pen

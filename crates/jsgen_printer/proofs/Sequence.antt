@@ -3,7 +3,7 @@ use Rattle.std.proofs.Common.{◌≡◌, ℕ, Bool, true, false, ◌||◌, if◌
 use Rattle.std.proofs.lemmas.Bool.{both_ways}
 use Rattle.jsgen_tree.specs.Named.{Named}
 use Rattle.jsgen_model.specs.Punctuator.{Bracket, Round, opening, closing}
-use Rattle.jsgen_model.specs.Items.{Items, nothing, ◌⊕◌, brackets, wrapped, wrapped_at_start, Opener, parentheses_unless_minified, where_same, deeper}
+use Rattle.jsgen_model.specs.Items.{Items, nothing, ◌⊕◌, brackets, wrapped, wrapped_at_start, Opener, parentheses_unless_minified, unless_minified, where_same, deeper}
 use Rattle.jsgen_model.specs.Layout.{Style, Pen, Ending, nowhere, layout, written, written_if, other_end, text_if, is_barred, not, are_same}
 use Rattle.jsgen_model.specs.Printing.{IsPrefix, Stops}
 use Rattle.jsgen_printer.specs.Printer.{pen_of, deepened, at_depth}
@@ -90,6 +90,14 @@ wrapped_at_start_laid {a} {b} {c} {d} {i} own opener test e h inside k = laid_th
 
 pub unless_minified_laid : {a b c d : Printer} {i : Items} (test : Bool) → test ≡ not (pen_of a).style.minified → Goes a b (written_if test (opening Round)) → Lays b c i → Goes c d (written_if test (closing Round)) → Lays a d (parentheses_unless_minified i)
 unless_minified_laid {a} {b} {c} {d} {i} test e h inside k = laid_there (λ going. ap (λ b. layout (wrapped b i) (pen_of a)) e) (wrapped_laid test h inside k)
+
+-- in minified text nothing
+left_out_there : (minified : Bool) (i : Items) (pen : Pen) → layout (if minified then nothing else i) pen ≡ (if minified then pen else layout i pen)
+left_out_there true i pen = refl
+left_out_there false i pen = refl
+
+pub left_out_laid : {a b : Printer} (i : Items) (minified : Bool) → minified ≡ (pen_of a).style.minified → Lays a b (if minified then nothing else i) → Lays a b (unless_minified i)
+left_out_laid {a} i minified e h = laid_there (λ going. left_out_there minified i (pen_of a) ∙ ap (λ b. if b then pen_of a else layout i (pen_of a)) e) h
 
 -- one of two, by how two names are printed
 same_there : (said : Bool) (i j : Items) (pen : Pen) → layout (if said then i else j) pen ≡ (if said then layout i pen else layout j pen)

@@ -2,14 +2,16 @@
 use Rattle.std.proofs.Common.{◌≡◌, false, None, refl}
 use Rattle.jsgen_tree.specs.Inside.{ends_open}
 use Rattle.jsgen_tree.specs.Plain.{node_plain}
-use Rattle.jsgen_tree.specs.Rows.{expression_plain, statement_plain, declaration_plain, binding_pattern_plain, class_element_plain}
+use Rattle.jsgen_tree.specs.Rows.{expression_plain, statement_plain, declaration_plain, binding_pattern_plain, class_element_plain, assignment_target_plain}
 use Rattle.jsgen_tree.specs.declared.nodes.Node.{Node}
 use Rattle.jsgen_tree.specs.declared.sets.Expression.{Expression}
+use Rattle.jsgen_tree.specs.declared.sets.AssignmentTarget.{AssignmentTarget}
 use Rattle.jsgen_tree.specs.declared.sets.Statement.{Statement}
 use Rattle.jsgen_tree.specs.declared.sets.Declaration.{Declaration}
 use Rattle.jsgen_tree.specs.declared.sets.BindingPattern.{BindingPattern}
 use Rattle.jsgen_tree.specs.declared.sets.ClassElement.{ClassElement}
 use Rattle.jsgen_tree.specs.declared.sets.Expression.TheVariants as expressions
+use Rattle.jsgen_tree.specs.declared.sets.AssignmentTarget.TheVariants as targets
 use Rattle.jsgen_tree.specs.declared.sets.Statement.TheVariants as statements
 use Rattle.jsgen_tree.specs.declared.sets.Declaration.TheVariants as declarations
 use Rattle.jsgen_tree.specs.declared.sets.BindingPattern.TheVariants as binding_patterns
@@ -25,6 +27,13 @@ IsNot {B} n variant = (b : B) → n ≡ variant b → ⊥
 pub no_open_expression : (n : Expression Node) → false ≡ ends_open (expression_plain node_plain n)
 no_open_expression (expressions.StringLiteral b) = refl
 no_open_expression n = refl
+
+pub no_open_target : (n : AssignmentTarget Node) → false ≡ ends_open (assignment_target_plain node_plain n)
+no_open_target (targets.IdentifierReference b) = refl
+no_open_target (targets.StaticMemberExpression b) = refl
+no_open_target (targets.ComputedMemberExpression b) = refl
+no_open_target (targets.ArrayAssignmentTarget b) = refl
+no_open_target (targets.ObjectAssignmentTarget b) = refl
 
 pub no_open_declaration : (n : Declaration Node) → false ≡ ends_open (declaration_plain node_plain n)
 no_open_declaration (declarations.VariableDeclaration b) = refl
@@ -57,6 +66,13 @@ no_open_statement n no_declaration no_if no_for no_for_in no_for_of no_while no_
 pub no_expression_string : (n : Expression Node) → None ≡ string_statement (expression_plain node_plain n)
 no_expression_string (expressions.StringLiteral b) = refl
 no_expression_string n = refl
+
+pub no_target_string : (n : AssignmentTarget Node) → None ≡ string_statement (assignment_target_plain node_plain n)
+no_target_string (targets.IdentifierReference b) = refl
+no_target_string (targets.StaticMemberExpression b) = refl
+no_target_string (targets.ComputedMemberExpression b) = refl
+no_target_string (targets.ArrayAssignmentTarget b) = refl
+no_target_string (targets.ObjectAssignmentTarget b) = refl
 
 pub no_declaration_string : (n : Declaration Node) → None ≡ string_statement (declaration_plain node_plain n)
 no_declaration_string (declarations.VariableDeclaration b) = refl

@@ -25,6 +25,7 @@ pub fn ends_open(node: &Node) -> bool
 {
     match node {
         Node::Expression(_) => false,
+        Node::AssignmentTarget(_) => false,
         Node::Declaration(_) => false,
         Node::BindingPattern(_) => false,
         Node::ClassElement(_) => false,

@@ -2,13 +2,17 @@
 ghost use Rattle.std.specs.Prelude.{◌≡◌, bytes_eq, false, option_map};
 ghost use Rattle.std.specs.Option.{option_map_or};
 ghost use Rattle.std.specs.Str.{chars};
-ghost use Rattle.jsgen_tree.specs.Inside.{reference_in};
+ghost use Rattle.jsgen_tree.specs.Inside.{reference_in, looked_up_in, named_by};
 ghost use Rattle.jsgen_tree.specs.Rows.{static_member_expression_row};
 ghost use Rattle.jsgen_tree.specs.Plain.{node_plain};
 ghost use Rattle.jsgen_model.specs.Quotes.{is_named, is_member_of};
+ghost use Rattle.jsgen_model.specs.Spell.{target_named};
 ghost use Rattle.jsgen_questions.specs.Names.{is_reference, is_binding_name};
 
-use jsgen_tree::{BindingPattern, Expression, Node, NodeType, Statement, StaticMemberExpression};
+use jsgen_tree::{
+    AssignmentTarget, BindingPattern, Expression, IdentifierReference, Node, NodeType, Statement,
+    StaticMemberExpression,
+};
 
 fn is_reference(node_type: NodeType) -> bool
     ensures { result ≡ is_reference node_type }
@@ -67,6 +71,10 @@ pub fn is_member(node: &Node, object: &str, name: &str) -> bool
             Expression::StaticMemberExpression(node) => static_member_is(node, object, name),
             _ => false,
         },
+        Node::AssignmentTarget(target) => match target {
+            AssignmentTarget::StaticMemberExpression(node) => static_member_is(node, object, name),
+            _ => false,
+        },
         Node::Statement(statement) => match statement {
             Statement::Declaration(node) => is_member(node.get(), object, name),
             _ => false,
@@ -84,6 +92,7 @@ pub fn is_binding_name(node: &Node) -> bool
 {
     match node {
         Node::Expression(_) => false,
+        Node::AssignmentTarget(_) => false,
         Node::Statement(statement) => match statement {
             Statement::Declaration(node) => is_binding_name(node.get()),
             _ => false,
@@ -96,5 +105,30 @@ pub fn is_binding_name(node: &Node) -> bool
             BindingPattern::AssignmentPattern(_) => false,
         },
         Node::ClassElement(_) => false,
+    }
+}
+
+/// The reference that a node is, with its number, where no parentheses are round it. No wrapper holds a target with a default.
+#[cycle(bare_looked_up)]
+pub fn bare_looked_up(node: &Node) -> Option<&IdentifierReference>
+    ensures reference { option_map (λ n. named_by n.now) result ≡ looked_up_in (node_plain node.now) }
+    ensures target { option_map (λ n. named_by n.now) result ≡ target_named (node_plain node.now) }
+{
+    match node {
+        Node::Expression(expression) => match expression {
+            Expression::IdentifierReference(node) => Some(node),
+            _ => None,
+        },
+        Node::AssignmentTarget(target) => match target {
+            AssignmentTarget::IdentifierReference(node) => Some(node),
+            _ => None,
+        },
+        Node::Statement(statement) => match statement {
+            Statement::Declaration(node) => bare_looked_up(node.get()),
+            _ => None,
+        },
+        Node::Declaration(_) => None,
+        Node::BindingPattern(_) => None,
+        Node::ClassElement(_) => None,
     }
 }

@@ -9,7 +9,7 @@ ghost use Rattle.jsgen_model.specs.Spell.{left_level, right_level, unmixed, is_o
 ghost use Rattle.jsgen_questions.specs.Operands.{operand_of};
 
 use jsgen_syntax::{BinaryOperator, GetPrecedence, LogicalOperator, Precedence};
-use jsgen_tree::{Expression, Node};
+use jsgen_tree::{Expression, Inner, Node};
 
 /// What matters of an operand, without the parentheses that it may have round it.
 #[derive(Clone, Copy)]
@@ -38,11 +38,13 @@ pub fn operand_of(node: &Node) -> Operand
 {
     match node.inner_expression() {
         Some(
-            Expression::NumericLiteral(_)
-            | Expression::BigIntLiteral(_)
-            | Expression::UnaryExpression(_),
+            Inner::Expression(
+                Expression::NumericLiteral(_)
+                | Expression::BigIntLiteral(_)
+                | Expression::UnaryExpression(_),
+            ),
         ) => Operand::PREFIXED,
-        Some(Expression::LogicalExpression(node)) => Operand {
+        Some(Inner::Expression(Expression::LogicalExpression(node))) => Operand {
             is_prefixed: false,
             mixes: is_or_or_and(node.operator),
         },

@@ -2,20 +2,31 @@
 ghost use Rattle.std.specs.Prelude.{◌≡◌, option_map};
 ghost use Rattle.jsgen_syntax.specs.Units.{js_units};
 ghost use Rattle.jsgen_tree.specs.Inside.{without_parentheses};
+ghost use Rattle.jsgen_tree.specs.Inner.{inner_plain};
 ghost use Rattle.jsgen_tree.specs.Rows.{expression_plain};
 ghost use Rattle.jsgen_tree.specs.Plain.{node_plain};
 ghost use Rattle.jsgen_model.specs.Spell.{string_in, string_statement};
 
 use jsgen_syntax::JsStr;
-use jsgen_tree::{Expression, Node, Statement};
+use jsgen_tree::{Expression, Inner, Node, Statement};
 
 /// The string that a node is, without the parentheses that it may have round it.
 pub fn string(node: &Node) -> Option<&JsStr>
     ensures { option_map (λ v. js_units v.now) result ≡ string_in (without_parentheses (node_plain node.now)) }
 {
     match node.inner_expression() {
-        Some(expression) => bare_string(expression),
+        Some(inner) => inner_string(inner),
         None => None,
+    }
+}
+
+/// The string that stands within parentheses.
+pub fn inner_string(inner: Inner<'_>) -> Option<&JsStr>
+    ensures { option_map (λ v. js_units v.now) result ≡ string_in (inner_plain inner.entry) }
+{
+    match inner {
+        Inner::Expression(expression) => bare_string(expression),
+        Inner::Target(_) => None,
     }
 }
 
@@ -36,6 +47,7 @@ pub fn string_statement(node: &Node) -> Option<&JsStr>
 {
     match node {
         Node::Expression(_) => None,
+        Node::AssignmentTarget(_) => None,
         Node::Declaration(_) => None,
         Node::BindingPattern(_) => None,
         Node::ClassElement(_) => None,

@@ -1,16 +1,20 @@
 -- Assignments: a target, a sign and what the target is given.
-use Rattle.std.proofs.Common.{◌≡◌, Some, [], ◌∷◌, refl, ◌∙◌}
+use Rattle.std.proofs.Common.{◌≡◌, Bool, true, false, Some, [], ◌∷◌, refl, sym, subst, ◌∙◌}
+use Rattle.std.proofs.lemmas.Bool.{both_ways}
 use Rattle.jsgen_syntax.specs.declared.operator.AssignmentOperator.{AssignmentOperator}
 use Rattle.jsgen_syntax.specs.declared.operator.AssignmentOperator.TheVariants as operators
 use Rattle.jsgen_syntax.specs.declared.precedence.Precedence.TheVariants as levels
 use Rattle.jsgen_tree.specs.Job.{Tables}
 use Rattle.jsgen_tree.specs.Atom.{assignment_operator}
-use Rattle.jsgen_tree.specs.Tree.{Tree, Atoms}
+use Rattle.jsgen_tree.specs.Tree.{Tree, Atoms, type_of}
+use Rattle.jsgen_tree.specs.Sets.{is_simple_assignment_target}
+use Rattle.jsgen_tree.specs.declared.types.NodeType.{NodeType}
+use Rattle.jsgen_tree.specs.declared.types.NodeType.TheVariants as types
 use Rattle.jsgen_tree.specs.Places.{bare}
 use Rattle.jsgen_tree.specs.Values.{assignment_expression_operator}
 use Rattle.jsgen_tree.specs.Nodes as tree
 use Rattle.jsgen_model.specs.Tokens.{Tokens, done, piece, ◌⧺◌, Sign}
-use Rattle.jsgen_model.specs.Items.{Items, ◌⊕◌, soft_space}
+use Rattle.jsgen_model.specs.Items.{Items, ◌⊕◌, soft_space, wrapped}
 use Rattle.jsgen_model.specs.Layout.{Pen, layout}
 use Rattle.jsgen_model.specs.Grammar.{Allowed, Level, ReadsExpression, with_in, assignment_sign, simple_target}
 use Rattle.jsgen_model.specs.Grammar as grammar
@@ -19,12 +23,12 @@ use Rattle.jsgen_model.specs.Renamed.{renamed}
 use Rattle.jsgen_model.specs.Quotes.{is_key_of_exports}
 use Rattle.jsgen_place.specs.declared.place.Place.{Place}
 use Rattle.jsgen_place.specs.Place.{quoted_plainly, child, wraps, in_brackets}
-use Rattle.jsgen_model.specs.Spell.{spell}
+use Rattle.jsgen_model.specs.Spell.{spell, assignment_items}
 use Rattle.jsgen_model.specs.Operators.{assignment_item}
 use Rattle.jsgen_token_laws.proofs.Last.{Last, After, line_of}
 use Rattle.jsgen_token_laws.proofs.Writes.{Writes, wrote_both}
 use Rattle.jsgen_token_laws.proofs.Steps.{Soft, soft_space_written}
-use Rattle.jsgen_reading_laws.proofs.Levels.{under, unwrapped}
+use Rattle.jsgen_reading_laws.proofs.Levels.{level_of, under, unwrapped}
 use Rattle.jsgen_reading_laws.proofs.Good.{Good, Printed, TargetPrinted, Between, begins_then, line_then, PrintedBy, good_wrapped, good_within}
 use Rattle.jsgen_reading_laws.proofs.Chains.{punctuator_between}
 
@@ -58,11 +62,17 @@ assignment_parts {names} a t u {p = p} g simple left b w n h =
       same = same_assignment o g.tree h.tree (renamed names t) (renamed names u) g.same h.same;
     }
 
+-- what is given to a name or a member stands in parentheses by its place alone
+wrapped_alone : (type : NodeType) → is_simple_assignment_target type ≡ true → (test : Bool) (items : Items) → assignment_items type test items ≡ wrapped test items
+wrapped_alone types.IdentifierReference h test items = refl
+wrapped_alone types.StaticMemberExpression h test items = refl
+wrapped_alone types.ComputedMemberExpression h test items = refl
+wrapped_alone type h test items = absurd (both_ways false refl h)
+
 -- what is forbidden outside its parentheses stays forbidden in them
-pub good_assignment : {names : Tables} (c : Allowed) (a : Atoms) (t u : Tree) → TargetPrinted names c t → Printed names c u → Printed names c (tree.assignment a t u)
-good_assignment {names} c a t u f h place =
-    good_wrapped c place grammar.Assignment (wraps levels.Assign place) (λ w. items) (tree.assignment a t u)
-    (λ d ts v r. grammar.an_assignment r) (λ e ts v r. unwrapped levels.Assign place e r) (λ v e p l z y k. good_within c place v (inner p l z y k))
+pub good_assignment : {names : Tables} (c : Allowed) (a : Atoms) (t u : Tree) → is_simple_assignment_target (type_of t) ≡ true → TargetPrinted names c t → Printed names c u → Printed names c (tree.assignment a t u)
+good_assignment {names} c a t u s f h place = subst (λ i. PrintedBy names (under place c) (level_of place) i (tree.assignment a t u)) (sym (wrapped_alone (type_of t) s (wraps levels.Assign place) items)) (good_wrapped c place grammar.Assignment (wraps levels.Assign place) (λ w. items) (tree.assignment a t u)
+    (λ d ts v r. grammar.an_assignment r) (λ e ts v r. unwrapped levels.Assign place e r) (λ v e p l z y k. good_within c place v (inner p l z y k)))
   where
     o : AssignmentOperator
     o = assignment_expression_operator a

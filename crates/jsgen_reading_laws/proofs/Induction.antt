@@ -73,7 +73,7 @@ mutual
   printed_expression {names} {c} (family.a_call {a} {f} {es} m v w) = good_call c a f es m (printed_link v) (printed_arguments w)
   printed_expression {names} {c} (family.a_choice {a} {x} {y} {z} u v w) = good_choice c a x y z (printed_expression u) (printed_expression v) (printed_expression w)
   printed_expression {names} {c} (family.a_sequence {a} {t} {u} {ts} v w x) = good_sequence c a t u ts (printed_expression v) (printed_expression w) (printed_parts x)
-  printed_expression {names} {c} (family.an_assignment {a} {t} {u} s v w) = good_assignment c a t u (printed_target v s) (printed_expression w)
+  printed_expression {names} {c} (family.an_assignment {a} {t} {u} s v w) = good_assignment c a t u s (printed_target v s) (printed_expression w)
   printed_expression {names} {c} (family.a_chain {a} {t} v) = good_chain c a t (printed_chain v)
   printed_expression {names} {c} (family.an_array {a} {es} v) = good_array c a es (printed_elements v)
   printed_expression {names} {c} (family.an_object {a} {ps} v) = good_object c a ps (printed_properties v)

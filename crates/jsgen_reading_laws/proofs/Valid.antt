@@ -1,9 +1,9 @@
 -- Why a valid tree is of the families over which the induction goes: one lemma a row.
-use Rattle.std.proofs.Common.{◌≡◌, nat_lt, Bool, true, false, ◌&&◌, ◌++◌, List, [], ◌∷◌, refl, sym, ◌∙◌, not}
+use Rattle.std.proofs.Common.{◌≡◌, nat_lt, Bool, true, false, ◌&&◌, ◌||◌, ◌++◌, List, [], ◌∷◌, refl, sym, ◌∙◌, not}
 use Rattle.std.proofs.lemmas.Bool.{and_parts, or_parts, not-true}
 use Rattle.jsgen_tree.specs.Tree.{Tree, node, Maybe, absent, given, Trees, no_trees, more, hole, Atoms, type_of, span_of}
 use Rattle.jsgen_tree.specs.Nodes as tree
-use Rattle.jsgen_tree.specs.Values.{program_kind, numeric_literal_kind, numeric_literal_text, variable_declarator_definite, for_of_statement_is_await, static_member_expression_optional, computed_member_expression_optional, call_expression_optional, object_property_kind, object_property_method, object_property_computed, formal_parameter_is_override, formal_parameter_readonly, formal_parameter_optional, arrow_function_expression_is_async, function_kind}
+use Rattle.jsgen_tree.specs.Values.{program_kind, numeric_literal_kind, numeric_literal_text, variable_declarator_definite, for_of_statement_is_await, static_member_expression_optional, computed_member_expression_optional, call_expression_optional, object_property_kind, object_property_method, object_property_computed, formal_parameter_is_override, formal_parameter_readonly, formal_parameter_optional, arrow_function_expression_is_async, assignment_expression_operator, function_kind}
 use Rattle.jsgen_tree.specs.Inside.{reference_named, is_method, has_optional_link}
 use Rattle.jsgen_tree.specs.Everywhere.{EverywhereIfGiven, EverywhereInTrees}
 use Rattle.jsgen_tree.specs.Sets.{is_statement, is_variable_declarator, is_formal_parameter, is_formal_parameters, is_for_statement_left, is_block_statement, is_catch_clause, is_function_body}
@@ -14,7 +14,7 @@ use Rattle.jsgen_model.specs.declared.fault.TreeFault.TheVariants as faults
 use Rattle.jsgen_model.specs.Grammar.{Allowed, in_module, in_arrow_body, in_function}
 use Rattle.jsgen_model.specs.Plain.{IsPlain, is_plain_row, has_plain_flags, is_module, has_no_hole}
 use Rattle.jsgen_tree.specs.declared.functions.FunctionKind.TheVariants as kinds
-use Rattle.jsgen_model.specs.Valid.{Surroundings, ChildPlace, breaches, in_maybe, in_trees, fits_kind, set_faults, span_faults, own_faults, body_faults, name_faults, number_faults, declaration_faults, key_faults, sequence_faults, super_faults, chain_faults, target_faults, is_one_name, left_faults, init_faults, defaults, switch_faults, try_faults, function_faults, return_faults}
+use Rattle.jsgen_model.specs.Valid.{Surroundings, ChildPlace, breaches, in_maybe, in_trees, fits_kind, set_faults, span_faults, own_faults, body_faults, name_faults, number_faults, declaration_faults, key_faults, sequence_faults, super_faults, chain_faults, target_faults, is_one_name, left_faults, init_faults, defaults, switch_faults, try_faults, function_faults, return_faults, assigned_faults, assigns_alone, is_target_pattern}
 use Rattle.jsgen_reading_laws.proofs.Families.{IsExpression, AreParts, IsChain, AreProperties, IsKey, AreArguments, AreElements, IsParameters, AreParameters, IsParameter, IsValue, IsDeclarator, AreDeclarators, IsStatement, IsInit, IsLeft, AreCases, AreEndsOfTry, IsHandler, IsBlock, IsItem, AreStatements, IsProgram, IsBody}
 use Rattle.jsgen_reading_laws.proofs.Families as family
 use Rattle.jsgen_reading_laws.proofs.Faultless.{none_both, none_if, none_unless, parts, stands_at, standing, placed, placed_statement, no_truth, no_truth_behind, unset, member_valid, argument_stands, arrow_body_stands, target_stands, target_fits, target_is_simple, link_valid, base_valid, none_in_object, key_stands, big_valued, number_valued, key_valid, link_kind, free_since, binding_valid, rest_valid, placed_if_given, directives_valid, kind_is, bodiless, init_stands, left_is_simple, name_valid, label_valid, jump_valid, variables_are, body_valid, one_less, none_left_out, none_case, ends_of_try, StandsAt, place_of, rest_of_property, property_faults, Returns, most, HandlerIfGiven, FinalizerIfGiven, function_parts, braces_parts, within_function, property_since, variables_parts, unset}
@@ -86,11 +86,13 @@ mutual
       let j = none_both (in_trees around (place_of sets.Expression around ∷ []) ts) [] h.1 in
       sequence_valid c around a ts p.0 p.1.0 h.0 j.0
   expression_valid c around (tree.assignment a t u) p s e =
-      let h = parts (span_faults around a.span) (target_faults t) _ e in
+      let h = parts (span_faults around a.span) (assigned_faults (assignment_expression_operator a) t) _ e in
       let k = placed around sets.AssignmentTarget t _ h.1 in
       let j = standing around sets.Expression u [] k.2 in
-      let i = target_is_simple (type_of t) k.0 in
-      family.an_assignment i (expression_valid c around t p.1.0 (target_stands (type_of t) i, none_if (has_optional_link t) (faults.Place (span_of t).start) h.0, target_fits t i) k.1) (expression_valid c around u p.1.1.0 j.0 j.1)
+      let i = target_is_simple t p.1.0.0 k.0 in
+      let barred : Bool = not (assigns_alone (assignment_expression_operator a)) && is_target_pattern (type_of t) in
+      let unlinked = or_parts (has_optional_link t) barred (none_if (has_optional_link t || barred) (faults.Place (span_of t).start) h.0) in
+      family.an_assignment i (expression_valid c around t p.1.0 (target_stands (type_of t) i, unlinked.0, target_fits t i) k.1) (expression_valid c around u p.1.1.0 j.0 j.1)
   expression_valid c around (tree.arrow_function a ps (tree.function_body b ds ss)) p s e =
       let k = placed around sets.FormalParameters ps _ (parts (span_faults around a.span) [] _ e).1 in
       let j = standing around sets.ArrowFunctionBody (tree.function_body b ds ss) [] k.2 in

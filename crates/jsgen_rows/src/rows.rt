@@ -4,7 +4,7 @@ ghost use Rattle.std.specs.Prelude.{◌≡◌};
 ghost use Rattle.serde_json.specs.View.{view};
 ghost use Rattle.jsgen_fields.specs.Reads.{Gives, read_typed};
 ghost use Rattle.jsgen_pool.specs.Pool.{entries};
-ghost use Rattle.jsgen_fields.specs.Parts.{is_in_statements, is_in_expressions, is_in_collections, is_in_operations, is_in_assignments, is_in_functions, is_in_loops, is_in_choices, is_in_patterns};
+ghost use Rattle.jsgen_fields.specs.Parts.{is_in_statements, is_in_expressions, is_in_collections, is_in_operations, is_in_assignments, is_in_functions, is_in_loops, is_in_choices, is_in_patterns, is_in_targets};
 
 use jsgen_class_rows::classes::read_in_classes;
 use jsgen_expression_rows::assignments::read_in_assignments;
@@ -15,6 +15,7 @@ use jsgen_expression_rows::operations::read_in_operations;
 use jsgen_fields::InputFault;
 use jsgen_fields::asked::{ReadNode, RowOf};
 use jsgen_pattern_rows::patterns::read_in_patterns;
+use jsgen_pattern_rows::targets::read_in_targets;
 use jsgen_pool::Kept;
 use jsgen_statement_rows::choices::read_in_choices;
 use jsgen_statement_rows::loops::read_in_loops;
@@ -162,6 +163,20 @@ fn is_in_patterns(node_type: NodeType) -> bool
     )
 }
 
+fn is_in_targets(node_type: NodeType) -> bool
+    ensures { result ≡ is_in_targets node_type }
+{
+    matches!(
+        &node_type,
+        NodeType::ArrayAssignmentTarget
+            | NodeType::ObjectAssignmentTarget
+            | NodeType::AssignmentTargetWithDefault
+            | NodeType::AssignmentTargetPropertyIdentifier
+            | NodeType::AssignmentTargetPropertyProperty
+            | NodeType::AssignmentTargetRest
+    )
+}
+
 /// The row of a type.
 pub fn read_typed<N: ReadNode + Drop, R: RowOf<N> + Drop>(
     alloc: Global,
@@ -200,6 +215,9 @@ pub fn read_typed<N: ReadNode + Drop, R: RowOf<N> + Drop>(
     }
     if is_in_patterns(node_type) {
         return read_in_patterns::<N, R>(alloc, kept, node_type, number, span, row);
+    }
+    if is_in_targets(node_type) {
+        return read_in_targets::<N, R>(alloc, kept, node_type, number, span, row);
     }
     read_in_classes::<N, R>(alloc, kept, node_type, number, span, row)
 }

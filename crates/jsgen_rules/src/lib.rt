@@ -3,7 +3,7 @@
 
 ghost use Rattle.std.specs.Prelude.{◌≡◌, not, ◌&&◌};
 ghost use Rattle.std.specs.Str.{chars};
-ghost use Rattle.jsgen_model.specs.Valid.{directive_faults, raw_number_faults, big_integer_faults, fault_if, is_super, takes_super, is_default, takes_default, has_place, may_stand, is_binding_name, is_among_statements, takes_optional_link};
+ghost use Rattle.jsgen_model.specs.Valid.{directive_faults, raw_number_faults, big_integer_faults, fault_if, is_super, takes_super, is_default, takes_default, has_place, may_stand, is_binding_name, is_among_statements, takes_optional_link, is_target_pattern, assigns_alone};
 ghost use Rattle.jsgen_model.specs.declared.fault.TreeFault.TheVariants as faults;
 ghost use Rattle.jsgen_rules.specs.Verdict.{verdict};
 
@@ -11,8 +11,8 @@ mod classes;
 mod comments;
 mod functions;
 mod names;
-mod regular_expressions;
 mod private;
+mod regular_expressions;
 mod spans;
 mod statements;
 
@@ -21,12 +21,12 @@ pub use comments::check_comment;
 pub use functions::{check_function, check_return, fits_accessor, function_fits};
 use jsgen_model::TreeFault;
 use jsgen_numbers::{is_big_integer, is_raw_number};
-use jsgen_syntax::{Quote, Span};
+use jsgen_syntax::{AssignmentOperator, Quote, Span};
 use jsgen_text::spells_string;
 use jsgen_tree::{NodeSet, NodeType};
 pub use names::{check_binding, check_label, check_reference, check_written_name};
-pub use regular_expressions::check_regular_expression;
 pub use private::check_private_name;
+pub use regular_expressions::check_regular_expression;
 pub use spans::{check_source, check_span};
 pub use statements::{check_body, check_defaults, check_ends, check_one_name, is_declaration};
 
@@ -124,6 +124,23 @@ pub fn takes_optional_link(set: NodeSet) -> bool
             | NodeSet::AssignmentTarget
             | NodeSet::ForStatementLeft
     )
+}
+
+/// Whether a node of this type is given several values.
+pub fn is_target_pattern(node_type: NodeType) -> bool
+    ensures { result ≡ is_target_pattern node_type }
+{
+    matches!(
+        &node_type,
+        NodeType::ArrayAssignmentTarget | NodeType::ObjectAssignmentTarget
+    )
+}
+
+/// Whether an operator gives the value as it is.
+pub fn assigns_alone(operator: AssignmentOperator) -> bool
+    ensures { result ≡ assigns_alone operator }
+{
+    matches!(&operator, AssignmentOperator::Assign)
 }
 
 /// Where none of them may be optional, none is.

@@ -10,7 +10,8 @@ ghost use Rattle.jsgen_tree.specs.declared.types.NodeType.TheVariants as types;
 
 use jsgen_fields::InputFault;
 use jsgen_fields::asked::{
-    HoldsDeclaration, HoldsExpression, HoldsStatement, PlainNode, ReadNode, RowOf,
+    HoldsAssignmentTarget, HoldsDeclaration, HoldsExpression, HoldsStatement, PlainNode, ReadNode,
+    RowOf,
 };
 use jsgen_fields::fields::boxed;
 use jsgen_fields::kept::{row_of_label_identifier, row_of_statement};
@@ -80,7 +81,7 @@ fn read_for_statement<
 
 #[tactic(auto, unfolding(jsgen_fields::specs::Reads::read_node))]
 fn read_for_in_statement<
-    N: HoldsExpression + HoldsDeclaration + HoldsStatement + Drop,
+    N: HoldsExpression + HoldsAssignmentTarget + HoldsDeclaration + HoldsStatement + Drop,
     R: RowOf<N> + Drop,
 >(
     alloc: Global,
@@ -123,7 +124,7 @@ fn read_for_in_statement<
 
 #[tactic(auto, unfolding(jsgen_fields::specs::Reads::read_node))]
 fn read_for_of_statement<
-    N: HoldsExpression + HoldsDeclaration + HoldsStatement + Drop,
+    N: HoldsExpression + HoldsAssignmentTarget + HoldsDeclaration + HoldsStatement + Drop,
     R: RowOf<N> + Drop,
 >(
     alloc: Global,

@@ -6,13 +6,16 @@ use Rattle.jsgen_tree.specs.declared.sets.Argument.{Argument}
 use Rattle.jsgen_tree.specs.declared.sets.ArrayExpressionElement.{ArrayExpressionElement}
 use Rattle.jsgen_tree.specs.declared.sets.ChainElement.{ChainElement}
 use Rattle.jsgen_tree.specs.declared.sets.SimpleAssignmentTarget.{SimpleAssignmentTarget}
-use Rattle.jsgen_tree.specs.declared.sets.AssignmentTarget.{AssignmentTarget}
+use Rattle.jsgen_tree.specs.declared.sets.AssignmentTargetPattern.{AssignmentTargetPattern}
+use Rattle.jsgen_tree.specs.declared.sets.AssignmentTargetMaybeDefault.{AssignmentTargetMaybeDefault}
+use Rattle.jsgen_tree.specs.declared.sets.AssignmentTargetProperty.{AssignmentTargetProperty}
 use Rattle.jsgen_tree.specs.declared.sets.ArrowFunctionBody.{ArrowFunctionBody}
 use Rattle.jsgen_tree.specs.declared.sets.ForStatementInit.{ForStatementInit}
 use Rattle.jsgen_tree.specs.declared.sets.ForStatementLeft.{ForStatementLeft}
 use Rattle.jsgen_tree.specs.declared.sets.ObjectPropertyKind.{ObjectPropertyKind}
 use Rattle.jsgen_tree.specs.declared.sets.PropertyKey.{PropertyKey}
 use Rattle.jsgen_tree.specs.declared.nodes.ExpressionNode.{ExpressionNode}
+use Rattle.jsgen_tree.specs.declared.nodes.AssignmentTargetNode.{AssignmentTargetNode}
 use Rattle.jsgen_tree.specs.declared.nodes.StatementNode.{StatementNode}
 use Rattle.jsgen_tree.specs.declared.nodes.BindingPatternNode.{BindingPatternNode}
 use Rattle.jsgen_tree.specs.declared.statements.VariableDeclaration.{VariableDeclaration}
@@ -28,7 +31,6 @@ use Rattle.jsgen_tree.specs.declared.expressions.ChainExpression.{ChainExpressio
 use Rattle.jsgen_tree.specs.declared.collections.SpreadElement.{SpreadElement}
 use Rattle.jsgen_tree.specs.declared.collections.ObjectProperty.{ObjectProperty}
 use Rattle.jsgen_tree.specs.declared.operations.UpdateExpression.{UpdateExpression}
-use Rattle.jsgen_tree.specs.declared.assignments.AssignmentExpression.{AssignmentExpression}
 use Rattle.jsgen_tree.specs.declared.functions.FormalParameter.{FormalParameter}
 use Rattle.jsgen_tree.specs.declared.functions.FormalParameterRest.{FormalParameterRest}
 use Rattle.jsgen_tree.specs.declared.functions.FormalParameters.{FormalParameters}
@@ -46,6 +48,12 @@ use Rattle.jsgen_tree.specs.declared.patterns.ObjectPattern.{ObjectPattern}
 use Rattle.jsgen_tree.specs.declared.patterns.BindingProperty.{BindingProperty}
 use Rattle.jsgen_tree.specs.declared.patterns.BindingRestElement.{BindingRestElement}
 use Rattle.jsgen_tree.specs.declared.patterns.ArrayPattern.{ArrayPattern}
+use Rattle.jsgen_tree.specs.declared.targets.ArrayAssignmentTarget.{ArrayAssignmentTarget}
+use Rattle.jsgen_tree.specs.declared.targets.ObjectAssignmentTarget.{ObjectAssignmentTarget}
+use Rattle.jsgen_tree.specs.declared.targets.AssignmentTargetWithDefault.{AssignmentTargetWithDefault}
+use Rattle.jsgen_tree.specs.declared.targets.AssignmentTargetPropertyIdentifier.{AssignmentTargetPropertyIdentifier}
+use Rattle.jsgen_tree.specs.declared.targets.AssignmentTargetPropertyProperty.{AssignmentTargetPropertyProperty}
+use Rattle.jsgen_tree.specs.declared.targets.AssignmentTargetRest.{AssignmentTargetRest}
 use Rattle.jsgen_tree.specs.declared.classes.PrivateIdentifier.{PrivateIdentifier}
 use Rattle.jsgen_tree.specs.declared.classes.PrivateFieldExpression.{PrivateFieldExpression}
 use Rattle.jsgen_tree.specs.declared.classes.Class.{Class}
@@ -55,7 +63,9 @@ use Rattle.jsgen_tree.specs.declared.sets.Argument.TheVariants as arguments
 use Rattle.jsgen_tree.specs.declared.sets.ArrayExpressionElement.TheVariants as array_expression_elements
 use Rattle.jsgen_tree.specs.declared.sets.ChainElement.TheVariants as chain_elements
 use Rattle.jsgen_tree.specs.declared.sets.SimpleAssignmentTarget.TheVariants as simple_assignment_targets
-use Rattle.jsgen_tree.specs.declared.sets.AssignmentTarget.TheVariants as assignment_targets
+use Rattle.jsgen_tree.specs.declared.sets.AssignmentTargetPattern.TheVariants as assignment_target_patterns
+use Rattle.jsgen_tree.specs.declared.sets.AssignmentTargetMaybeDefault.TheVariants as assignment_target_maybe_defaults
+use Rattle.jsgen_tree.specs.declared.sets.AssignmentTargetProperty.TheVariants as assignment_target_propertys
 use Rattle.jsgen_tree.specs.declared.sets.ArrowFunctionBody.TheVariants as arrow_function_bodys
 use Rattle.jsgen_tree.specs.declared.sets.ForStatementInit.TheVariants as for_statement_inits
 use Rattle.jsgen_tree.specs.declared.sets.ForStatementLeft.TheVariants as for_statement_lefts
@@ -84,11 +94,17 @@ with_simple_assignment_target P of_identifier_reference of_static_member_express
 with_simple_assignment_target P of_identifier_reference of_static_member_expression of_computed_member_expression of_private_field_expression (simple_assignment_targets.ComputedMemberExpression b) = of_computed_member_expression b
 with_simple_assignment_target P of_identifier_reference of_static_member_expression of_computed_member_expression of_private_field_expression (simple_assignment_targets.PrivateFieldExpression b) = of_private_field_expression b
 
-pub with_assignment_target : {N : Type 0} (P : AssignmentTarget N → Type 0) → ((b : Box IdentifierReference Global) → P (assignment_targets.IdentifierReference b)) → ((b : Box (StaticMemberExpression N) Global) → P (assignment_targets.StaticMemberExpression b)) → ((b : Box (ComputedMemberExpression N) Global) → P (assignment_targets.ComputedMemberExpression b)) → ((b : Box (PrivateFieldExpression N) Global) → P (assignment_targets.PrivateFieldExpression b)) → (n : AssignmentTarget N) → P n
-with_assignment_target P of_identifier_reference of_static_member_expression of_computed_member_expression of_private_field_expression (assignment_targets.IdentifierReference b) = of_identifier_reference b
-with_assignment_target P of_identifier_reference of_static_member_expression of_computed_member_expression of_private_field_expression (assignment_targets.StaticMemberExpression b) = of_static_member_expression b
-with_assignment_target P of_identifier_reference of_static_member_expression of_computed_member_expression of_private_field_expression (assignment_targets.ComputedMemberExpression b) = of_computed_member_expression b
-with_assignment_target P of_identifier_reference of_static_member_expression of_computed_member_expression of_private_field_expression (assignment_targets.PrivateFieldExpression b) = of_private_field_expression b
+pub with_assignment_target_pattern : {N : Type 0} (P : AssignmentTargetPattern N → Type 0) → ((b : Box (ArrayAssignmentTarget N) Global) → P (assignment_target_patterns.ArrayAssignmentTarget b)) → ((b : Box (ObjectAssignmentTarget N) Global) → P (assignment_target_patterns.ObjectAssignmentTarget b)) → (n : AssignmentTargetPattern N) → P n
+with_assignment_target_pattern P of_array_assignment_target of_object_assignment_target (assignment_target_patterns.ArrayAssignmentTarget b) = of_array_assignment_target b
+with_assignment_target_pattern P of_array_assignment_target of_object_assignment_target (assignment_target_patterns.ObjectAssignmentTarget b) = of_object_assignment_target b
+
+pub with_assignment_target_maybe_default : {N : Type 0} (P : AssignmentTargetMaybeDefault N → Type 0) → ((b : Box (AssignmentTargetNode N) Global) → P (assignment_target_maybe_defaults.AssignmentTarget b)) → ((b : Box (AssignmentTargetWithDefault N) Global) → P (assignment_target_maybe_defaults.AssignmentTargetWithDefault b)) → (n : AssignmentTargetMaybeDefault N) → P n
+with_assignment_target_maybe_default P of_assignment_target of_assignment_target_with_default (assignment_target_maybe_defaults.AssignmentTarget b) = of_assignment_target b
+with_assignment_target_maybe_default P of_assignment_target of_assignment_target_with_default (assignment_target_maybe_defaults.AssignmentTargetWithDefault b) = of_assignment_target_with_default b
+
+pub with_assignment_target_property : {N : Type 0} (P : AssignmentTargetProperty N → Type 0) → ((b : Box (AssignmentTargetPropertyIdentifier N) Global) → P (assignment_target_propertys.AssignmentTargetPropertyIdentifier b)) → ((b : Box (AssignmentTargetPropertyProperty N) Global) → P (assignment_target_propertys.AssignmentTargetPropertyProperty b)) → (n : AssignmentTargetProperty N) → P n
+with_assignment_target_property P of_assignment_target_property_identifier of_assignment_target_property_property (assignment_target_propertys.AssignmentTargetPropertyIdentifier b) = of_assignment_target_property_identifier b
+with_assignment_target_property P of_assignment_target_property_identifier of_assignment_target_property_property (assignment_target_propertys.AssignmentTargetPropertyProperty b) = of_assignment_target_property_property b
 
 pub with_arrow_function_body : {N : Type 0} (P : ArrowFunctionBody N → Type 0) → ((b : Box (FunctionBody N) Global) → P (arrow_function_bodys.FunctionBody b)) → ((b : Box (ExpressionNode N) Global) → P (arrow_function_bodys.Expression b)) → (n : ArrowFunctionBody N) → P n
 with_arrow_function_body P of_function_body of_expression (arrow_function_bodys.FunctionBody b) = of_function_body b
@@ -98,12 +114,9 @@ pub with_for_statement_init : {N : Type 0} (P : ForStatementInit N → Type 0) �
 with_for_statement_init P of_variable_declaration of_expression (for_statement_inits.VariableDeclaration b) = of_variable_declaration b
 with_for_statement_init P of_variable_declaration of_expression (for_statement_inits.Expression b) = of_expression b
 
-pub with_for_statement_left : {N : Type 0} (P : ForStatementLeft N → Type 0) → ((b : Box (VariableDeclaration N) Global) → P (for_statement_lefts.VariableDeclaration b)) → ((b : Box IdentifierReference Global) → P (for_statement_lefts.IdentifierReference b)) → ((b : Box (StaticMemberExpression N) Global) → P (for_statement_lefts.StaticMemberExpression b)) → ((b : Box (ComputedMemberExpression N) Global) → P (for_statement_lefts.ComputedMemberExpression b)) → ((b : Box (PrivateFieldExpression N) Global) → P (for_statement_lefts.PrivateFieldExpression b)) → (n : ForStatementLeft N) → P n
-with_for_statement_left P of_variable_declaration of_identifier_reference of_static_member_expression of_computed_member_expression of_private_field_expression (for_statement_lefts.VariableDeclaration b) = of_variable_declaration b
-with_for_statement_left P of_variable_declaration of_identifier_reference of_static_member_expression of_computed_member_expression of_private_field_expression (for_statement_lefts.IdentifierReference b) = of_identifier_reference b
-with_for_statement_left P of_variable_declaration of_identifier_reference of_static_member_expression of_computed_member_expression of_private_field_expression (for_statement_lefts.StaticMemberExpression b) = of_static_member_expression b
-with_for_statement_left P of_variable_declaration of_identifier_reference of_static_member_expression of_computed_member_expression of_private_field_expression (for_statement_lefts.ComputedMemberExpression b) = of_computed_member_expression b
-with_for_statement_left P of_variable_declaration of_identifier_reference of_static_member_expression of_computed_member_expression of_private_field_expression (for_statement_lefts.PrivateFieldExpression b) = of_private_field_expression b
+pub with_for_statement_left : {N : Type 0} (P : ForStatementLeft N → Type 0) → ((b : Box (VariableDeclaration N) Global) → P (for_statement_lefts.VariableDeclaration b)) → ((b : Box (AssignmentTargetNode N) Global) → P (for_statement_lefts.AssignmentTarget b)) → (n : ForStatementLeft N) → P n
+with_for_statement_left P of_variable_declaration of_assignment_target (for_statement_lefts.VariableDeclaration b) = of_variable_declaration b
+with_for_statement_left P of_variable_declaration of_assignment_target (for_statement_lefts.AssignmentTarget b) = of_assignment_target b
 
 pub with_object_property_kind : {N : Type 0} (P : ObjectPropertyKind N → Type 0) → ((b : Box (ObjectProperty N) Global) → P (object_property_kinds.ObjectProperty b)) → ((b : Box (SpreadElement N) Global) → P (object_property_kinds.SpreadElement b)) → (n : ObjectPropertyKind N) → P n
 with_object_property_kind P of_object_property of_spread_element (object_property_kinds.ObjectProperty b) = of_object_property b
@@ -133,9 +146,6 @@ boxed_object_property_by_key P of_identifier_name of_private_identifier of_expre
 
 pub update_expression_by_argument : {N : Type 0} (P : UpdateExpression N → Type 0) → ((b : Box IdentifierReference Global) (n : UpdateExpression N) → P (record n { argument = (simple_assignment_targets.IdentifierReference b) })) → ((b : Box (StaticMemberExpression N) Global) (n : UpdateExpression N) → P (record n { argument = (simple_assignment_targets.StaticMemberExpression b) })) → ((b : Box (ComputedMemberExpression N) Global) (n : UpdateExpression N) → P (record n { argument = (simple_assignment_targets.ComputedMemberExpression b) })) → ((b : Box (PrivateFieldExpression N) Global) (n : UpdateExpression N) → P (record n { argument = (simple_assignment_targets.PrivateFieldExpression b) })) → (n : UpdateExpression N) → P n
 update_expression_by_argument P of_identifier_reference of_static_member_expression of_computed_member_expression of_private_field_expression n = elim n.argument as (λ o. P (record n { argument = o })) [ simple_assignment_targets.IdentifierReference b ↦ of_identifier_reference b n | simple_assignment_targets.StaticMemberExpression b ↦ of_static_member_expression b n | simple_assignment_targets.ComputedMemberExpression b ↦ of_computed_member_expression b n | simple_assignment_targets.PrivateFieldExpression b ↦ of_private_field_expression b n ]
-
-pub assignment_expression_by_left : {N : Type 0} (P : AssignmentExpression N → Type 0) → ((b : Box IdentifierReference Global) (n : AssignmentExpression N) → P (record n { left = (assignment_targets.IdentifierReference b) })) → ((b : Box (StaticMemberExpression N) Global) (n : AssignmentExpression N) → P (record n { left = (assignment_targets.StaticMemberExpression b) })) → ((b : Box (ComputedMemberExpression N) Global) (n : AssignmentExpression N) → P (record n { left = (assignment_targets.ComputedMemberExpression b) })) → ((b : Box (PrivateFieldExpression N) Global) (n : AssignmentExpression N) → P (record n { left = (assignment_targets.PrivateFieldExpression b) })) → (n : AssignmentExpression N) → P n
-assignment_expression_by_left P of_identifier_reference of_static_member_expression of_computed_member_expression of_private_field_expression n = elim n.left as (λ o. P (record n { left = o })) [ assignment_targets.IdentifierReference b ↦ of_identifier_reference b n | assignment_targets.StaticMemberExpression b ↦ of_static_member_expression b n | assignment_targets.ComputedMemberExpression b ↦ of_computed_member_expression b n | assignment_targets.PrivateFieldExpression b ↦ of_private_field_expression b n ]
 
 pub formal_parameter_by_initializer : {N : Type 0} (P : FormalParameter N → Type 0) → ((n : FormalParameter N) → P (record n { initializer = None })) → ((c : ExpressionNode N) (n : FormalParameter N) → P (record n { initializer = Some c })) → (n : FormalParameter N) → P n
 formal_parameter_by_initializer P none some n = elim n.initializer as (λ o. P (record n { initializer = o })) [ None ↦ none n | Some c ↦ some c n ]
@@ -173,11 +183,11 @@ for_statement_by_test P none some n = elim n.test as (λ o. P (record n { test =
 pub for_statement_by_update : {N : Type 0} (P : ForStatement N → Type 0) → ((n : ForStatement N) → P (record n { update = None })) → ((c : ExpressionNode N) (n : ForStatement N) → P (record n { update = Some c })) → (n : ForStatement N) → P n
 for_statement_by_update P none some n = elim n.update as (λ o. P (record n { update = o })) [ None ↦ none n | Some c ↦ some c n ]
 
-pub for_in_statement_by_left : {N : Type 0} (P : ForInStatement N → Type 0) → ((b : Box (VariableDeclaration N) Global) (n : ForInStatement N) → P (record n { left = (for_statement_lefts.VariableDeclaration b) })) → ((b : Box IdentifierReference Global) (n : ForInStatement N) → P (record n { left = (for_statement_lefts.IdentifierReference b) })) → ((b : Box (StaticMemberExpression N) Global) (n : ForInStatement N) → P (record n { left = (for_statement_lefts.StaticMemberExpression b) })) → ((b : Box (ComputedMemberExpression N) Global) (n : ForInStatement N) → P (record n { left = (for_statement_lefts.ComputedMemberExpression b) })) → ((b : Box (PrivateFieldExpression N) Global) (n : ForInStatement N) → P (record n { left = (for_statement_lefts.PrivateFieldExpression b) })) → (n : ForInStatement N) → P n
-for_in_statement_by_left P of_variable_declaration of_identifier_reference of_static_member_expression of_computed_member_expression of_private_field_expression n = elim n.left as (λ o. P (record n { left = o })) [ for_statement_lefts.VariableDeclaration b ↦ of_variable_declaration b n | for_statement_lefts.IdentifierReference b ↦ of_identifier_reference b n | for_statement_lefts.StaticMemberExpression b ↦ of_static_member_expression b n | for_statement_lefts.ComputedMemberExpression b ↦ of_computed_member_expression b n | for_statement_lefts.PrivateFieldExpression b ↦ of_private_field_expression b n ]
+pub for_in_statement_by_left : {N : Type 0} (P : ForInStatement N → Type 0) → ((b : Box (VariableDeclaration N) Global) (n : ForInStatement N) → P (record n { left = (for_statement_lefts.VariableDeclaration b) })) → ((b : Box (AssignmentTargetNode N) Global) (n : ForInStatement N) → P (record n { left = (for_statement_lefts.AssignmentTarget b) })) → (n : ForInStatement N) → P n
+for_in_statement_by_left P of_variable_declaration of_assignment_target n = elim n.left as (λ o. P (record n { left = o })) [ for_statement_lefts.VariableDeclaration b ↦ of_variable_declaration b n | for_statement_lefts.AssignmentTarget b ↦ of_assignment_target b n ]
 
-pub for_of_statement_by_left : {N : Type 0} (P : ForOfStatement N → Type 0) → ((b : Box (VariableDeclaration N) Global) (n : ForOfStatement N) → P (record n { left = (for_statement_lefts.VariableDeclaration b) })) → ((b : Box IdentifierReference Global) (n : ForOfStatement N) → P (record n { left = (for_statement_lefts.IdentifierReference b) })) → ((b : Box (StaticMemberExpression N) Global) (n : ForOfStatement N) → P (record n { left = (for_statement_lefts.StaticMemberExpression b) })) → ((b : Box (ComputedMemberExpression N) Global) (n : ForOfStatement N) → P (record n { left = (for_statement_lefts.ComputedMemberExpression b) })) → ((b : Box (PrivateFieldExpression N) Global) (n : ForOfStatement N) → P (record n { left = (for_statement_lefts.PrivateFieldExpression b) })) → (n : ForOfStatement N) → P n
-for_of_statement_by_left P of_variable_declaration of_identifier_reference of_static_member_expression of_computed_member_expression of_private_field_expression n = elim n.left as (λ o. P (record n { left = o })) [ for_statement_lefts.VariableDeclaration b ↦ of_variable_declaration b n | for_statement_lefts.IdentifierReference b ↦ of_identifier_reference b n | for_statement_lefts.StaticMemberExpression b ↦ of_static_member_expression b n | for_statement_lefts.ComputedMemberExpression b ↦ of_computed_member_expression b n | for_statement_lefts.PrivateFieldExpression b ↦ of_private_field_expression b n ]
+pub for_of_statement_by_left : {N : Type 0} (P : ForOfStatement N → Type 0) → ((b : Box (VariableDeclaration N) Global) (n : ForOfStatement N) → P (record n { left = (for_statement_lefts.VariableDeclaration b) })) → ((b : Box (AssignmentTargetNode N) Global) (n : ForOfStatement N) → P (record n { left = (for_statement_lefts.AssignmentTarget b) })) → (n : ForOfStatement N) → P n
+for_of_statement_by_left P of_variable_declaration of_assignment_target n = elim n.left as (λ o. P (record n { left = o })) [ for_statement_lefts.VariableDeclaration b ↦ of_variable_declaration b n | for_statement_lefts.AssignmentTarget b ↦ of_assignment_target b n ]
 
 pub return_statement_by_argument : {N : Type 0} (P : ReturnStatement N → Type 0) → ((n : ReturnStatement N) → P (record n { argument = None })) → ((c : ExpressionNode N) (n : ReturnStatement N) → P (record n { argument = Some c })) → (n : ReturnStatement N) → P n
 return_statement_by_argument P none some n = elim n.argument as (λ o. P (record n { argument = o })) [ None ↦ none n | Some c ↦ some c n ]
@@ -205,6 +215,36 @@ binding_property_by_key P of_identifier_name of_private_identifier of_expression
 
 pub array_pattern_by_rest : {N : Type 0} (P : ArrayPattern N → Type 0) → ((n : ArrayPattern N) → P (record n { rest = None })) → ((c : Box (BindingRestElement N) Global) (n : ArrayPattern N) → P (record n { rest = Some c })) → (n : ArrayPattern N) → P n
 array_pattern_by_rest P none some n = elim n.rest as (λ o. P (record n { rest = o })) [ None ↦ none n | Some c ↦ some c n ]
+
+pub array_assignment_target_by_rest : {N : Type 0} (P : ArrayAssignmentTarget N → Type 0) → ((n : ArrayAssignmentTarget N) → P (record n { rest = None })) → ((c : Box (AssignmentTargetRest N) Global) (n : ArrayAssignmentTarget N) → P (record n { rest = Some c })) → (n : ArrayAssignmentTarget N) → P n
+array_assignment_target_by_rest P none some n = elim n.rest as (λ o. P (record n { rest = o })) [ None ↦ none n | Some c ↦ some c n ]
+
+pub boxed_array_assignment_target_by_rest : {N : Type 0} (P : Box (ArrayAssignmentTarget N) Global → Type 0) → ((n : Box (ArrayAssignmentTarget N) Global) → P (record n { value = record n.value { rest = None } })) → ((c : Box (AssignmentTargetRest N) Global) (n : Box (ArrayAssignmentTarget N) Global) → P (record n { value = record n.value { rest = Some c } })) → (n : Box (ArrayAssignmentTarget N) Global) → P n
+boxed_array_assignment_target_by_rest P none some n = elim n.value.rest as (λ o. P (record n { value = record n.value { rest = o } })) [ None ↦ none n | Some c ↦ some c n ]
+
+pub object_assignment_target_by_rest : {N : Type 0} (P : ObjectAssignmentTarget N → Type 0) → ((n : ObjectAssignmentTarget N) → P (record n { rest = None })) → ((c : Box (AssignmentTargetRest N) Global) (n : ObjectAssignmentTarget N) → P (record n { rest = Some c })) → (n : ObjectAssignmentTarget N) → P n
+object_assignment_target_by_rest P none some n = elim n.rest as (λ o. P (record n { rest = o })) [ None ↦ none n | Some c ↦ some c n ]
+
+pub boxed_object_assignment_target_by_rest : {N : Type 0} (P : Box (ObjectAssignmentTarget N) Global → Type 0) → ((n : Box (ObjectAssignmentTarget N) Global) → P (record n { value = record n.value { rest = None } })) → ((c : Box (AssignmentTargetRest N) Global) (n : Box (ObjectAssignmentTarget N) Global) → P (record n { value = record n.value { rest = Some c } })) → (n : Box (ObjectAssignmentTarget N) Global) → P n
+boxed_object_assignment_target_by_rest P none some n = elim n.value.rest as (λ o. P (record n { value = record n.value { rest = o } })) [ None ↦ none n | Some c ↦ some c n ]
+
+pub assignment_target_property_identifier_by_init : {N : Type 0} (P : AssignmentTargetPropertyIdentifier N → Type 0) → ((n : AssignmentTargetPropertyIdentifier N) → P (record n { init = None })) → ((c : ExpressionNode N) (n : AssignmentTargetPropertyIdentifier N) → P (record n { init = Some c })) → (n : AssignmentTargetPropertyIdentifier N) → P n
+assignment_target_property_identifier_by_init P none some n = elim n.init as (λ o. P (record n { init = o })) [ None ↦ none n | Some c ↦ some c n ]
+
+pub boxed_assignment_target_property_identifier_by_init : {N : Type 0} (P : Box (AssignmentTargetPropertyIdentifier N) Global → Type 0) → ((n : Box (AssignmentTargetPropertyIdentifier N) Global) → P (record n { value = record n.value { init = None } })) → ((c : ExpressionNode N) (n : Box (AssignmentTargetPropertyIdentifier N) Global) → P (record n { value = record n.value { init = Some c } })) → (n : Box (AssignmentTargetPropertyIdentifier N) Global) → P n
+boxed_assignment_target_property_identifier_by_init P none some n = elim n.value.init as (λ o. P (record n { value = record n.value { init = o } })) [ None ↦ none n | Some c ↦ some c n ]
+
+pub assignment_target_property_property_by_name : {N : Type 0} (P : AssignmentTargetPropertyProperty N → Type 0) → ((b : Box IdentifierName Global) (n : AssignmentTargetPropertyProperty N) → P (record n { name = (property_keys.IdentifierName b) })) → ((b : Box PrivateIdentifier Global) (n : AssignmentTargetPropertyProperty N) → P (record n { name = (property_keys.PrivateIdentifier b) })) → ((b : Box (ExpressionNode N) Global) (n : AssignmentTargetPropertyProperty N) → P (record n { name = (property_keys.Expression b) })) → (n : AssignmentTargetPropertyProperty N) → P n
+assignment_target_property_property_by_name P of_identifier_name of_private_identifier of_expression n = elim n.name as (λ o. P (record n { name = o })) [ property_keys.IdentifierName b ↦ of_identifier_name b n | property_keys.PrivateIdentifier b ↦ of_private_identifier b n | property_keys.Expression b ↦ of_expression b n ]
+
+pub boxed_assignment_target_property_property_by_name : {N : Type 0} (P : Box (AssignmentTargetPropertyProperty N) Global → Type 0) → ((b : Box IdentifierName Global) (n : Box (AssignmentTargetPropertyProperty N) Global) → P (record n { value = record n.value { name = (property_keys.IdentifierName b) } })) → ((b : Box PrivateIdentifier Global) (n : Box (AssignmentTargetPropertyProperty N) Global) → P (record n { value = record n.value { name = (property_keys.PrivateIdentifier b) } })) → ((b : Box (ExpressionNode N) Global) (n : Box (AssignmentTargetPropertyProperty N) Global) → P (record n { value = record n.value { name = (property_keys.Expression b) } })) → (n : Box (AssignmentTargetPropertyProperty N) Global) → P n
+boxed_assignment_target_property_property_by_name P of_identifier_name of_private_identifier of_expression n = elim n.value.name as (λ o. P (record n { value = record n.value { name = o } })) [ property_keys.IdentifierName b ↦ of_identifier_name b n | property_keys.PrivateIdentifier b ↦ of_private_identifier b n | property_keys.Expression b ↦ of_expression b n ]
+
+pub assignment_target_property_property_by_binding : {N : Type 0} (P : AssignmentTargetPropertyProperty N → Type 0) → ((b : Box (AssignmentTargetNode N) Global) (n : AssignmentTargetPropertyProperty N) → P (record n { binding = (assignment_target_maybe_defaults.AssignmentTarget b) })) → ((b : Box (AssignmentTargetWithDefault N) Global) (n : AssignmentTargetPropertyProperty N) → P (record n { binding = (assignment_target_maybe_defaults.AssignmentTargetWithDefault b) })) → (n : AssignmentTargetPropertyProperty N) → P n
+assignment_target_property_property_by_binding P of_assignment_target of_assignment_target_with_default n = elim n.binding as (λ o. P (record n { binding = o })) [ assignment_target_maybe_defaults.AssignmentTarget b ↦ of_assignment_target b n | assignment_target_maybe_defaults.AssignmentTargetWithDefault b ↦ of_assignment_target_with_default b n ]
+
+pub boxed_assignment_target_property_property_by_binding : {N : Type 0} (P : Box (AssignmentTargetPropertyProperty N) Global → Type 0) → ((b : Box (AssignmentTargetNode N) Global) (n : Box (AssignmentTargetPropertyProperty N) Global) → P (record n { value = record n.value { binding = (assignment_target_maybe_defaults.AssignmentTarget b) } })) → ((b : Box (AssignmentTargetWithDefault N) Global) (n : Box (AssignmentTargetPropertyProperty N) Global) → P (record n { value = record n.value { binding = (assignment_target_maybe_defaults.AssignmentTargetWithDefault b) } })) → (n : Box (AssignmentTargetPropertyProperty N) Global) → P n
+boxed_assignment_target_property_property_by_binding P of_assignment_target of_assignment_target_with_default n = elim n.value.binding as (λ o. P (record n { value = record n.value { binding = o } })) [ assignment_target_maybe_defaults.AssignmentTarget b ↦ of_assignment_target b n | assignment_target_maybe_defaults.AssignmentTargetWithDefault b ↦ of_assignment_target_with_default b n ]
 
 pub class_by_heritage : {N : Type 0} (P : Class N → Type 0) → ((n : Class N) → P (record n { heritage = None })) → ((c : ExpressionNode N) (n : Class N) → P (record n { heritage = Some c })) → (n : Class N) → P n
 class_by_heritage P none some n = elim n.heritage as (λ o. P (record n { heritage = o })) [ None ↦ none n | Some c ↦ some c n ]

@@ -1,15 +1,16 @@
 -- Generated from tools/nodes/table.txt; edit that and run tools/nodes/generate.
 -- The plain data of the recursive type is, set by set, that of what it holds.
 use Rattle.std.proofs.Common.{◌≡◌, refl, sym, ap, ◌∙◌}
-use Rattle.jsgen_tree.proofs.Cases.{with_argument, with_array_expression_element, with_object_property_kind, variable_declarator_by_init, if_statement_by_alternate, chain_expression_by_expression, boxed_object_property_by_key, update_expression_by_argument, assignment_expression_by_left, formal_parameter_by_initializer, boxed_formal_parameters_by_rest, function_by_params, boxed_function_by_params, function_by_body, boxed_function_by_body, arrow_function_expression_by_params, arrow_function_expression_by_body, for_statement_by_init, for_statement_by_test, for_statement_by_update, for_in_statement_by_left, for_of_statement_by_left, return_statement_by_argument, switch_case_by_test, try_statement_by_handler, try_statement_by_finalizer, boxed_catch_clause_by_param, object_pattern_by_rest, binding_property_by_key, array_pattern_by_rest, class_by_heritage, method_definition_by_key, method_definition_by_value, property_definition_by_key, property_definition_by_value}
+use Rattle.jsgen_tree.proofs.Cases.{with_argument, with_array_expression_element, with_assignment_target_maybe_default, with_assignment_target_property, with_object_property_kind, variable_declarator_by_init, if_statement_by_alternate, chain_expression_by_expression, boxed_object_property_by_key, update_expression_by_argument, formal_parameter_by_initializer, boxed_formal_parameters_by_rest, function_by_params, boxed_function_by_params, function_by_body, boxed_function_by_body, arrow_function_expression_by_params, arrow_function_expression_by_body, for_statement_by_init, for_statement_by_test, for_statement_by_update, for_in_statement_by_left, for_of_statement_by_left, return_statement_by_argument, switch_case_by_test, try_statement_by_handler, try_statement_by_finalizer, boxed_catch_clause_by_param, object_pattern_by_rest, binding_property_by_key, array_pattern_by_rest, array_assignment_target_by_rest, object_assignment_target_by_rest, boxed_assignment_target_property_identifier_by_init, boxed_assignment_target_property_property_by_name, boxed_assignment_target_property_property_by_binding, class_by_heritage, method_definition_by_key, method_definition_by_value, property_definition_by_key, property_definition_by_value}
 use Rattle.jsgen_tree.specs.Plain.{node_plain, layer}
-use Rattle.jsgen_tree.specs.Spans.{expression_span, declaration_span, statement_span, binding_pattern_span, class_element_span}
+use Rattle.jsgen_tree.specs.Spans.{expression_span, assignment_target_span, declaration_span, statement_span, binding_pattern_span, class_element_span}
 use Rattle.jsgen_tree.specs.Tree.{Tree, given, trees, holed, span_of}
-use Rattle.jsgen_tree.specs.Rows.{expression_plain, declaration_plain, statement_plain, binding_pattern_plain, class_element_plain}
+use Rattle.jsgen_tree.specs.Rows.{expression_plain, assignment_target_plain, declaration_plain, statement_plain, binding_pattern_plain, class_element_plain}
 use Rattle.jsgen_tree.proofs.Layers.{map_after, with_hole, same_slots, same_one, same_maybe, same_many}
 use Rattle.jsgen_tree.specs.declared.nodes.Node.{Node, out-Node, map-Node, fold_out-Node}
-use Rattle.jsgen_tree.specs.declared.nodes.Node.TheVariants.{outs-Expression, outs-Declaration, outs-Statement, outs-BindingPattern, outs-ClassElement}
+use Rattle.jsgen_tree.specs.declared.nodes.Node.TheVariants.{outs-Expression, outs-AssignmentTarget, outs-Declaration, outs-Statement, outs-BindingPattern, outs-ClassElement}
 use Rattle.jsgen_tree.specs.declared.sets.Expression.{Expression}
+use Rattle.jsgen_tree.specs.declared.sets.AssignmentTarget.{AssignmentTarget}
 use Rattle.jsgen_tree.specs.declared.sets.Declaration.{Declaration}
 use Rattle.jsgen_tree.specs.declared.sets.Statement.{Statement}
 use Rattle.jsgen_tree.specs.declared.sets.BindingPattern.{BindingPattern}
@@ -17,6 +18,7 @@ use Rattle.jsgen_tree.specs.declared.sets.ClassElement.{ClassElement}
 use Rattle.jsgen_tree.specs.declared.nodes.Node.TheVariants as nodes
 use Rattle.jsgen_tree.specs.declared.nodes.Node.TheOpen as opened
 use Rattle.jsgen_tree.specs.declared.sets.Expression.TheVariants as expressions
+use Rattle.jsgen_tree.specs.declared.sets.AssignmentTarget.TheVariants as assignment_targets
 use Rattle.jsgen_tree.specs.declared.sets.Declaration.TheVariants as declarations
 use Rattle.jsgen_tree.specs.declared.sets.Statement.TheVariants as statements
 use Rattle.jsgen_tree.specs.declared.sets.BindingPattern.TheVariants as binding_patterns
@@ -54,12 +56,20 @@ natural_expression h (expressions.Super b) = refl
 natural_expression h (expressions.ImportMeta b) = refl
 natural_expression h (expressions.ConditionalExpression b) = refl
 natural_expression h (expressions.SequenceExpression b) = same_slots (same_many (ap trees (map_after _ _ _ (λ n. refl) b.value.expressions.items)) refl)
-natural_expression h (expressions.AssignmentExpression b) = (assignment_expression_by_left (λ n. layer (map-Node Node Tree h (opened.Expression (expressions.AssignmentExpression (record b { value = n })))) ≡ expression_plain h (expressions.AssignmentExpression (record b { value = n }))) (λ n_left. (λ n. refl)) (λ n_left. (λ n. refl)) (λ n_left. (λ n. refl)) (λ n_left. (λ n. refl))) b.value
+natural_expression h (expressions.AssignmentExpression b) = refl
 natural_expression h (expressions.Function b) = (function_by_params (λ n. layer (map-Node Node Tree h (opened.Expression (expressions.Function (record b { value = n })))) ≡ expression_plain h (expressions.Function (record b { value = n }))) (boxed_formal_parameters_by_rest _ (λ n_params. (function_by_body _ (λ n. same_slots (same_maybe refl (same_one (same_slots (same_many (ap trees (map_after _ _ _ (formal_parameter_by_initializer _ (λ n. refl) (λ n_initializer. (λ n. refl))) n_params.value.items.items)) (same_maybe refl refl))) (same_maybe refl refl)))) (λ n_body. (λ n. same_slots (same_maybe refl (same_one (same_slots (same_many (ap trees (map_after _ _ _ (formal_parameter_by_initializer _ (λ n. refl) (λ n_initializer. (λ n. refl))) n_params.value.items.items)) (same_maybe refl refl))) (same_maybe (ap (λ t. given t) (same_slots (same_many refl (same_many (ap trees (map_after _ _ _ (λ n. refl) n_body.value.statements.items)) refl)))) refl))))))) (λ n_params_rest. (λ n_params. (function_by_body _ (λ n. same_slots (same_maybe refl (same_one (same_slots (same_many (ap trees (map_after _ _ _ (formal_parameter_by_initializer _ (λ n. refl) (λ n_initializer. (λ n. refl))) n_params.value.items.items)) (same_maybe refl refl))) (same_maybe refl refl)))) (λ n_body. (λ n. same_slots (same_maybe refl (same_one (same_slots (same_many (ap trees (map_after _ _ _ (formal_parameter_by_initializer _ (λ n. refl) (λ n_initializer. (λ n. refl))) n_params.value.items.items)) (same_maybe refl refl))) (same_maybe (ap (λ t. given t) (same_slots (same_many refl (same_many (ap trees (map_after _ _ _ (λ n. refl) n_body.value.statements.items)) refl)))) refl)))))))))) b.value
 natural_expression h (expressions.ArrowFunctionExpression b) = (arrow_function_expression_by_params (λ n. layer (map-Node Node Tree h (opened.Expression (expressions.ArrowFunctionExpression (record b { value = n })))) ≡ expression_plain h (expressions.ArrowFunctionExpression (record b { value = n }))) (boxed_formal_parameters_by_rest _ (λ n_params. (arrow_function_expression_by_body _ (λ n_body. (λ n. same_slots (same_one (same_slots (same_many (ap trees (map_after _ _ _ (formal_parameter_by_initializer _ (λ n. refl) (λ n_initializer. (λ n. refl))) n_params.value.items.items)) (same_maybe refl refl))) (same_one (same_slots (same_many refl (same_many (ap trees (map_after _ _ _ (λ n. refl) n_body.value.statements.items)) refl))) refl)))) (λ n_body. (λ n. same_slots (same_one (same_slots (same_many (ap trees (map_after _ _ _ (formal_parameter_by_initializer _ (λ n. refl) (λ n_initializer. (λ n. refl))) n_params.value.items.items)) (same_maybe refl refl))) (same_one refl refl)))))) (λ n_params_rest. (λ n_params. (arrow_function_expression_by_body _ (λ n_body. (λ n. same_slots (same_one (same_slots (same_many (ap trees (map_after _ _ _ (formal_parameter_by_initializer _ (λ n. refl) (λ n_initializer. (λ n. refl))) n_params.value.items.items)) (same_maybe refl refl))) (same_one (same_slots (same_many refl (same_many (ap trees (map_after _ _ _ (λ n. refl) n_body.value.statements.items)) refl))) refl)))) (λ n_body. (λ n. same_slots (same_one (same_slots (same_many (ap trees (map_after _ _ _ (formal_parameter_by_initializer _ (λ n. refl) (λ n_initializer. (λ n. refl))) n_params.value.items.items)) (same_maybe refl refl))) (same_one refl refl))))))))) b.value
 natural_expression h (expressions.Class b) = (class_by_heritage (λ n. layer (map-Node Node Tree h (opened.Expression (expressions.Class (record b { value = n })))) ≡ expression_plain h (expressions.Class (record b { value = n }))) (λ n. same_slots (same_maybe refl (same_maybe refl (same_one (same_slots (same_many (ap trees (map_after _ _ _ (λ n. refl) n.body.value.body.items)) refl)) refl)))) (λ n_heritage. (λ n. same_slots (same_maybe refl (same_maybe refl (same_one (same_slots (same_many (ap trees (map_after _ _ _ (λ n. refl) n.body.value.body.items)) refl)) refl)))))) b.value
 natural_expression h (expressions.PrivateFieldExpression b) = refl
 natural_expression h (expressions.PrivateInExpression b) = refl
+
+natural_assignment_target : (h : Node → Tree) (n : AssignmentTarget Node) → layer (map-Node Node Tree h (opened.AssignmentTarget n)) ≡ assignment_target_plain h n
+natural_assignment_target h (assignment_targets.IdentifierReference b) = refl
+natural_assignment_target h (assignment_targets.StaticMemberExpression b) = refl
+natural_assignment_target h (assignment_targets.ComputedMemberExpression b) = refl
+natural_assignment_target h (assignment_targets.PrivateFieldExpression b) = refl
+natural_assignment_target h (assignment_targets.ArrayAssignmentTarget b) = (array_assignment_target_by_rest (λ n. layer (map-Node Node Tree h (opened.AssignmentTarget (assignment_targets.ArrayAssignmentTarget (record b { value = n })))) ≡ assignment_target_plain h (assignment_targets.ArrayAssignmentTarget (record b { value = n }))) (λ n. same_slots (same_many (ap holed (map_after _ _ _ (with_hole _ refl (with_assignment_target_maybe_default _ (λ b. refl) (λ n. refl))) n.elements.items)) (same_maybe refl refl))) (λ n_rest. (λ n. same_slots (same_many (ap holed (map_after _ _ _ (with_hole _ refl (with_assignment_target_maybe_default _ (λ b. refl) (λ n. refl))) n.elements.items)) (same_maybe refl refl))))) b.value
+natural_assignment_target h (assignment_targets.ObjectAssignmentTarget b) = (object_assignment_target_by_rest (λ n. layer (map-Node Node Tree h (opened.AssignmentTarget (assignment_targets.ObjectAssignmentTarget (record b { value = n })))) ≡ assignment_target_plain h (assignment_targets.ObjectAssignmentTarget (record b { value = n }))) (λ n. same_slots (same_many (ap trees (map_after _ _ _ (with_assignment_target_property _ (boxed_assignment_target_property_identifier_by_init _ (λ n. refl) (λ n_init. (λ n. refl))) (boxed_assignment_target_property_property_by_name _ (λ n_name. (boxed_assignment_target_property_property_by_binding _ (λ n_binding. (λ n. refl)) (λ n_binding. (λ n. refl)))) (λ n_name. (boxed_assignment_target_property_property_by_binding _ (λ n_binding. (λ n. refl)) (λ n_binding. (λ n. refl)))) (λ n_name. (boxed_assignment_target_property_property_by_binding _ (λ n_binding. (λ n. refl)) (λ n_binding. (λ n. refl)))))) n.properties.items)) (same_maybe refl refl))) (λ n_rest. (λ n. same_slots (same_many (ap trees (map_after _ _ _ (with_assignment_target_property _ (boxed_assignment_target_property_identifier_by_init _ (λ n. refl) (λ n_init. (λ n. refl))) (boxed_assignment_target_property_property_by_name _ (λ n_name. (boxed_assignment_target_property_property_by_binding _ (λ n_binding. (λ n. refl)) (λ n_binding. (λ n. refl)))) (λ n_name. (boxed_assignment_target_property_property_by_binding _ (λ n_binding. (λ n. refl)) (λ n_binding. (λ n. refl)))) (λ n_name. (boxed_assignment_target_property_property_by_binding _ (λ n_binding. (λ n. refl)) (λ n_binding. (λ n. refl)))))) n.properties.items)) (same_maybe refl refl))))) b.value
 
 natural_declaration : (h : Node → Tree) (n : Declaration Node) → layer (map-Node Node Tree h (opened.Declaration n)) ≡ declaration_plain h n
 natural_declaration h (declarations.VariableDeclaration b) = same_slots (same_many (ap trees (map_after _ _ _ (variable_declarator_by_init _ (λ n. refl) (λ n_init. (λ n. refl))) b.value.declarations.items)) refl)
@@ -73,8 +83,8 @@ natural_statement h (statements.BlockStatement b) = same_slots (same_many (ap tr
 natural_statement h (statements.IfStatement b) = (if_statement_by_alternate (λ n. layer (map-Node Node Tree h (opened.Statement (statements.IfStatement (record b { value = n })))) ≡ statement_plain h (statements.IfStatement (record b { value = n }))) (λ n. refl) (λ n_alternate. (λ n. refl))) b.value
 natural_statement h (statements.EmptyStatement b) = refl
 natural_statement h (statements.ForStatement b) = (for_statement_by_init (λ n. layer (map-Node Node Tree h (opened.Statement (statements.ForStatement (record b { value = n })))) ≡ statement_plain h (statements.ForStatement (record b { value = n }))) (for_statement_by_test _ (for_statement_by_update _ (λ n. refl) (λ n_update. (λ n. refl))) (λ n_test. (for_statement_by_update _ (λ n. refl) (λ n_update. (λ n. refl))))) (λ n_init. (for_statement_by_test _ (for_statement_by_update _ (λ n. same_slots (same_maybe (ap (λ t. given t) (same_slots (same_many (ap trees (map_after _ _ _ (variable_declarator_by_init _ (λ n. refl) (λ n_init. (λ n. refl))) n_init.value.declarations.items)) refl))) (same_maybe refl (same_maybe refl (same_one refl refl))))) (λ n_update. (λ n. same_slots (same_maybe (ap (λ t. given t) (same_slots (same_many (ap trees (map_after _ _ _ (variable_declarator_by_init _ (λ n. refl) (λ n_init. (λ n. refl))) n_init.value.declarations.items)) refl))) (same_maybe refl (same_maybe refl (same_one refl refl))))))) (λ n_test. (for_statement_by_update _ (λ n. same_slots (same_maybe (ap (λ t. given t) (same_slots (same_many (ap trees (map_after _ _ _ (variable_declarator_by_init _ (λ n. refl) (λ n_init. (λ n. refl))) n_init.value.declarations.items)) refl))) (same_maybe refl (same_maybe refl (same_one refl refl))))) (λ n_update. (λ n. same_slots (same_maybe (ap (λ t. given t) (same_slots (same_many (ap trees (map_after _ _ _ (variable_declarator_by_init _ (λ n. refl) (λ n_init. (λ n. refl))) n_init.value.declarations.items)) refl))) (same_maybe refl (same_maybe refl (same_one refl refl)))))))))) (λ n_init. (for_statement_by_test _ (for_statement_by_update _ (λ n. refl) (λ n_update. (λ n. refl))) (λ n_test. (for_statement_by_update _ (λ n. refl) (λ n_update. (λ n. refl))))))) b.value
-natural_statement h (statements.ForInStatement b) = (for_in_statement_by_left (λ n. layer (map-Node Node Tree h (opened.Statement (statements.ForInStatement (record b { value = n })))) ≡ statement_plain h (statements.ForInStatement (record b { value = n }))) (λ n_left. (λ n. same_slots (same_one (same_slots (same_many (ap trees (map_after _ _ _ (variable_declarator_by_init _ (λ n. refl) (λ n_init. (λ n. refl))) n_left.value.declarations.items)) refl)) (same_one refl (same_one refl refl))))) (λ n_left. (λ n. refl)) (λ n_left. (λ n. refl)) (λ n_left. (λ n. refl)) (λ n_left. (λ n. refl))) b.value
-natural_statement h (statements.ForOfStatement b) = (for_of_statement_by_left (λ n. layer (map-Node Node Tree h (opened.Statement (statements.ForOfStatement (record b { value = n })))) ≡ statement_plain h (statements.ForOfStatement (record b { value = n }))) (λ n_left. (λ n. same_slots (same_one (same_slots (same_many (ap trees (map_after _ _ _ (variable_declarator_by_init _ (λ n. refl) (λ n_init. (λ n. refl))) n_left.value.declarations.items)) refl)) (same_one refl (same_one refl refl))))) (λ n_left. (λ n. refl)) (λ n_left. (λ n. refl)) (λ n_left. (λ n. refl)) (λ n_left. (λ n. refl))) b.value
+natural_statement h (statements.ForInStatement b) = (for_in_statement_by_left (λ n. layer (map-Node Node Tree h (opened.Statement (statements.ForInStatement (record b { value = n })))) ≡ statement_plain h (statements.ForInStatement (record b { value = n }))) (λ n_left. (λ n. same_slots (same_one (same_slots (same_many (ap trees (map_after _ _ _ (variable_declarator_by_init _ (λ n. refl) (λ n_init. (λ n. refl))) n_left.value.declarations.items)) refl)) (same_one refl (same_one refl refl))))) (λ n_left. (λ n. refl))) b.value
+natural_statement h (statements.ForOfStatement b) = (for_of_statement_by_left (λ n. layer (map-Node Node Tree h (opened.Statement (statements.ForOfStatement (record b { value = n })))) ≡ statement_plain h (statements.ForOfStatement (record b { value = n }))) (λ n_left. (λ n. same_slots (same_one (same_slots (same_many (ap trees (map_after _ _ _ (variable_declarator_by_init _ (λ n. refl) (λ n_init. (λ n. refl))) n_left.value.declarations.items)) refl)) (same_one refl (same_one refl refl))))) (λ n_left. (λ n. refl))) b.value
 natural_statement h (statements.WhileStatement b) = refl
 natural_statement h (statements.DoWhileStatement b) = refl
 natural_statement h (statements.LabeledStatement b) = refl
@@ -99,6 +109,9 @@ natural_class_element h (class_elements.PropertyDefinition b) = (property_defini
 
 pub plain_expression : (n : Expression Node) → node_plain (nodes.Expression n) ≡ expression_plain node_plain n
 plain_expression n = plain_out (nodes.Expression n) ∙ ap (λ o. layer (map-Node Node Tree node_plain o)) (outs-Expression n) ∙ natural_expression node_plain n
+
+pub plain_assignment_target : (n : AssignmentTarget Node) → node_plain (nodes.AssignmentTarget n) ≡ assignment_target_plain node_plain n
+plain_assignment_target n = plain_out (nodes.AssignmentTarget n) ∙ ap (λ o. layer (map-Node Node Tree node_plain o)) (outs-AssignmentTarget n) ∙ natural_assignment_target node_plain n
 
 pub plain_declaration : (n : Declaration Node) → node_plain (nodes.Declaration n) ≡ declaration_plain node_plain n
 plain_declaration n = plain_out (nodes.Declaration n) ∙ ap (λ o. layer (map-Node Node Tree node_plain o)) (outs-Declaration n) ∙ natural_declaration node_plain n
@@ -149,6 +162,17 @@ of_expression h (expressions.PrivateInExpression b) = refl
 
 pub expression_spans : (n : Expression Node) → expression_span n ≡ span_of (node_plain (nodes.Expression n))
 expression_spans n = of_expression node_plain n ∙ ap span_of (sym (plain_expression n))
+
+of_assignment_target : (h : Node → Tree) (n : AssignmentTarget Node) → assignment_target_span n ≡ span_of (assignment_target_plain h n)
+of_assignment_target h (assignment_targets.IdentifierReference b) = refl
+of_assignment_target h (assignment_targets.StaticMemberExpression b) = refl
+of_assignment_target h (assignment_targets.ComputedMemberExpression b) = refl
+of_assignment_target h (assignment_targets.PrivateFieldExpression b) = refl
+of_assignment_target h (assignment_targets.ArrayAssignmentTarget b) = refl
+of_assignment_target h (assignment_targets.ObjectAssignmentTarget b) = refl
+
+pub assignment_target_spans : (n : AssignmentTarget Node) → assignment_target_span n ≡ span_of (node_plain (nodes.AssignmentTarget n))
+assignment_target_spans n = of_assignment_target node_plain n ∙ ap span_of (sym (plain_assignment_target n))
 
 of_declaration : (h : Node → Tree) (n : Declaration Node) → declaration_span n ≡ span_of (declaration_plain h n)
 of_declaration h (declarations.VariableDeclaration b) = refl

@@ -201,6 +201,24 @@ array_pattern a elements rest = node types.ArrayPattern a (many elements (maybe 
 pattern abbrev pub assignment_pattern : Atoms → Tree → Tree → Tree
 assignment_pattern a left right = node types.AssignmentPattern a (one left (one right no_slots))
 
+pattern abbrev pub array_target : Atoms → Trees → Maybe → Tree
+array_target a elements rest = node types.ArrayAssignmentTarget a (many elements (maybe rest no_slots))
+
+pattern abbrev pub object_target : Atoms → Trees → Maybe → Tree
+object_target a properties rest = node types.ObjectAssignmentTarget a (many properties (maybe rest no_slots))
+
+pattern abbrev pub target_with_default : Atoms → Tree → Tree → Tree
+target_with_default a binding init = node types.AssignmentTargetWithDefault a (one binding (one init no_slots))
+
+pattern abbrev pub target_property_identifier : Atoms → Tree → Maybe → Tree
+target_property_identifier a binding init = node types.AssignmentTargetPropertyIdentifier a (one binding (maybe init no_slots))
+
+pattern abbrev pub target_property : Atoms → Tree → Tree → Tree
+target_property a name binding = node types.AssignmentTargetPropertyProperty a (one name (one binding no_slots))
+
+pattern abbrev pub target_rest : Atoms → Tree → Tree
+target_rest a target = node types.AssignmentTargetRest a (one target no_slots)
+
 pattern abbrev pub private_identifier : Atoms → Tree
 private_identifier a = node types.PrivateIdentifier a no_slots
 

@@ -203,6 +203,24 @@ array_pattern_fields = fields types.ArrayPattern
 abbrev pub assignment_pattern_fields : List Field
 assignment_pattern_fields = fields types.AssignmentPattern
 
+abbrev pub array_assignment_target_fields : List Field
+array_assignment_target_fields = fields types.ArrayAssignmentTarget
+
+abbrev pub object_assignment_target_fields : List Field
+object_assignment_target_fields = fields types.ObjectAssignmentTarget
+
+abbrev pub assignment_target_with_default_fields : List Field
+assignment_target_with_default_fields = fields types.AssignmentTargetWithDefault
+
+abbrev pub assignment_target_property_identifier_fields : List Field
+assignment_target_property_identifier_fields = fields types.AssignmentTargetPropertyIdentifier
+
+abbrev pub assignment_target_property_property_fields : List Field
+assignment_target_property_property_fields = fields types.AssignmentTargetPropertyProperty
+
+abbrev pub assignment_target_rest_fields : List Field
+assignment_target_rest_fields = fields types.AssignmentTargetRest
+
 abbrev pub private_identifier_fields : List Field
 private_identifier_fields = fields types.PrivateIdentifier
 

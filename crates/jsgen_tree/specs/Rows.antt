@@ -5,8 +5,9 @@ use Rattle.jsgen_syntax.specs.Units.{js_units}
 use Rattle.jsgen_tree.specs.Characters.{characters, number_if_given, numeric_values}
 use Rattle.jsgen_tree.specs.Tree.{Tree, optional, trees, holed}
 use Rattle.jsgen_tree.specs.Atom.{no_value, text, units, number, flag, kind_of_comment, content_of_comment, source_kind, declaration_kind, binary_operator, logical_operator, property_kind, unary_operator, update_operator, assignment_operator, kind_of_function, class_form, kind_of_method}
-use Rattle.jsgen_tree.specs.Nodes.{program, comment, directive, variable_declaration, variable_declarator, binding_identifier, expression_statement, block, if_statement, empty_statement, identifier_reference, this_expression, null_literal, boolean_literal, numeric_literal, big_int_literal, string_literal, reg_exp_literal, parenthesized, binary, logical, identifier_name, static_member, computed_member, call, chain, spread, array, object_property, object_expression, unary, new_target, update, new_expression, super, import_meta, conditional, sequence, assignment, formal_parameter, formal_parameter_rest, formal_parameters, function, function_body, arrow_function, for_statement, for_in_statement, for_of_statement, while_statement, do_while_statement, label_identifier, labeled_statement, continue_statement, break_statement, return_statement, throw_statement, debugger_statement, switch_statement, switch_case, try_statement, catch_clause, object_pattern, binding_property, binding_rest_element, array_pattern, assignment_pattern, private_identifier, private_member, private_in, class, class_body, static_block, method_definition, property_definition}
+use Rattle.jsgen_tree.specs.Nodes.{program, comment, directive, variable_declaration, variable_declarator, binding_identifier, expression_statement, block, if_statement, empty_statement, identifier_reference, this_expression, null_literal, boolean_literal, numeric_literal, big_int_literal, string_literal, reg_exp_literal, parenthesized, binary, logical, identifier_name, static_member, computed_member, call, chain, spread, array, object_property, object_expression, unary, new_target, update, new_expression, super, import_meta, conditional, sequence, assignment, formal_parameter, formal_parameter_rest, formal_parameters, function, function_body, arrow_function, for_statement, for_in_statement, for_of_statement, while_statement, do_while_statement, label_identifier, labeled_statement, continue_statement, break_statement, return_statement, throw_statement, debugger_statement, switch_statement, switch_case, try_statement, catch_clause, object_pattern, binding_property, binding_rest_element, array_pattern, assignment_pattern, array_target, object_target, target_with_default, target_property_identifier, target_property, target_rest, private_identifier, private_member, private_in, class, class_body, static_block, method_definition, property_definition}
 use Rattle.jsgen_tree.specs.declared.nodes.ExpressionNode.{ExpressionNode}
+use Rattle.jsgen_tree.specs.declared.nodes.AssignmentTargetNode.{AssignmentTargetNode}
 use Rattle.jsgen_tree.specs.declared.nodes.DeclarationNode.{DeclarationNode}
 use Rattle.jsgen_tree.specs.declared.nodes.StatementNode.{StatementNode}
 use Rattle.jsgen_tree.specs.declared.nodes.BindingPatternNode.{BindingPatternNode}
@@ -77,6 +78,12 @@ use Rattle.jsgen_tree.specs.declared.patterns.BindingProperty.{BindingProperty}
 use Rattle.jsgen_tree.specs.declared.patterns.BindingRestElement.{BindingRestElement}
 use Rattle.jsgen_tree.specs.declared.patterns.ArrayPattern.{ArrayPattern}
 use Rattle.jsgen_tree.specs.declared.patterns.AssignmentPattern.{AssignmentPattern}
+use Rattle.jsgen_tree.specs.declared.targets.ArrayAssignmentTarget.{ArrayAssignmentTarget}
+use Rattle.jsgen_tree.specs.declared.targets.ObjectAssignmentTarget.{ObjectAssignmentTarget}
+use Rattle.jsgen_tree.specs.declared.targets.AssignmentTargetWithDefault.{AssignmentTargetWithDefault}
+use Rattle.jsgen_tree.specs.declared.targets.AssignmentTargetPropertyIdentifier.{AssignmentTargetPropertyIdentifier}
+use Rattle.jsgen_tree.specs.declared.targets.AssignmentTargetPropertyProperty.{AssignmentTargetPropertyProperty}
+use Rattle.jsgen_tree.specs.declared.targets.AssignmentTargetRest.{AssignmentTargetRest}
 use Rattle.jsgen_tree.specs.declared.classes.PrivateIdentifier.{PrivateIdentifier}
 use Rattle.jsgen_tree.specs.declared.classes.PrivateFieldExpression.{PrivateFieldExpression}
 use Rattle.jsgen_tree.specs.declared.classes.PrivateInExpression.{PrivateInExpression}
@@ -90,7 +97,10 @@ use Rattle.jsgen_tree.specs.declared.sets.Argument.{Argument}
 use Rattle.jsgen_tree.specs.declared.sets.ArrayExpressionElement.{ArrayExpressionElement}
 use Rattle.jsgen_tree.specs.declared.sets.ChainElement.{ChainElement}
 use Rattle.jsgen_tree.specs.declared.sets.SimpleAssignmentTarget.{SimpleAssignmentTarget}
+use Rattle.jsgen_tree.specs.declared.sets.AssignmentTargetPattern.{AssignmentTargetPattern}
 use Rattle.jsgen_tree.specs.declared.sets.AssignmentTarget.{AssignmentTarget}
+use Rattle.jsgen_tree.specs.declared.sets.AssignmentTargetMaybeDefault.{AssignmentTargetMaybeDefault}
+use Rattle.jsgen_tree.specs.declared.sets.AssignmentTargetProperty.{AssignmentTargetProperty}
 use Rattle.jsgen_tree.specs.declared.sets.ArrowFunctionBody.{ArrowFunctionBody}
 use Rattle.jsgen_tree.specs.declared.sets.ForStatementInit.{ForStatementInit}
 use Rattle.jsgen_tree.specs.declared.sets.ForStatementLeft.{ForStatementLeft}
@@ -105,7 +115,10 @@ use Rattle.jsgen_tree.specs.declared.sets.Argument.TheVariants as argument
 use Rattle.jsgen_tree.specs.declared.sets.ArrayExpressionElement.TheVariants as array_expression_element
 use Rattle.jsgen_tree.specs.declared.sets.ChainElement.TheVariants as chain_element
 use Rattle.jsgen_tree.specs.declared.sets.SimpleAssignmentTarget.TheVariants as simple_assignment_target
+use Rattle.jsgen_tree.specs.declared.sets.AssignmentTargetPattern.TheVariants as assignment_target_pattern
 use Rattle.jsgen_tree.specs.declared.sets.AssignmentTarget.TheVariants as assignment_target
+use Rattle.jsgen_tree.specs.declared.sets.AssignmentTargetMaybeDefault.TheVariants as assignment_target_maybe_default
+use Rattle.jsgen_tree.specs.declared.sets.AssignmentTargetProperty.TheVariants as assignment_target_property
 use Rattle.jsgen_tree.specs.declared.sets.ArrowFunctionBody.TheVariants as arrow_function_body
 use Rattle.jsgen_tree.specs.declared.sets.ForStatementInit.TheVariants as for_statement_init
 use Rattle.jsgen_tree.specs.declared.sets.ForStatementLeft.TheVariants as for_statement_left
@@ -120,6 +133,9 @@ use Rattle.jsgen_tree.specs.declared.sets.ClassElement.TheVariants as class_elem
 
 abbrev pub in_expression : {N : Type 0} → (N → Tree) → ExpressionNode N → Tree
 in_expression plain n = plain n.node
+
+abbrev pub in_assignment_target : {N : Type 0} → (N → Tree) → AssignmentTargetNode N → Tree
+in_assignment_target plain n = plain n.node
 
 abbrev pub in_declaration : {N : Type 0} → (N → Tree) → DeclarationNode N → Tree
 in_declaration plain n = plain n.node
@@ -284,12 +300,6 @@ conditional_expression_row plain n = conditional (record { span = n.span; values
 abbrev pub sequence_expression_row : {N : Type 0} → (N → Tree) → SequenceExpression N → Tree
 sequence_expression_row plain n = sequence (record { span = n.span; values = [] }) (trees (map (in_expression plain) n.expressions.items))
 
-abbrev pub in_assignment_target : {N : Type 0} → (N → Tree) → AssignmentTarget N → Tree
-in_assignment_target plain (assignment_target.IdentifierReference b) = identifier_reference_row b.value
-in_assignment_target plain (assignment_target.StaticMemberExpression b) = static_member_expression_row plain b.value
-in_assignment_target plain (assignment_target.ComputedMemberExpression b) = computed_member_expression_row plain b.value
-in_assignment_target plain (assignment_target.PrivateFieldExpression b) = private_field_expression_row plain b.value
-
 abbrev pub assignment_expression_row : {N : Type 0} → (N → Tree) → AssignmentExpression N → Tree
 assignment_expression_row plain n = assignment (record { span = n.span; values = assignment_operator n.operator ∷ [] }) (in_assignment_target plain n.left) (in_expression plain n.right)
 
@@ -324,10 +334,7 @@ for_statement_row plain n = for_statement (record { span = n.span; values = [] }
 
 abbrev pub in_for_statement_left : {N : Type 0} → (N → Tree) → ForStatementLeft N → Tree
 in_for_statement_left plain (for_statement_left.VariableDeclaration b) = variable_declaration_row plain b.value
-in_for_statement_left plain (for_statement_left.IdentifierReference b) = identifier_reference_row b.value
-in_for_statement_left plain (for_statement_left.StaticMemberExpression b) = static_member_expression_row plain b.value
-in_for_statement_left plain (for_statement_left.ComputedMemberExpression b) = computed_member_expression_row plain b.value
-in_for_statement_left plain (for_statement_left.PrivateFieldExpression b) = private_field_expression_row plain b.value
+in_for_statement_left plain (for_statement_left.AssignmentTarget b) = in_assignment_target plain b.value
 
 abbrev pub for_in_statement_row : {N : Type 0} → (N → Tree) → ForInStatement N → Tree
 for_in_statement_row plain n = for_in_statement (record { span = n.span; values = [] }) (in_for_statement_left plain n.left) (in_expression plain n.right) (in_statement plain n.body)
@@ -389,6 +396,32 @@ array_pattern_row plain n = array_pattern (record { span = n.span; values = [] }
 abbrev pub assignment_pattern_row : {N : Type 0} → (N → Tree) → AssignmentPattern N → Tree
 assignment_pattern_row plain n = assignment_pattern (record { span = n.span; values = [] }) (in_binding_pattern plain n.left) (in_expression plain n.right)
 
+abbrev pub assignment_target_with_default_row : {N : Type 0} → (N → Tree) → AssignmentTargetWithDefault N → Tree
+assignment_target_with_default_row plain n = target_with_default (record { span = n.span; values = [] }) (in_assignment_target plain n.binding) (in_expression plain n.init)
+
+abbrev pub in_assignment_target_maybe_default : {N : Type 0} → (N → Tree) → AssignmentTargetMaybeDefault N → Tree
+in_assignment_target_maybe_default plain (assignment_target_maybe_default.AssignmentTarget b) = in_assignment_target plain b.value
+in_assignment_target_maybe_default plain (assignment_target_maybe_default.AssignmentTargetWithDefault b) = assignment_target_with_default_row plain b.value
+
+abbrev pub assignment_target_rest_row : {N : Type 0} → (N → Tree) → AssignmentTargetRest N → Tree
+assignment_target_rest_row plain n = target_rest (record { span = n.span; values = [] }) (in_assignment_target plain n.target)
+
+abbrev pub array_assignment_target_row : {N : Type 0} → (N → Tree) → ArrayAssignmentTarget N → Tree
+array_assignment_target_row plain n = array_target (record { span = n.span; values = [] }) (holed (map (option_map (in_assignment_target_maybe_default plain)) n.elements.items)) (optional (option_map (λ b. assignment_target_rest_row plain b.value) n.rest))
+
+abbrev pub assignment_target_property_identifier_row : {N : Type 0} → (N → Tree) → AssignmentTargetPropertyIdentifier N → Tree
+assignment_target_property_identifier_row plain n = target_property_identifier (record { span = n.span; values = [] }) (identifier_reference_row n.binding.value) (optional (option_map (in_expression plain) n.init))
+
+abbrev pub assignment_target_property_property_row : {N : Type 0} → (N → Tree) → AssignmentTargetPropertyProperty N → Tree
+assignment_target_property_property_row plain n = target_property (record { span = n.span; values = flag n.computed ∷ [] }) (in_property_key plain n.name) (in_assignment_target_maybe_default plain n.binding)
+
+abbrev pub in_assignment_target_property : {N : Type 0} → (N → Tree) → AssignmentTargetProperty N → Tree
+in_assignment_target_property plain (assignment_target_property.AssignmentTargetPropertyIdentifier b) = assignment_target_property_identifier_row plain b.value
+in_assignment_target_property plain (assignment_target_property.AssignmentTargetPropertyProperty b) = assignment_target_property_property_row plain b.value
+
+abbrev pub object_assignment_target_row : {N : Type 0} → (N → Tree) → ObjectAssignmentTarget N → Tree
+object_assignment_target_row plain n = object_target (record { span = n.span; values = [] }) (trees (map (in_assignment_target_property plain) n.properties.items)) (optional (option_map (λ b. assignment_target_rest_row plain b.value) n.rest))
+
 abbrev pub private_in_expression_row : {N : Type 0} → (N → Tree) → PrivateInExpression N → Tree
 private_in_expression_row plain n = private_in (record { span = n.span; values = [] }) (private_identifier_row n.left.value) (in_expression plain n.right)
 
@@ -406,6 +439,10 @@ method_definition_row plain n = method_definition (record { span = n.span; value
 
 abbrev pub property_definition_row : {N : Type 0} → (N → Tree) → PropertyDefinition N → Tree
 property_definition_row plain n = property_definition (record { span = n.span; values = flag n.computed ∷ no_value ∷ no_value ∷ flag n.is_static ∷ no_value ∷ no_value ∷ no_value ∷ no_value ∷ [] }) (in_property_key plain n.key) (optional (option_map (in_expression plain) n.value))
+
+abbrev pub in_assignment_target_pattern : {N : Type 0} → (N → Tree) → AssignmentTargetPattern N → Tree
+in_assignment_target_pattern plain (assignment_target_pattern.ArrayAssignmentTarget b) = array_assignment_target_row plain b.value
+in_assignment_target_pattern plain (assignment_target_pattern.ObjectAssignmentTarget b) = object_assignment_target_row plain b.value
 
 -- ---- sets that nest
 
@@ -441,6 +478,14 @@ expression_plain plain (expression.ArrowFunctionExpression b) = arrow_function_e
 expression_plain plain (expression.Class b) = class_row plain b.value
 expression_plain plain (expression.PrivateFieldExpression b) = private_field_expression_row plain b.value
 expression_plain plain (expression.PrivateInExpression b) = private_in_expression_row plain b.value
+
+abbrev pub assignment_target_plain : {N : Type 0} → (N → Tree) → AssignmentTarget N → Tree
+assignment_target_plain plain (assignment_target.IdentifierReference b) = identifier_reference_row b.value
+assignment_target_plain plain (assignment_target.StaticMemberExpression b) = static_member_expression_row plain b.value
+assignment_target_plain plain (assignment_target.ComputedMemberExpression b) = computed_member_expression_row plain b.value
+assignment_target_plain plain (assignment_target.PrivateFieldExpression b) = private_field_expression_row plain b.value
+assignment_target_plain plain (assignment_target.ArrayAssignmentTarget b) = array_assignment_target_row plain b.value
+assignment_target_plain plain (assignment_target.ObjectAssignmentTarget b) = object_assignment_target_row plain b.value
 
 abbrev pub declaration_plain : {N : Type 0} → (N → Tree) → Declaration N → Tree
 declaration_plain plain (declaration.VariableDeclaration b) = variable_declaration_row plain b.value

@@ -62,12 +62,28 @@ is_simple_assignment_target types.ComputedMemberExpression = true
 is_simple_assignment_target types.PrivateFieldExpression = true
 is_simple_assignment_target type = false
 
+abbrev pub is_assignment_target_pattern : NodeType → Bool
+is_assignment_target_pattern types.ArrayAssignmentTarget = true
+is_assignment_target_pattern types.ObjectAssignmentTarget = true
+is_assignment_target_pattern type = false
+
 abbrev pub is_assignment_target : NodeType → Bool
 is_assignment_target types.IdentifierReference = true
 is_assignment_target types.StaticMemberExpression = true
 is_assignment_target types.ComputedMemberExpression = true
 is_assignment_target types.PrivateFieldExpression = true
+is_assignment_target types.ArrayAssignmentTarget = true
+is_assignment_target types.ObjectAssignmentTarget = true
 is_assignment_target type = false
+
+abbrev pub is_assignment_target_maybe_default : NodeType → Bool
+is_assignment_target_maybe_default types.AssignmentTargetWithDefault = true
+is_assignment_target_maybe_default type = is_assignment_target type
+
+abbrev pub is_assignment_target_property : NodeType → Bool
+is_assignment_target_property types.AssignmentTargetPropertyIdentifier = true
+is_assignment_target_property types.AssignmentTargetPropertyProperty = true
+is_assignment_target_property type = false
 
 abbrev pub is_arrow_function_body : NodeType → Bool
 is_arrow_function_body types.FunctionBody = true
@@ -79,11 +95,7 @@ is_for_statement_init type = is_expression type
 
 abbrev pub is_for_statement_left : NodeType → Bool
 is_for_statement_left types.VariableDeclaration = true
-is_for_statement_left types.IdentifierReference = true
-is_for_statement_left types.StaticMemberExpression = true
-is_for_statement_left types.ComputedMemberExpression = true
-is_for_statement_left types.PrivateFieldExpression = true
-is_for_statement_left type = false
+is_for_statement_left type = is_assignment_target type
 
 abbrev pub is_object_property_kind : NodeType → Bool
 is_object_property_kind types.ObjectProperty = true
@@ -194,6 +206,14 @@ abbrev pub is_binding_rest_element : NodeType → Bool
 is_binding_rest_element types.BindingRestElement = true
 is_binding_rest_element type = false
 
+abbrev pub is_assignment_target_rest : NodeType → Bool
+is_assignment_target_rest types.AssignmentTargetRest = true
+is_assignment_target_rest type = false
+
+abbrev pub is_identifier_reference : NodeType → Bool
+is_identifier_reference types.IdentifierReference = true
+is_identifier_reference type = false
+
 abbrev pub is_private_identifier : NodeType → Bool
 is_private_identifier types.PrivateIdentifier = true
 is_private_identifier type = false
@@ -235,6 +255,10 @@ in_set sets.BlockStatement t = is_block_statement t
 in_set sets.CatchClause t = is_catch_clause t
 in_set sets.BindingProperty t = is_binding_property t
 in_set sets.BindingRestElement t = is_binding_rest_element t
+in_set sets.AssignmentTargetMaybeDefault t = is_assignment_target_maybe_default t
+in_set sets.AssignmentTargetRest t = is_assignment_target_rest t
+in_set sets.AssignmentTargetProperty t = is_assignment_target_property t
+in_set sets.IdentifierReference t = is_identifier_reference t
 in_set sets.PrivateIdentifier t = is_private_identifier t
 in_set sets.ClassBody t = is_class_body t
 in_set sets.ClassElement t = is_class_element t

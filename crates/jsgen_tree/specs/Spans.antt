@@ -6,7 +6,10 @@ use Rattle.jsgen_tree.specs.declared.sets.Argument.{Argument}
 use Rattle.jsgen_tree.specs.declared.sets.ArrayExpressionElement.{ArrayExpressionElement}
 use Rattle.jsgen_tree.specs.declared.sets.ChainElement.{ChainElement}
 use Rattle.jsgen_tree.specs.declared.sets.SimpleAssignmentTarget.{SimpleAssignmentTarget}
+use Rattle.jsgen_tree.specs.declared.sets.AssignmentTargetPattern.{AssignmentTargetPattern}
 use Rattle.jsgen_tree.specs.declared.sets.AssignmentTarget.{AssignmentTarget}
+use Rattle.jsgen_tree.specs.declared.sets.AssignmentTargetMaybeDefault.{AssignmentTargetMaybeDefault}
+use Rattle.jsgen_tree.specs.declared.sets.AssignmentTargetProperty.{AssignmentTargetProperty}
 use Rattle.jsgen_tree.specs.declared.sets.ArrowFunctionBody.{ArrowFunctionBody}
 use Rattle.jsgen_tree.specs.declared.sets.ForStatementInit.{ForStatementInit}
 use Rattle.jsgen_tree.specs.declared.sets.ForStatementLeft.{ForStatementLeft}
@@ -21,7 +24,10 @@ use Rattle.jsgen_tree.specs.declared.sets.Argument.TheVariants as argument
 use Rattle.jsgen_tree.specs.declared.sets.ArrayExpressionElement.TheVariants as array_expression_element
 use Rattle.jsgen_tree.specs.declared.sets.ChainElement.TheVariants as chain_element
 use Rattle.jsgen_tree.specs.declared.sets.SimpleAssignmentTarget.TheVariants as simple_assignment_target
+use Rattle.jsgen_tree.specs.declared.sets.AssignmentTargetPattern.TheVariants as assignment_target_pattern
 use Rattle.jsgen_tree.specs.declared.sets.AssignmentTarget.TheVariants as assignment_target
+use Rattle.jsgen_tree.specs.declared.sets.AssignmentTargetMaybeDefault.TheVariants as assignment_target_maybe_default
+use Rattle.jsgen_tree.specs.declared.sets.AssignmentTargetProperty.TheVariants as assignment_target_property
 use Rattle.jsgen_tree.specs.declared.sets.ArrowFunctionBody.TheVariants as arrow_function_body
 use Rattle.jsgen_tree.specs.declared.sets.ForStatementInit.TheVariants as for_statement_init
 use Rattle.jsgen_tree.specs.declared.sets.ForStatementLeft.TheVariants as for_statement_left
@@ -85,11 +91,25 @@ simple_assignment_target_span (simple_assignment_target.StaticMemberExpression b
 simple_assignment_target_span (simple_assignment_target.ComputedMemberExpression b) = b.value.span
 simple_assignment_target_span (simple_assignment_target.PrivateFieldExpression b) = b.value.span
 
+abbrev pub assignment_target_pattern_span : {N : Type 0} → AssignmentTargetPattern N → Span
+assignment_target_pattern_span (assignment_target_pattern.ArrayAssignmentTarget b) = b.value.span
+assignment_target_pattern_span (assignment_target_pattern.ObjectAssignmentTarget b) = b.value.span
+
 abbrev pub assignment_target_span : {N : Type 0} → AssignmentTarget N → Span
 assignment_target_span (assignment_target.IdentifierReference b) = b.value.span
 assignment_target_span (assignment_target.StaticMemberExpression b) = b.value.span
 assignment_target_span (assignment_target.ComputedMemberExpression b) = b.value.span
 assignment_target_span (assignment_target.PrivateFieldExpression b) = b.value.span
+assignment_target_span (assignment_target.ArrayAssignmentTarget b) = b.value.span
+assignment_target_span (assignment_target.ObjectAssignmentTarget b) = b.value.span
+
+abbrev pub assignment_target_maybe_default_span : {N : Type 0} → (N → Span) → AssignmentTargetMaybeDefault N → Span
+assignment_target_maybe_default_span own (assignment_target_maybe_default.AssignmentTarget b) = own b.value.node
+assignment_target_maybe_default_span own (assignment_target_maybe_default.AssignmentTargetWithDefault b) = b.value.span
+
+abbrev pub assignment_target_property_span : {N : Type 0} → AssignmentTargetProperty N → Span
+assignment_target_property_span (assignment_target_property.AssignmentTargetPropertyIdentifier b) = b.value.span
+assignment_target_property_span (assignment_target_property.AssignmentTargetPropertyProperty b) = b.value.span
 
 abbrev pub arrow_function_body_span : {N : Type 0} → (N → Span) → ArrowFunctionBody N → Span
 arrow_function_body_span own (arrow_function_body.FunctionBody b) = b.value.span
@@ -99,12 +119,9 @@ abbrev pub for_statement_init_span : {N : Type 0} → (N → Span) → ForStatem
 for_statement_init_span own (for_statement_init.VariableDeclaration b) = b.value.span
 for_statement_init_span own (for_statement_init.Expression b) = own b.value.node
 
-abbrev pub for_statement_left_span : {N : Type 0} → ForStatementLeft N → Span
-for_statement_left_span (for_statement_left.VariableDeclaration b) = b.value.span
-for_statement_left_span (for_statement_left.IdentifierReference b) = b.value.span
-for_statement_left_span (for_statement_left.StaticMemberExpression b) = b.value.span
-for_statement_left_span (for_statement_left.ComputedMemberExpression b) = b.value.span
-for_statement_left_span (for_statement_left.PrivateFieldExpression b) = b.value.span
+abbrev pub for_statement_left_span : {N : Type 0} → (N → Span) → ForStatementLeft N → Span
+for_statement_left_span own (for_statement_left.VariableDeclaration b) = b.value.span
+for_statement_left_span own (for_statement_left.AssignmentTarget b) = own b.value.node
 
 abbrev pub object_property_kind_span : {N : Type 0} → ObjectPropertyKind N → Span
 object_property_kind_span (object_property_kind.ObjectProperty b) = b.value.span

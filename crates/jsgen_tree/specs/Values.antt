@@ -304,6 +304,9 @@ label_identifier_name a = as_text (value_at 0 a.values)
 abbrev pub binding_property_computed : Atoms → Bool
 binding_property_computed a = as_flag (value_at 0 a.values)
 
+abbrev pub assignment_target_property_property_computed : Atoms → Bool
+assignment_target_property_property_computed a = as_flag (value_at 0 a.values)
+
 abbrev pub private_identifier_name : Atoms → List ℕ
 private_identifier_name a = as_text (value_at 0 a.values)
 

@@ -1,8 +1,7 @@
 // Generated from tools/nodes/table.txt; edit that and run tools/nodes/generate.
 // Conditional expressions, sequences and assignments (ECMA-262, 13.14 to 13.16).
 
-use crate::nodes::{ExpressionNode, Node};
-use crate::sets::AssignmentTarget;
+use crate::nodes::{AssignmentTargetNode, ExpressionNode, Node};
 use jsgen_syntax::{AssignmentOperator, Span};
 
 /// A choice between two values (ECMA-262, 13.14).
@@ -26,6 +25,6 @@ pub struct SequenceExpression<N = Node> {
 pub struct AssignmentExpression<N = Node> {
     pub span: Span,
     pub operator: AssignmentOperator,
-    pub left: AssignmentTarget<N>,
+    pub left: AssignmentTargetNode<N>,
     pub right: ExpressionNode<N>,
 }

@@ -2,19 +2,27 @@
 ghost use Rattle.std.specs.Prelude.{◌≡◌, false, MatchOption};
 ghost use Rattle.jsgen_tree.specs.Tree.{type_of};
 ghost use Rattle.jsgen_tree.specs.Inside.{is_only_expression, without_parentheses, IsInside};
+ghost use Rattle.jsgen_tree.specs.Inner.{inner_plain};
 ghost use Rattle.jsgen_tree.specs.Rows.{expression_plain};
 ghost use Rattle.jsgen_tree.specs.Plain.{node_plain};
 
 use crate::nodes::Node;
-use crate::sets::{Expression, Statement};
+use crate::sets::{AssignmentTarget, Expression, Statement};
+
+/// What stands within parentheses: an expression, or a target of a type that expressions have too.
+#[derive(Clone, Copy)]
+pub enum Inner<'t> {
+    Expression(&'t Expression),
+    Target(&'t AssignmentTarget),
+}
 
 impl Node {
     /// The expression that stands there, without the parentheses that it may have round it, if it is one and no function or class.
-    /// No declaration's wrapper holds an expression, which the proof doesn't know.
+    /// No wrapper of another set holds an expression, which the proof doesn't know.
     #[cycle(inner)]
-    pub fn inner_expression(&self) -> Option<&Expression>
+    pub fn inner_expression(&self) -> Option<Inner<'_>>
         ensures { MatchOption result (is_only_expression (type_of (node_plain self.now)) ≡ false)
-            (λ e. IsInside (node_plain self.now) (expression_plain node_plain e.now)) }
+            (λ e. IsInside (node_plain self.now) (inner_plain e)) }
     {
         match self {
             Node::Expression(expression) => match expression {
@@ -22,6 +30,11 @@ impl Node {
                 Expression::Function(_) => None,
                 Expression::Class(_) => None,
                 _ => Some(expression.without_parentheses()),
+            },
+            Node::AssignmentTarget(target) => match target {
+                AssignmentTarget::ArrayAssignmentTarget(_) => None,
+                AssignmentTarget::ObjectAssignmentTarget(_) => None,
+                _ => Some(Inner::Target(target)),
             },
             Node::Statement(statement) => match statement {
                 Statement::Declaration(declaration) => declaration.get().inner_expression(),
@@ -37,18 +50,18 @@ impl Node {
 impl Expression {
     /// What stands within the parentheses that the expression may have round it. Round a function or a class they stay.
     #[cycle(inner)]
-    pub fn without_parentheses(&self) -> &Expression
-        ensures { expression_plain node_plain result.now
+    pub fn without_parentheses(&self) -> Inner<'_>
+        ensures { inner_plain result
             ≡ without_parentheses (expression_plain node_plain self.now) }
     {
         match self {
             Expression::ParenthesizedExpression(outer) => {
                 match outer.expression.get().inner_expression() {
                     Some(inner) => inner,
-                    None => self,
+                    None => Inner::Expression(self),
                 }
             }
-            _ => self,
+            _ => Inner::Expression(self),
         }
     }
 }

@@ -19,6 +19,7 @@ impl Node {
     {
         match self {
             Node::Expression(_) => None,
+            Node::AssignmentTarget(_) => None,
             Node::Statement(statement) => match statement {
                 Statement::Declaration(node) => node.get().declared_kind(),
                 _ => None,
@@ -42,6 +43,7 @@ impl Node {
                 Expression::Function(node) => Some(node),
                 _ => None,
             },
+            Node::AssignmentTarget(_) => None,
             Node::Statement(statement) => match statement {
                 Statement::Declaration(node) => node.get().as_function(),
                 _ => None,

@@ -5,8 +5,9 @@ ghost use Rattle.jsgen_tree.specs.Inside.{without_parentheses, reference_in, loo
 ghost use Rattle.jsgen_tree.specs.Plain.{node_plain};
 
 use crate::expressions::IdentifierReference;
+use crate::inside::Inner;
 use crate::nodes::Node;
-use crate::sets::{BindingPattern, Expression, Statement};
+use crate::sets::{AssignmentTarget, BindingPattern, Expression, Statement};
 use crate::statements::BindingIdentifier;
 
 /// Whether a property of this name sets the prototype, where it has a value (ECMA-262, 13.2.5.5).
@@ -22,7 +23,10 @@ impl Node {
         ensures { option_map (λ s. chars s.now) result ≡ reference_in (without_parentheses (node_plain self.now)) }
     {
         match self.inner_expression() {
-            Some(Expression::IdentifierReference(node)) => Some(node.name.as_str()),
+            Some(
+                Inner::Expression(Expression::IdentifierReference(node))
+                | Inner::Target(AssignmentTarget::IdentifierReference(node)),
+            ) => Some(node.name.as_str()),
             _ => None,
         }
     }
@@ -32,7 +36,10 @@ impl Node {
         ensures { option_map (λ n. named_by n.now) result ≡ looked_up_in (without_parentheses (node_plain self.now)) }
     {
         match self.inner_expression() {
-            Some(Expression::IdentifierReference(node)) => Some(node),
+            Some(
+                Inner::Expression(Expression::IdentifierReference(node))
+                | Inner::Target(AssignmentTarget::IdentifierReference(node)),
+            ) => Some(node),
             _ => None,
         }
     }
@@ -65,6 +72,7 @@ impl Node {
     {
         match self {
             Node::Expression(_) => None,
+            Node::AssignmentTarget(_) => None,
             Node::Statement(statement) => match statement {
                 Statement::Declaration(node) => node.get().written_name(),
                 _ => None,

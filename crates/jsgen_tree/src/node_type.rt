@@ -2,14 +2,15 @@
 // The type of a member of each set.
 ghost use Rattle.std.specs.Prelude.{◌≡◌};
 ghost use Rattle.jsgen_tree.specs.Tree.{type_of};
-ghost use Rattle.jsgen_tree.specs.Rows.{expression_plain, declaration_plain, statement_plain, binding_pattern_plain, class_element_plain, in_argument, in_array_expression_element, in_chain_element, in_simple_assignment_target, in_assignment_target, in_arrow_function_body, in_for_statement_init, in_for_statement_left, in_object_property_kind, in_property_key};
+ghost use Rattle.jsgen_tree.specs.Rows.{expression_plain, assignment_target_plain, declaration_plain, statement_plain, binding_pattern_plain, class_element_plain, in_argument, in_array_expression_element, in_chain_element, in_simple_assignment_target, in_assignment_target_pattern, in_assignment_target_maybe_default, in_assignment_target_property, in_arrow_function_body, in_for_statement_init, in_for_statement_left, in_object_property_kind, in_property_key};
 ghost use Rattle.jsgen_tree.specs.Plain.{node_plain};
 
 use crate::nodes::Node;
 use crate::sets::{
-    Argument, ArrayExpressionElement, ArrowFunctionBody, AssignmentTarget, BindingPattern,
-    ChainElement, ClassElement, Declaration, Expression, ForStatementInit, ForStatementLeft,
-    ObjectPropertyKind, PropertyKey, SimpleAssignmentTarget, Statement,
+    Argument, ArrayExpressionElement, ArrowFunctionBody, AssignmentTarget,
+    AssignmentTargetMaybeDefault, AssignmentTargetPattern, AssignmentTargetProperty,
+    BindingPattern, ChainElement, ClassElement, Declaration, Expression, ForStatementInit,
+    ForStatementLeft, ObjectPropertyKind, PropertyKey, SimpleAssignmentTarget, Statement,
 };
 use crate::types::NodeType;
 
@@ -107,16 +108,57 @@ impl SimpleAssignmentTarget {
     }
 }
 
+impl AssignmentTargetPattern {
+    /// The type of the node.
+    pub fn node_type(&self) -> NodeType
+        ensures { result ≡ type_of (in_assignment_target_pattern node_plain self.now) }
+    {
+        match self {
+            AssignmentTargetPattern::ArrayAssignmentTarget(_) => NodeType::ArrayAssignmentTarget,
+            AssignmentTargetPattern::ObjectAssignmentTarget(_) => NodeType::ObjectAssignmentTarget,
+        }
+    }
+}
+
 impl AssignmentTarget {
     /// The type of the node.
     pub fn node_type(&self) -> NodeType
-        ensures { result ≡ type_of (in_assignment_target node_plain self.now) }
+        ensures { result ≡ type_of (assignment_target_plain node_plain self.now) }
     {
         match self {
             AssignmentTarget::IdentifierReference(_) => NodeType::IdentifierReference,
             AssignmentTarget::StaticMemberExpression(_) => NodeType::StaticMemberExpression,
             AssignmentTarget::ComputedMemberExpression(_) => NodeType::ComputedMemberExpression,
             AssignmentTarget::PrivateFieldExpression(_) => NodeType::PrivateFieldExpression,
+            AssignmentTarget::ArrayAssignmentTarget(_) => NodeType::ArrayAssignmentTarget,
+            AssignmentTarget::ObjectAssignmentTarget(_) => NodeType::ObjectAssignmentTarget,
+        }
+    }
+}
+
+impl AssignmentTargetMaybeDefault {
+    /// The type of the node.
+    pub fn node_type(&self) -> NodeType
+        ensures { result ≡ type_of (in_assignment_target_maybe_default node_plain self.now) }
+    {
+        match self {
+            AssignmentTargetMaybeDefault::AssignmentTarget(node) => node.get().node_type(),
+            AssignmentTargetMaybeDefault::AssignmentTargetWithDefault(_) =>
+                NodeType::AssignmentTargetWithDefault,
+        }
+    }
+}
+
+impl AssignmentTargetProperty {
+    /// The type of the node.
+    pub fn node_type(&self) -> NodeType
+        ensures { result ≡ type_of (in_assignment_target_property node_plain self.now) }
+    {
+        match self {
+            AssignmentTargetProperty::AssignmentTargetPropertyIdentifier(_) =>
+                NodeType::AssignmentTargetPropertyIdentifier,
+            AssignmentTargetProperty::AssignmentTargetPropertyProperty(_) =>
+                NodeType::AssignmentTargetPropertyProperty,
         }
     }
 }
@@ -152,10 +194,7 @@ impl ForStatementLeft {
     {
         match self {
             ForStatementLeft::VariableDeclaration(_) => NodeType::VariableDeclaration,
-            ForStatementLeft::IdentifierReference(_) => NodeType::IdentifierReference,
-            ForStatementLeft::StaticMemberExpression(_) => NodeType::StaticMemberExpression,
-            ForStatementLeft::ComputedMemberExpression(_) => NodeType::ComputedMemberExpression,
-            ForStatementLeft::PrivateFieldExpression(_) => NodeType::PrivateFieldExpression,
+            ForStatementLeft::AssignmentTarget(node) => node.get().node_type(),
         }
     }
 }
@@ -262,6 +301,7 @@ impl Node {
     {
         match self {
             Node::Expression(node) => node.node_type(),
+            Node::AssignmentTarget(node) => node.node_type(),
             Node::Declaration(node) => node.node_type(),
             Node::Statement(node) => node.node_type(),
             Node::BindingPattern(node) => node.node_type(),

@@ -3,11 +3,14 @@
 ghost use Rattle.std.specs.Prelude.{◌≡◌};
 ghost use Rattle.jsgen_tree.specs.declared.nodes.Node.TheVariants as nodes;
 
-use crate::sets::{BindingPattern, ClassElement, Declaration, Expression, Statement};
+use crate::sets::{
+    AssignmentTarget, BindingPattern, ClassElement, Declaration, Expression, Statement,
+};
 
 /// A node at a place where trees nest. It has a variant for each set that children nest through.
 pub enum Node {
     Expression(Expression),
+    AssignmentTarget(AssignmentTarget),
     Declaration(Declaration),
     Statement(Statement),
     BindingPattern(BindingPattern),
@@ -17,6 +20,12 @@ pub enum Node {
 /// A child that is an expression. It is made from one, and from nothing else.
 #[derive(Drop)]
 pub struct ExpressionNode<N = Node> {
+    node: N,
+}
+
+/// A child that is an assignment target. It is made from one, and from nothing else.
+#[derive(Drop)]
+pub struct AssignmentTargetNode<N = Node> {
     node: N,
 }
 
@@ -52,6 +61,9 @@ impl Drop for Node {
             Node::Expression(member) => {
                 let _ = member;
             }
+            Node::AssignmentTarget(member) => {
+                let _ = member;
+            }
             Node::Declaration(member) => {
                 let _ = member;
             }
@@ -74,6 +86,16 @@ impl From<Expression> for ExpressionNode {
     fn from(member: Expression) -> ExpressionNode {
         ExpressionNode {
             node: Node::Expression(member),
+        }
+    }
+}
+
+impl From<AssignmentTarget> for AssignmentTargetNode {
+    ghost from_gives = { λ x y. y.node ≡ nodes.AssignmentTarget x };
+
+    fn from(member: AssignmentTarget) -> AssignmentTargetNode {
+        AssignmentTargetNode {
+            node: Node::AssignmentTarget(member),
         }
     }
 }
@@ -119,6 +141,15 @@ impl From<ClassElement> for ClassElementNode {
 }
 
 impl<N> ExpressionNode<N> {
+    /// The node inside.
+    pub fn get(&self) -> &N
+        ensures { result.now ≡ self.now.node }
+    {
+        &self.node
+    }
+}
+
+impl<N> AssignmentTargetNode<N> {
     /// The node inside.
     pub fn get(&self) -> &N
         ensures { result.now ≡ self.now.node }

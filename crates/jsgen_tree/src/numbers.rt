@@ -6,6 +6,7 @@ ghost use Rattle.jsgen_tree.specs.Rows.{numeric_literal_row};
 ghost use Rattle.jsgen_tree.specs.Plain.{node_plain};
 
 use crate::expressions::NumericLiteral;
+use crate::inside::Inner;
 use crate::nodes::Node;
 use crate::sets::Expression;
 
@@ -62,8 +63,10 @@ impl Node {
         ensures { result ≡ is_negative (without_parentheses (node_plain self.now)) }
     {
         match self.inner_expression() {
-            Some(Expression::NumericLiteral(node)) => node.is_negative(),
-            Some(Expression::BigIntLiteral(node)) => behind_minus(node.value.as_str()).is_some(),
+            Some(Inner::Expression(Expression::NumericLiteral(node))) => node.is_negative(),
+            Some(Inner::Expression(Expression::BigIntLiteral(node))) => {
+                behind_minus(node.value.as_str()).is_some()
+            }
             _ => false,
         }
     }

@@ -20,7 +20,7 @@ use crate::loops::{
     ForOfStatement, ForStatement, LabeledStatement, ReturnStatement, ThrowStatement,
     WhileStatement,
 };
-use crate::nodes::{DeclarationNode, ExpressionNode, Node};
+use crate::nodes::{AssignmentTargetNode, DeclarationNode, ExpressionNode, Node};
 use crate::operations::{
     ImportMeta, NewExpression, NewTarget, Super, UnaryExpression, UpdateExpression,
 };
@@ -28,6 +28,10 @@ use crate::patterns::{ArrayPattern, AssignmentPattern, ObjectPattern};
 use crate::statements::{
     BindingIdentifier, BlockStatement, EmptyStatement, ExpressionStatement, IfStatement,
     VariableDeclaration,
+};
+use crate::targets::{
+    ArrayAssignmentTarget, AssignmentTargetPropertyIdentifier, AssignmentTargetPropertyProperty,
+    AssignmentTargetWithDefault, ObjectAssignmentTarget,
 };
 
 #[derive(Drop)]
@@ -97,13 +101,35 @@ pub enum SimpleAssignmentTarget<N = Node> {
     PrivateFieldExpression(Box<PrivateFieldExpression<N>>),
 }
 
-/// What may be given a value: so far what may be changed as it stands.
+/// What may be given several values.
+#[derive(Drop)]
+pub enum AssignmentTargetPattern<N = Node> {
+    ArrayAssignmentTarget(Box<ArrayAssignmentTarget<N>>),
+    ObjectAssignmentTarget(Box<ObjectAssignmentTarget<N>>),
+}
+
 #[derive(Drop)]
 pub enum AssignmentTarget<N = Node> {
     IdentifierReference(Box<IdentifierReference>),
     StaticMemberExpression(Box<StaticMemberExpression<N>>),
     ComputedMemberExpression(Box<ComputedMemberExpression<N>>),
     PrivateFieldExpression(Box<PrivateFieldExpression<N>>),
+    ArrayAssignmentTarget(Box<ArrayAssignmentTarget<N>>),
+    ObjectAssignmentTarget(Box<ObjectAssignmentTarget<N>>),
+}
+
+/// A target, maybe with a default.
+#[derive(Drop)]
+pub enum AssignmentTargetMaybeDefault<N = Node> {
+    AssignmentTarget(Box<AssignmentTargetNode<N>>),
+    AssignmentTargetWithDefault(Box<AssignmentTargetWithDefault<N>>),
+}
+
+/// A property of a pattern that is given values.
+#[derive(Drop)]
+pub enum AssignmentTargetProperty<N = Node> {
+    AssignmentTargetPropertyIdentifier(Box<AssignmentTargetPropertyIdentifier<N>>),
+    AssignmentTargetPropertyProperty(Box<AssignmentTargetPropertyProperty<N>>),
 }
 
 /// What an arrow function does: its statements, or an expression whose value is the result.
@@ -124,10 +150,7 @@ pub enum ForStatementInit<N = Node> {
 #[derive(Drop)]
 pub enum ForStatementLeft<N = Node> {
     VariableDeclaration(Box<VariableDeclaration<N>>),
-    IdentifierReference(Box<IdentifierReference>),
-    StaticMemberExpression(Box<StaticMemberExpression<N>>),
-    ComputedMemberExpression(Box<ComputedMemberExpression<N>>),
-    PrivateFieldExpression(Box<PrivateFieldExpression<N>>),
+    AssignmentTarget(Box<AssignmentTargetNode<N>>),
 }
 
 /// What may stand in an object.

@@ -3,7 +3,7 @@
 ghost use Rattle.std.specs.Prelude.{◌≡◌};
 ghost use Rattle.jsgen_tree.specs.Tree.{span_of};
 ghost use Rattle.jsgen_tree.specs.Plain.{node_plain};
-ghost use Rattle.jsgen_tree.specs.Spans.{expression_span, argument_span, array_expression_element_span, chain_element_span, simple_assignment_target_span, assignment_target_span, arrow_function_body_span, for_statement_init_span, for_statement_left_span, object_property_kind_span, property_key_span, declaration_span, statement_span, binding_pattern_span, class_element_span};
+ghost use Rattle.jsgen_tree.specs.Spans.{expression_span, argument_span, array_expression_element_span, chain_element_span, simple_assignment_target_span, assignment_target_pattern_span, assignment_target_span, assignment_target_maybe_default_span, assignment_target_property_span, arrow_function_body_span, for_statement_init_span, for_statement_left_span, object_property_kind_span, property_key_span, declaration_span, statement_span, binding_pattern_span, class_element_span};
 
 use crate::assignments::{AssignmentExpression, ConditionalExpression, SequenceExpression};
 use crate::choices::{CatchClause, SwitchCase, SwitchStatement, TryStatement};
@@ -35,13 +35,18 @@ use crate::patterns::{
     ArrayPattern, AssignmentPattern, BindingProperty, BindingRestElement, ObjectPattern,
 };
 use crate::sets::{
-    Argument, ArrayExpressionElement, ArrowFunctionBody, AssignmentTarget, BindingPattern,
-    ChainElement, ClassElement, Declaration, Expression, ForStatementInit, ForStatementLeft,
-    ObjectPropertyKind, PropertyKey, SimpleAssignmentTarget, Statement,
+    Argument, ArrayExpressionElement, ArrowFunctionBody, AssignmentTarget,
+    AssignmentTargetMaybeDefault, AssignmentTargetPattern, AssignmentTargetProperty,
+    BindingPattern, ChainElement, ClassElement, Declaration, Expression, ForStatementInit,
+    ForStatementLeft, ObjectPropertyKind, PropertyKey, SimpleAssignmentTarget, Statement,
 };
 use crate::statements::{
     BindingIdentifier, BlockStatement, Comment, Directive, EmptyStatement, ExpressionStatement,
     IfStatement, Program, VariableDeclaration, VariableDeclarator,
+};
+use crate::targets::{
+    ArrayAssignmentTarget, AssignmentTargetPropertyIdentifier, AssignmentTargetPropertyProperty,
+    AssignmentTargetRest, AssignmentTargetWithDefault, ObjectAssignmentTarget,
 };
 use jsgen_syntax::Span;
 
@@ -583,6 +588,54 @@ impl<N> GetSpan for AssignmentPattern<N> {
     }
 }
 
+impl<N> GetSpan for ArrayAssignmentTarget<N> {
+    ghost own_span = { λ n. n.span };
+
+    fn span(&self) -> Span {
+        self.span
+    }
+}
+
+impl<N> GetSpan for ObjectAssignmentTarget<N> {
+    ghost own_span = { λ n. n.span };
+
+    fn span(&self) -> Span {
+        self.span
+    }
+}
+
+impl<N> GetSpan for AssignmentTargetWithDefault<N> {
+    ghost own_span = { λ n. n.span };
+
+    fn span(&self) -> Span {
+        self.span
+    }
+}
+
+impl<N> GetSpan for AssignmentTargetPropertyIdentifier<N> {
+    ghost own_span = { λ n. n.span };
+
+    fn span(&self) -> Span {
+        self.span
+    }
+}
+
+impl<N> GetSpan for AssignmentTargetPropertyProperty<N> {
+    ghost own_span = { λ n. n.span };
+
+    fn span(&self) -> Span {
+        self.span
+    }
+}
+
+impl<N> GetSpan for AssignmentTargetRest<N> {
+    ghost own_span = { λ n. n.span };
+
+    fn span(&self) -> Span {
+        self.span
+    }
+}
+
 impl GetSpan for PrivateIdentifier {
     ghost own_span = { λ n. n.span };
 
@@ -735,6 +788,17 @@ impl<N> GetSpan for SimpleAssignmentTarget<N> {
     }
 }
 
+impl<N> GetSpan for AssignmentTargetPattern<N> {
+    ghost own_span = { λ n. assignment_target_pattern_span n };
+
+    fn span(&self) -> Span {
+        match self {
+            AssignmentTargetPattern::ArrayAssignmentTarget(node) => node.span,
+            AssignmentTargetPattern::ObjectAssignmentTarget(node) => node.span,
+        }
+    }
+}
+
 impl<N> GetSpan for AssignmentTarget<N> {
     ghost own_span = { λ n. assignment_target_span n };
 
@@ -744,6 +808,30 @@ impl<N> GetSpan for AssignmentTarget<N> {
             AssignmentTarget::StaticMemberExpression(node) => node.span,
             AssignmentTarget::ComputedMemberExpression(node) => node.span,
             AssignmentTarget::PrivateFieldExpression(node) => node.span,
+            AssignmentTarget::ArrayAssignmentTarget(node) => node.span,
+            AssignmentTarget::ObjectAssignmentTarget(node) => node.span,
+        }
+    }
+}
+
+impl<N: GetSpan> GetSpan for AssignmentTargetMaybeDefault<N> {
+    ghost own_span = { λ n. assignment_target_maybe_default_span N.own_span n };
+
+    fn span(&self) -> Span {
+        match self {
+            AssignmentTargetMaybeDefault::AssignmentTarget(node) => node.get().span(),
+            AssignmentTargetMaybeDefault::AssignmentTargetWithDefault(node) => node.span,
+        }
+    }
+}
+
+impl<N> GetSpan for AssignmentTargetProperty<N> {
+    ghost own_span = { λ n. assignment_target_property_span n };
+
+    fn span(&self) -> Span {
+        match self {
+            AssignmentTargetProperty::AssignmentTargetPropertyIdentifier(node) => node.span,
+            AssignmentTargetProperty::AssignmentTargetPropertyProperty(node) => node.span,
         }
     }
 }
@@ -770,16 +858,13 @@ impl<N: GetSpan> GetSpan for ForStatementInit<N> {
     }
 }
 
-impl<N> GetSpan for ForStatementLeft<N> {
-    ghost own_span = { λ n. for_statement_left_span n };
+impl<N: GetSpan> GetSpan for ForStatementLeft<N> {
+    ghost own_span = { λ n. for_statement_left_span N.own_span n };
 
     fn span(&self) -> Span {
         match self {
             ForStatementLeft::VariableDeclaration(node) => node.span,
-            ForStatementLeft::IdentifierReference(node) => node.span,
-            ForStatementLeft::StaticMemberExpression(node) => node.span,
-            ForStatementLeft::ComputedMemberExpression(node) => node.span,
-            ForStatementLeft::PrivateFieldExpression(node) => node.span,
+            ForStatementLeft::AssignmentTarget(node) => node.get().span(),
         }
     }
 }
@@ -878,6 +963,7 @@ impl GetSpan for Node {
     fn span(&self) -> Span {
         match self {
             Node::Expression(node) => node.span(),
+            Node::AssignmentTarget(node) => node.span(),
             Node::Declaration(node) => node.span(),
             Node::Statement(node) => node.span(),
             Node::BindingPattern(node) => node.span(),

@@ -1,7 +1,7 @@
 // Generated from tools/nodes/table.txt; edit that and run tools/nodes/generate.
 // The types of nodes, and the sets that a field's child may be of.
 ghost use Rattle.std.specs.Prelude.{◌≡◌};
-ghost use Rattle.jsgen_tree.specs.Sets.{in_set, is_expression, is_argument, is_array_expression_element, is_chain_element, is_simple_assignment_target, is_assignment_target, is_arrow_function_body, is_for_statement_init, is_for_statement_left, is_object_property_kind, is_property_key, is_declaration, is_statement, is_binding_pattern, is_class_element};
+ghost use Rattle.jsgen_tree.specs.Sets.{in_set, is_expression, is_argument, is_array_expression_element, is_chain_element, is_simple_assignment_target, is_assignment_target_pattern, is_assignment_target, is_assignment_target_maybe_default, is_assignment_target_property, is_arrow_function_body, is_for_statement_init, is_for_statement_left, is_object_property_kind, is_property_key, is_declaration, is_statement, is_binding_pattern, is_class_element};
 
 /// The type of a node.
 #[derive(Clone, Copy, Debug, PartialEq, Eq)]
@@ -72,6 +72,12 @@ pub enum NodeType {
     BindingRestElement,
     ArrayPattern,
     AssignmentPattern,
+    ArrayAssignmentTarget,
+    ObjectAssignmentTarget,
+    AssignmentTargetWithDefault,
+    AssignmentTargetPropertyIdentifier,
+    AssignmentTargetPropertyProperty,
+    AssignmentTargetRest,
     PrivateIdentifier,
     PrivateFieldExpression,
     PrivateInExpression,
@@ -113,6 +119,10 @@ pub enum NodeSet {
     CatchClause,
     BindingProperty,
     BindingRestElement,
+    AssignmentTargetMaybeDefault,
+    AssignmentTargetRest,
+    AssignmentTargetProperty,
+    IdentifierReference,
     PrivateIdentifier,
     ClassBody,
     ClassElement,
@@ -155,6 +165,10 @@ impl NodeType {
             NodeSet::CatchClause => matches!(&self, NodeType::CatchClause),
             NodeSet::BindingProperty => matches!(&self, NodeType::BindingProperty),
             NodeSet::BindingRestElement => matches!(&self, NodeType::BindingRestElement),
+            NodeSet::AssignmentTargetMaybeDefault => self.is_assignment_target_maybe_default(),
+            NodeSet::AssignmentTargetRest => matches!(&self, NodeType::AssignmentTargetRest),
+            NodeSet::AssignmentTargetProperty => self.is_assignment_target_property(),
+            NodeSet::IdentifierReference => matches!(&self, NodeType::IdentifierReference),
             NodeSet::PrivateIdentifier => matches!(&self, NodeType::PrivateIdentifier),
             NodeSet::ClassBody => matches!(&self, NodeType::ClassBody),
             NodeSet::ClassElement => self.is_class_element(),
@@ -312,6 +326,16 @@ impl NodeType {
         )
     }
 
+    /// Whether nodes of this type are in `AssignmentTargetPattern`.
+    pub fn is_assignment_target_pattern(self) -> bool
+        ensures { result ≡ is_assignment_target_pattern self }
+    {
+        matches!(
+            &self,
+            NodeType::ArrayAssignmentTarget | NodeType::ObjectAssignmentTarget
+        )
+    }
+
     /// Whether nodes of this type are in `AssignmentTarget`.
     pub fn is_assignment_target(self) -> bool
         ensures { result ≡ is_assignment_target self }
@@ -322,6 +346,35 @@ impl NodeType {
                 | NodeType::StaticMemberExpression
                 | NodeType::ComputedMemberExpression
                 | NodeType::PrivateFieldExpression
+                | NodeType::ArrayAssignmentTarget
+                | NodeType::ObjectAssignmentTarget
+        )
+    }
+
+    /// Whether nodes of this type are in `AssignmentTargetMaybeDefault`.
+    pub fn is_assignment_target_maybe_default(self) -> bool
+        ensures { result ≡ is_assignment_target_maybe_default self }
+    {
+        matches!(
+            &self,
+            NodeType::IdentifierReference
+                | NodeType::StaticMemberExpression
+                | NodeType::ComputedMemberExpression
+                | NodeType::PrivateFieldExpression
+                | NodeType::ArrayAssignmentTarget
+                | NodeType::ObjectAssignmentTarget
+                | NodeType::AssignmentTargetWithDefault
+        )
+    }
+
+    /// Whether nodes of this type are in `AssignmentTargetProperty`.
+    pub fn is_assignment_target_property(self) -> bool
+        ensures { result ≡ is_assignment_target_property self }
+    {
+        matches!(
+            &self,
+            NodeType::AssignmentTargetPropertyIdentifier
+                | NodeType::AssignmentTargetPropertyProperty
         )
     }
 
@@ -418,6 +471,8 @@ impl NodeType {
                 | NodeType::StaticMemberExpression
                 | NodeType::ComputedMemberExpression
                 | NodeType::PrivateFieldExpression
+                | NodeType::ArrayAssignmentTarget
+                | NodeType::ObjectAssignmentTarget
         )
     }
 

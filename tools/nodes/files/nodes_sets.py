@@ -43,8 +43,8 @@ def print_functions(table, at):
     files = [p for p in sorted((CRATE / "src").glob("*.rt")) if p.name not in ("sets.rt", "lib.rt")]
     by_hand = [(f"{at}::{p.stem}", re.findall(r"pub fn (print_\w+)", p.read_text())) for p in files]
     below = [(crate, [f"print_{snake(n.name)}" for n in spelled(table, crate)]) for crate in crates(table)]
-    below += [(crate, [f"print_{snake(n.name)}" for n in table.nodes.values() if n.file == file and not n.spelling])
-              for file, crate in table.print_crates.items() if crate != SPELLED]
+    below += [(crate, [f"print_{snake(n.name)}" for n in table.nodes.values() if n.file == file])
+              for file, crate in table.print_crates.items() if is_by_hand(table, crate)]
     return by_hand + below + [("jsgen_inside", [f"print_{snake(name)}" for name in BY_HAND_BELOW])]
 
 
@@ -53,9 +53,14 @@ def turbofish(table, name):
     return "::<_, Inside>" if name in table.nodes and is_below(table, table.nodes[name]) and table.generic(name) else ""
 
 
+def is_by_hand(table, crate):
+    """Whether a crate below has rows that are written by hand: one that the table names, with no row that has a spelling."""
+    return crate != SPELLED and not spelled(table, crate)
+
+
 def is_below(table, n):
-    """Whether a type is printed in a crate below: by its spelling, or by hand in the crate that the table names for its file."""
-    return n.spelling or table.print_crates[n.file] != SPELLED
+    """Whether a type is printed in a crate below: by its spelling, or by hand."""
+    return n.spelling or is_by_hand(table, table.print_crates[n.file])
 
 
 # ---- the parts of a choice

@@ -2,7 +2,6 @@
 
 import layout
 from files.proofs_cases import aliases, variant
-from files.rows_kept import set_of
 from names import DECLARED, SPECS, TREE, row_names, sets_in_antt
 from table import snake
 
@@ -22,7 +21,7 @@ def answer(table, s):
     """What `is_only_expression` says of all members; None where they differ, or are not all seen."""
     if any(m in table.sets for m in s.members):
         return None
-    said = {bool(set_of(table, m)) and m in table.sets["Expression"].members for m in s.members}
+    said = {m in table.sets["Expression"].members and m not in table.types_in("Declaration") for m in s.members}
     return {True: "true", False: "false"}[said.pop()] if len(said) == 1 else None
 
 

@@ -12,7 +12,7 @@ HEAD = """//! The tree of a program, owned by boxes and lists, the options of pr
 """
 
 # What stands in files that are written by hand.
-BY_HAND = {"inside": [], "kinds": [], "laws": ["equality_is_by_value", "fields_are_named", "operators_are_named"], "names": ["is_proto"], "numbers": ["NumericValue", "behind_minus"], "options": ["CodegenOptions", "CommentOptions", "LegalComment"],
+BY_HAND = {"inside": ["Inner"], "kinds": [], "laws": ["equality_is_by_value", "fields_are_named", "operators_are_named"], "names": ["is_proto"], "numbers": ["NumericValue", "behind_minus"], "options": ["CodegenOptions", "CommentOptions", "LegalComment"],
            "scoping": ["PrivateMappings", "Scoping", "Tables"]}
 
 
@@ -25,5 +25,6 @@ def write(table):
     passed["types"] = ["NodeSet", "NodeType"]
     passed["node_type"] = []
     mods = "".join(f"mod {m};\n" for m in sorted(passed))
-    uses = layout.use_lines([(m, names) for m, names in sorted(passed.items()) if names], "pub use")
-    return {"src/lib.rt": layout.RUST + HEAD + "\n" + mods + "\n" + "\n".join(uses) + "\n"}
+    # so many names stand on a line each in the layout of rt fmt
+    uses = "".join(f"pub use {m}::{name};\n" for m, names in sorted(passed.items()) for name in sorted(names))
+    return {"src/lib.rt": layout.RUST + HEAD + "\n" + mods + "\n" + uses}

@@ -8,16 +8,13 @@ ghost use Rattle.jsgen_model.specs.Valid.{own_faults, super_faults, target_fault
 ghost use Rattle.jsgen_rules.specs.Verdict.{verdict};
 ghost use Rattle.jsgen_check.specs.Verdict.{surroundings_plain};
 
-use crate::links::{
-    assigned_has_optional_link, element_has_optional_link, target_has_optional_link,
-};
+use crate::links::{element_has_optional_link, target_has_optional_link};
 use crate::{CheckNode, Surroundings};
 use jsgen_model::TreeFault;
 use jsgen_rules::{check_no_optional_link, is_super};
 use jsgen_tree::{
-    AssignmentExpression, AssignmentTarget, CallExpression, ChainExpression,
-    ComputedMemberExpression, PrivateFieldExpression, SimpleAssignmentTarget,
-    StaticMemberExpression, UpdateExpression,
+    CallExpression, ChainExpression, ComputedMemberExpression, PrivateFieldExpression,
+    SimpleAssignmentTarget, StaticMemberExpression, UpdateExpression,
 };
 
 /// No optional link goes on from `super`.
@@ -119,33 +116,4 @@ fn check_target<N: CheckNode>(target: &SimpleAssignmentTarget<N>) -> Result<(), 
     ensures { result ≡ verdict (target_faults (in_simple_assignment_target N.plain target.now)) }
 {
     check_no_optional_link(target_has_optional_link(target), target_start(target))
-}
-
-fn assigned_start<N: CheckNode>(target: &AssignmentTarget<N>) -> u32
-    ensures { result ≡ (span_of (in_assignment_target N.plain target.now)).start }
-{
-    match target {
-        AssignmentTarget::IdentifierReference(node) => node.span.start,
-        AssignmentTarget::StaticMemberExpression(node) => node.span.start,
-        AssignmentTarget::ComputedMemberExpression(node) => node.span.start,
-        AssignmentTarget::PrivateFieldExpression(node) => node.span.start,
-    }
-}
-
-/// What is given a value has no optional link.
-fn check_assigned<N: CheckNode>(target: &AssignmentTarget<N>) -> Result<(), TreeFault>
-    ensures { result ≡ verdict (target_faults (in_assignment_target N.plain target.now)) }
-{
-    check_no_optional_link(assigned_has_optional_link(target), assigned_start(target))
-}
-
-#[tactic(auto)]
-pub fn check_assignment_expression_rules<N: CheckNode>(
-    node: &AssignmentExpression<N>,
-    around: &Surroundings<'_>,
-) -> Result<(), TreeFault>
-    ensures { result ≡ verdict (own_faults (surroundings_plain around.now) (assignment_expression_row N.plain node.now)) }
-{
-    let _ = around;
-    check_assigned(&node.left)
 }

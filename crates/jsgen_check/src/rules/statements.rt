@@ -81,20 +81,14 @@ fn check_left<N: CheckNode>(left: &ForStatementLeft<N>) -> Result<(), TreeFault>
             is_one_name(&node.declarations),
             node.span,
         ),
-        ForStatementLeft::IdentifierReference(_) => Ok(()),
-        ForStatementLeft::StaticMemberExpression(node) => check_no_optional_link(
-            static_member_has_optional_link(node),
-            node.span.start,
-        ),
-        ForStatementLeft::ComputedMemberExpression(node) => check_no_optional_link(
-            computed_member_has_optional_link(node),
-            node.span.start,
-        ),
-        ForStatementLeft::PrivateFieldExpression(node) => check_no_optional_link(
-            private_member_has_optional_link(node),
-            node.span.start,
-        ),
+        ForStatementLeft::AssignmentTarget(node) => check_left_target(node.get()),
     }
+}
+
+fn check_left_target<N: CheckNode>(target: &N) -> Result<(), TreeFault>
+    ensures { result ≡ verdict (left_faults (N.plain target.now)) }
+{
+    check_no_optional_link(target.misfits_left(), target.start())
 }
 
 #[tactic(auto)]

@@ -1,15 +1,20 @@
 use Rattle.std.proofs.Common.{◌≡◌, true, refl, Box, rules}
 use Rattle.std.specs.declared.alloc.Global.{Global}
 use Rattle.jsgen_tree.specs.Tree.{Tree, type_of}
-use Rattle.jsgen_tree.specs.Rows.{expression_plain}
-use Rattle.jsgen_tree.specs.Inside.{is_only_expression}
+use Rattle.jsgen_tree.specs.Rows.{expression_plain, assignment_target_plain}
+use Rattle.jsgen_tree.specs.Plain.{node_plain}
+use Rattle.jsgen_tree.specs.Inside.{is_only_expression, IsInside}
 use Rattle.jsgen_tree.specs.declared.nodes.Node.{Node}
 use Rattle.jsgen_tree.specs.declared.functions.Function.{Function}
 use Rattle.jsgen_tree.specs.declared.classes.Class.{Class}
 use Rattle.jsgen_tree.specs.declared.sets.Expression.{Expression}
 use Rattle.jsgen_tree.specs.declared.sets.Expression.TheVariants as expressions
-use Rattle.jsgen_tree.proofs.Knot.{plain_expression, plain_statement}
+use Rattle.jsgen_tree.proofs.Knot.{plain_expression, plain_statement, plain_assignment_target}
 use Rattle.jsgen_tree.proofs.Members.{declaration_is_none, binding_pattern_is_none, class_element_is_none}
+use Rattle.jsgen_tree.specs.declared.sets.AssignmentTarget.{AssignmentTarget}
+use Rattle.jsgen_tree.specs.declared.sets.AssignmentTarget.TheVariants as targets
+use Rattle.jsgen_tree.specs.declared.targets.ArrayAssignmentTarget.{ArrayAssignmentTarget}
+use Rattle.jsgen_tree.specs.declared.targets.ObjectAssignmentTarget.{ObjectAssignmentTarget}
 use Rattle.jsgen_tree.proofs.+inner.Goals as goal
 
 -- an expression that is no function and no class
@@ -17,6 +22,12 @@ only_expression : (h : Node → Tree) (n : Expression Node) → ((b : Box (Funct
 only_expression h (expressions.Function b) no_function no_class = absurd (no_function b refl)
 only_expression h (expressions.Class b) no_function no_class = absurd (no_class b refl)
 only_expression h n no_function no_class = refl
+
+-- a target that is no pattern
+simple_target : (h : Node → Tree) (n : AssignmentTarget Node) → ((b : Box (ArrayAssignmentTarget Node) Global) → n ≡ targets.ArrayAssignmentTarget b → ⊥) → ((b : Box (ObjectAssignmentTarget Node) Global) → n ≡ targets.ObjectAssignmentTarget b → ⊥) → IsInside (assignment_target_plain h n) (assignment_target_plain h n)
+simple_target h (targets.ArrayAssignmentTarget b) no_array no_object = absurd (no_array b refl)
+simple_target h (targets.ObjectAssignmentTarget b) no_array no_object = absurd (no_object b refl)
+simple_target h n no_array no_object = (refl, refl)
 
 pub nodes::Node::inner_expression-returns-in-Function : goal.nodes::Node::inner_expression-returns-in-Function
 nodes::Node::inner_expression-returns-in-Function t c = search (rules, plain_expression)
@@ -26,6 +37,15 @@ nodes::Node::inner_expression-returns-in-Class t c = search (rules, plain_expres
 
 pub nodes::Node::inner_expression-returns-in_default : goal.nodes::Node::inner_expression-returns-in_default
 nodes::Node::inner_expression-returns-in_default t c = rw (c.in-Expression.is, plain_expression c.in-Expression.expression) (only_expression _ c.in-Expression.expression c.in_default.not-Function c.in_default.not-Class, c.without_parentheses.ensures)
+
+pub nodes::Node::inner_expression-returns-in-ArrayAssignmentTarget : goal.nodes::Node::inner_expression-returns-in-ArrayAssignmentTarget
+nodes::Node::inner_expression-returns-in-ArrayAssignmentTarget t c = search (rules, plain_assignment_target)
+
+pub nodes::Node::inner_expression-returns-in-ObjectAssignmentTarget : goal.nodes::Node::inner_expression-returns-in-ObjectAssignmentTarget
+nodes::Node::inner_expression-returns-in-ObjectAssignmentTarget t c = search (rules, plain_assignment_target)
+
+pub nodes::Node::inner_expression-returns-in_default-target : goal.nodes::Node::inner_expression-returns-in_default-target
+nodes::Node::inner_expression-returns-in_default-target t c = rw (c.in-AssignmentTarget.is, plain_assignment_target c.in-AssignmentTarget.target) (simple_target node_plain c.in-AssignmentTarget.target c.in_default-target.not-ArrayAssignmentTarget c.in_default-target.not-ObjectAssignmentTarget)
 
 pub nodes::Node::inner_expression-returns-in-Declaration-statement : goal.nodes::Node::inner_expression-returns-in-Declaration-statement
 nodes::Node::inner_expression-returns-in-Declaration-statement t c = search (rules, plain_statement)

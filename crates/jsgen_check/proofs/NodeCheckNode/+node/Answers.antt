@@ -1,8 +1,11 @@
-use Rattle.jsgen_tree.proofs.Knot.{plain_expression, plain_statement, plain_declaration, plain_binding_pattern, plain_class_element}
+use Rattle.jsgen_tree.proofs.Knot.{plain_expression, plain_statement, plain_declaration, plain_binding_pattern, plain_class_element, plain_assignment_target}
 use Rattle.jsgen_check.proofs.NodeCheckNode.+node.Goals as goal
 
 pub returns-in-Expression : goal.returns-in-Expression
 returns-in-Expression t c = rw (c.in-Expression.is, plain_expression c.in-Expression.expression) c.check_expression_set.ensures
+
+pub returns-in-AssignmentTarget : goal.returns-in-AssignmentTarget
+returns-in-AssignmentTarget t c = rw (c.in-AssignmentTarget.is, plain_assignment_target c.in-AssignmentTarget.target) c.check_assignment_target_set.ensures
 
 pub returns-in-Statement : goal.returns-in-Statement
 returns-in-Statement t c = rw (c.in-Statement.is, plain_statement c.in-Statement.statement) c.check_statement_set.ensures

@@ -5,4 +5,4 @@ use Rattle.jsgen_check.proofs.Steps.{two_children, last_child, of_row}
 use Rattle.jsgen_check.proofs.assignments.check_assignment_expression.Goals as goal
 
 pub returns : goal.returns
-returns g c = of_row c.args.around.now _ _ _ _ refl c.check_node.ensures c.check_assignment_expression_rules-rules.ensures (two_children c.higher.ensures c.check_assignment_target-left.ensures (last_child (rw c.get.ensures at c.check_child-right.ensures)))
+returns g c = of_row c.args.around.now _ _ _ _ refl c.check_node.ensures c.check_assignment_expression_rules-rules.ensures (two_children c.higher.ensures (rw c.get.ensures at c.check_child-left.ensures) (last_child (rw c.get-2.ensures at c.check_child-right.ensures)))

@@ -7,15 +7,3 @@ use Rattle.jsgen_check.proofs.children.check_for_statement_left.Goals as goal
 
 pub returns-in-VariableDeclaration : goal.returns-in-VariableDeclaration
 returns-in-VariableDeclaration g c = rw c.in-VariableDeclaration.is ((rw c.deref.ensures at c.check_variable_declaration.ensures) ∙ sym (of_right_set _ sets.ForStatementLeft _ refl))
-
-pub returns-in-IdentifierReference : goal.returns-in-IdentifierReference
-returns-in-IdentifierReference g c = rw c.in-IdentifierReference.is ((rw c.deref-in-IdentifierReference.ensures at c.check_identifier_reference.ensures) ∙ sym (of_right_set _ sets.ForStatementLeft _ refl))
-
-pub returns-in-StaticMemberExpression : goal.returns-in-StaticMemberExpression
-returns-in-StaticMemberExpression g c = rw c.in-StaticMemberExpression.is ((rw c.deref-in-StaticMemberExpression.ensures at c.check_static_member_expression.ensures) ∙ sym (of_right_set _ sets.ForStatementLeft _ refl))
-
-pub returns-in-ComputedMemberExpression : goal.returns-in-ComputedMemberExpression
-returns-in-ComputedMemberExpression g c = rw c.in-ComputedMemberExpression.is ((rw c.deref-in-ComputedMemberExpression.ensures at c.check_computed_member_expression.ensures) ∙ sym (of_right_set _ sets.ForStatementLeft _ refl))
-
-pub returns-in-PrivateFieldExpression : goal.returns-in-PrivateFieldExpression
-returns-in-PrivateFieldExpression g c = rw c.in-PrivateFieldExpression.is ((rw c.deref-in-PrivateFieldExpression.ensures at c.check_private_field_expression.ensures) ∙ sym (of_right_set _ sets.ForStatementLeft _ refl))

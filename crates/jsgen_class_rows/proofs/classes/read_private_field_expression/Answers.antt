@@ -2,8 +2,8 @@
 -- What each call ensures, field by field.
 use Rattle.std.proofs.Common.{refl}
 use Rattle.jsgen_fields.specs.Reads.{read_node}
-use Rattle.jsgen_fields.proofs.FieldSteps.{refused, passed, gives_by}
-use Rattle.jsgen_fields.proofs.Gives.{gives_row}
+use Rattle.jsgen_fields.proofs.FieldSteps.{refused, passed}
+use Rattle.jsgen_fields.proofs.Gives.{gives_node}
 use Rattle.jsgen_tree.specs.Rows.{private_field_expression_row}
 use Rattle.jsgen_class_rows.proofs.classes.read_private_field_expression.Goals as goal
 
@@ -21,7 +21,7 @@ returns-in-Err-needed_private_identifier g c = λ told. refused _ (passed _ c.in
 
 pub returns-in-Ok-boxed : goal.returns-in-Ok-boxed
 unfolding read_node
-returns-in-Ok-boxed g c = gives_by _ _ _ (passed _ (passed _ c.in-Ok.ensures (passed _ (passed _ (passed _ c.in-Ok-optional_flag.ensures refl) (passed _ (passed _ c.in-Ok-needed_private_identifier.ensures refl) refl)) refl)) refl) (gives_row _ _ _ (private_field_expression_row g.N.PlainNode.plain) _ _ c.in-Ok-boxed.ensures c.row_of_expression.ensures)
+returns-in-Ok-boxed g c = passed _ (passed _ c.in-Ok.ensures (passed _ (passed _ (passed _ c.in-Ok-optional_flag.ensures refl) (passed _ (passed _ c.in-Ok-needed_private_identifier.ensures refl) refl)) refl)) (gives_node g.R.Typed.plain c.row_of_private_field_expression.result _ (private_field_expression_row g.N.PlainNode.plain) _ _ c.in-Ok-boxed.ensures c.row_of_private_field_expression.ensures)
 
 pub returns-in-Err-boxed : goal.returns-in-Err-boxed
 returns-in-Err-boxed g c = λ told. let h = c.in-Err-boxed.ensures told in cc h

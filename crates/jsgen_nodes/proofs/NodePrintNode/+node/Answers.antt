@@ -1,11 +1,14 @@
 use Rattle.std.proofs.Common.{rules, sym}
-use Rattle.jsgen_tree.proofs.Knot.{plain_expression, plain_statement, plain_declaration, plain_binding_pattern, plain_class_element}
+use Rattle.jsgen_tree.proofs.Knot.{plain_expression, plain_statement, plain_declaration, plain_binding_pattern, plain_class_element, plain_assignment_target}
 use Rattle.jsgen_printer.proofs.Sequence.{nothing_laid}
-use Rattle.jsgen_nodes.proofs.Elsewhere.{no_expression_method, no_declaration_method, no_statement_method}
+use Rattle.jsgen_nodes.proofs.Elsewhere.{no_expression_method, no_target_method, no_declaration_method, no_statement_method}
 use Rattle.jsgen_nodes.proofs.NodePrintNode.+node.Goals as goal
 
 pub print-returns-in-Expression : goal.print-returns-in-Expression
 print-returns-in-Expression t c = rw (c.in-Expression.is, plain_expression c.in-Expression.node) c.print_expression.ensures
+
+pub print-returns-in-AssignmentTarget : goal.print-returns-in-AssignmentTarget
+print-returns-in-AssignmentTarget t c = rw (c.in-AssignmentTarget.is, plain_assignment_target c.in-AssignmentTarget.node) c.print_assignment_target.ensures
 
 pub print-returns-in-Statement : goal.print-returns-in-Statement
 print-returns-in-Statement t c = rw (c.in-Statement.is, plain_statement c.in-Statement.node) c.print_statement.ensures
@@ -21,6 +24,9 @@ print_as_method-returns-in-Function t c = rw (c.in-Expression.is, plain_expressi
 
 pub print_as_method-returns-in_default : goal.print_as_method-returns-in_default
 print_as_method-returns-in_default t c = rw (c.in-Expression.is, plain_expression c.in-Expression.expression, sym (no_expression_method c.in-Expression.expression c.args.place c.in_default.not-Function)) (nothing_laid c.args.p.now)
+
+pub print_as_method-returns-in-AssignmentTarget : goal.print_as_method-returns-in-AssignmentTarget
+print_as_method-returns-in-AssignmentTarget t c = rw (c.in-AssignmentTarget.is, plain_assignment_target c.in-AssignmentTarget.field-0, sym (no_target_method c.in-AssignmentTarget.field-0 c.args.place)) (nothing_laid c.args.p.now)
 
 pub print_as_method-returns-in-Declaration-statement : goal.print_as_method-returns-in-Declaration-statement
 print_as_method-returns-in-Declaration-statement t c = search (rules, plain_statement)
@@ -42,3 +48,27 @@ print-returns-in-ClassElement t c = rw (c.in-ClassElement.is, plain_class_elemen
 
 pub print_as_method-returns-in-ClassElement : goal.print_as_method-returns-in-ClassElement
 print_as_method-returns-in-ClassElement t c = search (rules, plain_class_element)
+
+pub is_key_of_exports-returns-in-ComputedMemberExpression : goal.is_key_of_exports-returns-in-ComputedMemberExpression
+is_key_of_exports-returns-in-ComputedMemberExpression t c = search (rules, plain_expression)
+
+pub is_key_of_exports-returns-in_default : goal.is_key_of_exports-returns-in_default
+is_key_of_exports-returns-in_default t c = search (rules, plain_expression)
+
+pub is_key_of_exports-returns-in-AssignmentTarget : goal.is_key_of_exports-returns-in-AssignmentTarget
+is_key_of_exports-returns-in-AssignmentTarget t c = search (rules, plain_assignment_target)
+
+pub is_key_of_exports-returns-in-Declaration-statement : goal.is_key_of_exports-returns-in-Declaration-statement
+is_key_of_exports-returns-in-Declaration-statement t c = search (rules, plain_statement)
+
+pub is_key_of_exports-returns-in_default-statement : goal.is_key_of_exports-returns-in_default-statement
+is_key_of_exports-returns-in_default-statement t c = search (rules, plain_statement)
+
+pub is_key_of_exports-returns-in-Declaration : goal.is_key_of_exports-returns-in-Declaration
+is_key_of_exports-returns-in-Declaration t c = search (rules, plain_declaration)
+
+pub is_key_of_exports-returns-in-BindingPattern : goal.is_key_of_exports-returns-in-BindingPattern
+is_key_of_exports-returns-in-BindingPattern t c = search (rules, plain_binding_pattern)
+
+pub is_key_of_exports-returns-in-ClassElement : goal.is_key_of_exports-returns-in-ClassElement
+is_key_of_exports-returns-in-ClassElement t c = search (rules, plain_class_element)

@@ -1,10 +1,13 @@
 use Rattle.std.proofs.Common.{rules}
-use Rattle.jsgen_tree.proofs.Knot.{plain_expression, plain_declaration, plain_binding_pattern, plain_class_element, plain_statement}
-use Rattle.jsgen_questions.proofs.Elsewhere.{no_open_expression, no_open_declaration, no_open_pattern, no_open_element, no_open_statement}
+use Rattle.jsgen_tree.proofs.Knot.{plain_expression, plain_declaration, plain_binding_pattern, plain_class_element, plain_statement, plain_assignment_target}
+use Rattle.jsgen_questions.proofs.Elsewhere.{no_open_expression, no_open_declaration, no_open_pattern, no_open_element, no_open_statement, no_open_target}
 use Rattle.jsgen_questions.proofs.endings.+ends_open.Goals as goal
 
 pub ends_open-returns-in-Expression : goal.ends_open-returns-in-Expression
 ends_open-returns-in-Expression t c = rw (c.in-Expression.is, plain_expression c.in-Expression.field-0) (no_open_expression c.in-Expression.field-0)
+
+pub ends_open-returns-in-AssignmentTarget : goal.ends_open-returns-in-AssignmentTarget
+ends_open-returns-in-AssignmentTarget t c = rw (c.in-AssignmentTarget.is, plain_assignment_target c.in-AssignmentTarget.field-0) (no_open_target c.in-AssignmentTarget.field-0)
 
 pub ends_open-returns-in-Declaration : goal.ends_open-returns-in-Declaration
 ends_open-returns-in-Declaration t c = rw (c.in-Declaration.is, plain_declaration c.in-Declaration.field-0) (no_open_declaration c.in-Declaration.field-0)

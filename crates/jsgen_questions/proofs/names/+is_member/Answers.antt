@@ -1,5 +1,5 @@
 use Rattle.std.proofs.Common.{rules}
-use Rattle.jsgen_tree.proofs.Knot.{plain_expression, plain_declaration, plain_binding_pattern, plain_class_element, plain_statement}
+use Rattle.jsgen_tree.proofs.Knot.{plain_expression, plain_declaration, plain_binding_pattern, plain_class_element, plain_statement, plain_assignment_target}
 use Rattle.jsgen_questions.proofs.names.+is_member.Goals as goal
 
 pub returns-in-StaticMemberExpression : goal.returns-in-StaticMemberExpression
@@ -7,6 +7,12 @@ returns-in-StaticMemberExpression t c = search (rules, plain_expression)
 
 pub returns-in_default : goal.returns-in_default
 returns-in_default t c = search (rules, plain_expression)
+
+pub returns-in-StaticMemberExpression-target : goal.returns-in-StaticMemberExpression-target
+returns-in-StaticMemberExpression-target t c = search (rules, plain_assignment_target)
+
+pub returns-in_default-target : goal.returns-in_default-target
+returns-in_default-target t c = search (rules, plain_assignment_target)
 
 pub returns-in-Declaration-statement : goal.returns-in-Declaration-statement
 returns-in-Declaration-statement t c = search (rules, plain_statement)

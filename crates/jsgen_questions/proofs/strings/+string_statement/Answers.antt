@@ -1,10 +1,13 @@
 use Rattle.std.proofs.Common.{rules}
-use Rattle.jsgen_tree.proofs.Knot.{plain_expression, plain_declaration, plain_binding_pattern, plain_class_element, plain_statement}
-use Rattle.jsgen_questions.proofs.Elsewhere.{no_expression_string, no_declaration_string, no_pattern_string, no_element_string, no_string_statement}
+use Rattle.jsgen_tree.proofs.Knot.{plain_expression, plain_declaration, plain_binding_pattern, plain_class_element, plain_statement, plain_assignment_target}
+use Rattle.jsgen_questions.proofs.Elsewhere.{no_expression_string, no_declaration_string, no_pattern_string, no_element_string, no_string_statement, no_target_string}
 use Rattle.jsgen_questions.proofs.strings.+string_statement.Goals as goal
 
 pub returns-in-Expression : goal.returns-in-Expression
 returns-in-Expression t c = rw (c.in-Expression.is, plain_expression c.in-Expression.field-0) (no_expression_string c.in-Expression.field-0)
+
+pub returns-in-AssignmentTarget : goal.returns-in-AssignmentTarget
+returns-in-AssignmentTarget t c = rw (c.in-AssignmentTarget.is, plain_assignment_target c.in-AssignmentTarget.field-0) (no_target_string c.in-AssignmentTarget.field-0)
 
 pub returns-in-Declaration : goal.returns-in-Declaration
 returns-in-Declaration t c = rw (c.in-Declaration.is, plain_declaration c.in-Declaration.field-0) (no_declaration_string c.in-Declaration.field-0)

@@ -34,6 +34,7 @@ returns c = record {
   for_of_statement = λ a. refl;
   label_identifier = λ a. refl;
   binding_property = λ a. refl;
+  assignment_target_property_property = λ a. refl;
   private_identifier = λ a. refl;
   private_field_expression = λ a. refl;
   class = λ a. (refl, refl, refl);

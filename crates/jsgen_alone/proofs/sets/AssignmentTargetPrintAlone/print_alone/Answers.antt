@@ -1,8 +1,8 @@
 -- Generated from tools/nodes/table.txt; edit that and run tools/nodes/generate.
 -- It is printed by itself as it is at its place.
-use Rattle.jsgen_tree.specs.Rows.{in_assignment_target}
+use Rattle.jsgen_tree.specs.Rows.{assignment_target_plain}
 use Rattle.jsgen_alone.proofs.Placed.{placed_as}
 use Rattle.jsgen_alone.proofs.sets.AssignmentTargetPrintAlone.print_alone.Goals as goal
 
 pub returns : goal.returns
-returns g c = placed_as (in_assignment_target g.N.PrintNode.plain c.args.self.now) c.in_brackets.ensures c.print_assignment_target.ensures
+returns g c = placed_as (assignment_target_plain g.N.PrintNode.plain c.args.self.now) c.in_brackets.ensures c.print_assignment_target.ensures

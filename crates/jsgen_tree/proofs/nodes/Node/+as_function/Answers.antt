@@ -1,5 +1,5 @@
 use Rattle.std.proofs.Common.{rules}
-use Rattle.jsgen_tree.proofs.Knot.{plain_expression, plain_statement, plain_declaration, plain_binding_pattern, plain_class_element}
+use Rattle.jsgen_tree.proofs.Knot.{plain_expression, plain_statement, plain_declaration, plain_binding_pattern, plain_class_element, plain_assignment_target}
 use Rattle.jsgen_tree.proofs.nodes.Node.+as_function.Goals as goal
 
 pub returns-in-Function : goal.returns-in-Function
@@ -7,6 +7,9 @@ returns-in-Function t c = search (rules, plain_expression)
 
 pub returns-in_default : goal.returns-in_default
 returns-in_default t c = search (rules, plain_expression)
+
+pub returns-in-AssignmentTarget : goal.returns-in-AssignmentTarget
+returns-in-AssignmentTarget t c = search (rules, plain_assignment_target)
 
 pub returns-in-Declaration-statement : goal.returns-in-Declaration-statement
 returns-in-Declaration-statement t c = search (rules, plain_statement)

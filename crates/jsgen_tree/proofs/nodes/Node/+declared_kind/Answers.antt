@@ -1,9 +1,12 @@
 use Rattle.std.proofs.Common.{rules}
-use Rattle.jsgen_tree.proofs.Knot.{plain_expression, plain_statement, plain_declaration, plain_binding_pattern, plain_class_element}
+use Rattle.jsgen_tree.proofs.Knot.{plain_expression, plain_statement, plain_declaration, plain_binding_pattern, plain_class_element, plain_assignment_target}
 use Rattle.jsgen_tree.proofs.nodes.Node.+declared_kind.Goals as goal
 
 pub returns-in-Expression : goal.returns-in-Expression
 returns-in-Expression t c = search (rules, plain_expression)
+
+pub returns-in-AssignmentTarget : goal.returns-in-AssignmentTarget
+returns-in-AssignmentTarget t c = search (rules, plain_assignment_target)
 
 pub returns-in-Declaration-statement : goal.returns-in-Declaration-statement
 returns-in-Declaration-statement t c = search (rules, plain_statement)
