@@ -67,6 +67,7 @@ impl Node {
                 Expression::Class(node) => Some(node.kind),
                 _ => None,
             },
+            Node::AssignmentTarget(_) => None,
             Node::Statement(statement) => match statement {
                 Statement::Declaration(node) => node.get().class_kind(),
                 _ => None,

@@ -51,6 +51,7 @@ impl Node {
     {
         match self {
             Node::Expression(_) => None,
+            Node::AssignmentTarget(_) => None,
             Node::Statement(statement) => match statement {
                 Statement::Declaration(node) => node.get().bound(),
                 _ => None,
@@ -62,6 +63,7 @@ impl Node {
                 BindingPattern::ObjectPattern(_) => None,
                 BindingPattern::ArrayPattern(_) => None,
             },
+            Node::ClassElement(_) => None,
         }
     }
 

@@ -98,15 +98,17 @@ pub fn binds_nothing(node: &Node) -> bool
 {
     match node {
         Node::Expression(_) => false,
+        Node::AssignmentTarget(_) => false,
         Node::Statement(statement) => match statement {
             Statement::Declaration(node) => binds_nothing(node.get()),
             _ => false,
         },
         Node::Declaration(declaration) => match declaration {
             Declaration::VariableDeclaration(node) => declaration_binds_nothing(node),
-            Declaration::Function(_) => false,
+            Declaration::Function(_) | Declaration::Class(_) => false,
         },
         Node::BindingPattern(_) => false,
+        Node::ClassElement(_) => false,
     }
 }
 

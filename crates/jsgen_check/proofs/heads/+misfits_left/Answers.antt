@@ -1,5 +1,5 @@
 use Rattle.std.proofs.Common.{rules, sym}
-use Rattle.jsgen_tree.proofs.Knot.{plain_expression, plain_assignment_target, plain_statement, plain_declaration, plain_binding_pattern}
+use Rattle.jsgen_tree.proofs.Knot.{plain_expression, plain_assignment_target, plain_statement, plain_declaration, plain_binding_pattern, plain_class_element}
 use Rattle.jsgen_check.proofs.Heads.{expression_misfit, target_misfit}
 use Rattle.jsgen_check.proofs.heads.+misfits_left.Goals as goal
 
@@ -23,3 +23,6 @@ returns-in-Function t c = search (rules, plain_declaration)
 
 pub returns-in-BindingPattern : goal.returns-in-BindingPattern
 returns-in-BindingPattern t c = search (rules, plain_binding_pattern)
+
+pub returns-in-ClassElement : goal.returns-in-ClassElement
+returns-in-ClassElement t c = search (rules, plain_class_element)

@@ -1,5 +1,5 @@
 use Rattle.std.proofs.Common.{rules}
-use Rattle.jsgen_tree.proofs.Knot.{plain_expression, plain_assignment_target, plain_declaration, plain_binding_pattern, plain_statement}
+use Rattle.jsgen_tree.proofs.Knot.{plain_expression, plain_assignment_target, plain_declaration, plain_binding_pattern, plain_statement, plain_class_element}
 use Rattle.jsgen_questions.proofs.names.+bare_looked_up.Goals as goal
 
 pub returns-in-IdentifierReference-clause-reference : goal.returns-in-IdentifierReference-clause-reference
@@ -49,3 +49,9 @@ returns-in-Declaration-clause-target t c = search (rules, plain_declaration)
 
 pub returns-in-BindingPattern-clause-target : goal.returns-in-BindingPattern-clause-target
 returns-in-BindingPattern-clause-target t c = search (rules, plain_binding_pattern)
+
+pub returns-in-ClassElement-clause-reference : goal.returns-in-ClassElement-clause-reference
+returns-in-ClassElement-clause-reference t c = search (rules, plain_class_element)
+
+pub returns-in-ClassElement-clause-target : goal.returns-in-ClassElement-clause-target
+returns-in-ClassElement-clause-target t c = search (rules, plain_class_element)

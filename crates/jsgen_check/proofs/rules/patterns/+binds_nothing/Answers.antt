@@ -1,5 +1,5 @@
 use Rattle.std.proofs.Common.{rules}
-use Rattle.jsgen_tree.proofs.Knot.{plain_expression, plain_statement, plain_declaration, plain_binding_pattern}
+use Rattle.jsgen_tree.proofs.Knot.{plain_expression, plain_statement, plain_declaration, plain_binding_pattern, plain_class_element, plain_assignment_target}
 use Rattle.jsgen_check.proofs.rules.patterns.+binds_nothing.Goals as goal
 
 pub returns-in-Expression : goal.returns-in-Expression
@@ -19,3 +19,9 @@ returns-in-Function t c = search (rules, plain_declaration)
 
 pub returns-in-BindingPattern : goal.returns-in-BindingPattern
 returns-in-BindingPattern t c = search (rules, plain_binding_pattern)
+
+pub returns-in-AssignmentTarget : goal.returns-in-AssignmentTarget
+returns-in-AssignmentTarget t c = search (rules, plain_assignment_target)
+
+pub returns-in-ClassElement : goal.returns-in-ClassElement
+returns-in-ClassElement t c = search (rules, plain_class_element)

@@ -1,5 +1,5 @@
 use Rattle.std.proofs.Common.{rules, refl}
-use Rattle.jsgen_tree.proofs.Knot.{plain_expression, plain_statement, plain_declaration, plain_binding_pattern}
+use Rattle.jsgen_tree.proofs.Knot.{plain_expression, plain_statement, plain_declaration, plain_binding_pattern, plain_class_element, plain_assignment_target}
 use Rattle.jsgen_tree.proofs.Bound.{bound_row}
 use Rattle.jsgen_tree.proofs.nodes.Node.+bound.Goals as goal
 
@@ -26,3 +26,9 @@ returns-in-ObjectPattern t c = rw (c.in-BindingPattern.is, plain_binding_pattern
 
 pub returns-in-ArrayPattern : goal.returns-in-ArrayPattern
 returns-in-ArrayPattern t c = rw (c.in-BindingPattern.is, plain_binding_pattern c.in-BindingPattern.pattern, c.in-ArrayPattern.is) refl
+
+pub returns-in-AssignmentTarget : goal.returns-in-AssignmentTarget
+returns-in-AssignmentTarget t c = search (rules, plain_assignment_target)
+
+pub returns-in-ClassElement : goal.returns-in-ClassElement
+returns-in-ClassElement t c = search (rules, plain_class_element)

@@ -1,5 +1,5 @@
 use Rattle.std.proofs.Common.{rules}
-use Rattle.jsgen_tree.proofs.Knot.{plain_expression, plain_statement, plain_declaration, plain_binding_pattern, plain_class_element}
+use Rattle.jsgen_tree.proofs.Knot.{plain_expression, plain_statement, plain_declaration, plain_binding_pattern, plain_class_element, plain_assignment_target}
 use Rattle.jsgen_tree.proofs.nodes.Node.+class_kind.Goals as goal
 
 pub returns-in-Class : goal.returns-in-Class
@@ -25,3 +25,6 @@ returns-in-BindingPattern t c = search (rules, plain_binding_pattern)
 
 pub returns-in-ClassElement : goal.returns-in-ClassElement
 returns-in-ClassElement t c = search (rules, plain_class_element)
+
+pub returns-in-AssignmentTarget : goal.returns-in-AssignmentTarget
+returns-in-AssignmentTarget t c = search (rules, plain_assignment_target)
