@@ -16,13 +16,13 @@ test("a program that is read stays as it is", () => {
 
 test("of a function that isn't read the parts that are read are kept", () => {
   assert.equal(cutDown("a = async () => b(2)"), "(b(2));");
-  assert.equal(cutDown("a = ({ b }) => c * 3"), "(c * 3);");
+  assert.equal(cutDown("a = async ({ b }) => c * 3"), "(c * 3);");
   assert.equal(cutDown("a = async (b = c / 4) => { d(b => 5) }"), "(c / 4);\n{ d(b => 5) }");
   assert.equal(cutDown("function* a(b) { return (c) => c - 6 }"), "((c) => c - 6);");
 });
 
 test("an arrow function whose text isn't a program by itself is left out", () => {
-  assert.equal(cutDown("class A { b() { return () => super.b } }"), "");
+  assert.equal(cutDown("class A { async b() { return () => super.b } }"), "");
 });
 
 test("programs that are made up are read whole, and have arrow functions and strings in the places of plain quotes", () => {
