@@ -4,6 +4,7 @@ import { test } from "node:test";
 import { cut, isRead } from "../cut.mjs";
 import { parsed } from "../parser.mjs";
 import { randomProgram } from "../random.mjs";
+import { isType } from "../reads.mjs";
 
 function cutDown(source) {
   return cut(source, parsed(source), parsed);
@@ -25,8 +26,16 @@ test("an arrow function whose text isn't a program by itself is left out", () =>
   assert.equal(cutDown("class A { async b() { return () => super.b } }"), "");
 });
 
-test("programs that are made up are read whole, and have arrow functions and strings in the places of plain quotes", () => {
+// Parts that some programs that are made up have, with a type of each.
+const PARTS = [
+  ["ArrowFunctionExpression", "=>"], ["CallExpression", "require("], ["CallExpression", ".defineProperty("],
+  ["ComputedMemberExpression", "exports["], ["ImportMeta", "import.meta"], ["Class", "class "], ["StaticBlock", "static {"],
+  ["PrivateIdentifier", "#"], ["PrivateFieldExpression", ".#"], ["ObjectPattern", "let {"],
+  ["ArrayPattern", "let ["], ["ObjectAssignmentTarget", "} = "], ["ArrayAssignmentTarget", "] = "],
+];
+
+test("programs that are made up are read whole, and have parts of each kind that is read", () => {
   const sources = Array.from({ length: 40 }, (_, at) => randomProgram(at + 1));
   for (const source of sources) assert.equal(isRead(parsed(source)), true);
-  for (const part of ["=>", "require(", ".defineProperty(", "exports["]) assert.ok(sources.some((source) => source.includes(part)), part);
+  for (const [type, part] of PARTS) if (isType(type)) assert.ok(sources.some((source) => source.includes(part)), part);
 });
