@@ -1,7 +1,7 @@
 // What a program is cut down to, and the programs that are made up.
 import assert from "node:assert/strict";
 import { test } from "node:test";
-import { cut, isRead } from "../cut.mjs";
+import { cut, cutWithLines, isRead } from "../cut.mjs";
 import { parsed } from "../parser.mjs";
 import { randomProgram } from "../random.mjs";
 import { isType } from "../reads.mjs";
@@ -24,6 +24,16 @@ test("of a function that isn't read the parts that are read are kept", () => {
 
 test("an arrow function whose text isn't a program by itself is left out", () => {
   assert.equal(cutDown("class A { async b() { return () => super.b } }"), "");
+});
+
+test("a class is kept without the members that aren't read", { skip: !isType("Class") && "classes aren't read yet" }, () => {
+  const source = "class A {\n  async b() {\n    c(`${d}`);\n    e(1);\n  }\n  f() { return 2 }\n}\ng(3);";
+  assert.equal(cutDown(source), "class A {\n  \n\n\n\n  f() { return 2 }\n}\ne(1);\ng(3);");
+  const { text, lineInSource } = cutWithLines(source, parsed(source), parsed);
+  assert.deepEqual(text.split("\n").map((_, at) => lineInSource(at + 1)), [1, 2, 3, 4, 5, 6, 7, 4, 8]);
+  assert.equal(cutDown("a = class { #b = 1; c = `${d}` }"), "(class { #b = 1;  });");
+  assert.equal(cutDown("class A { #b; async c() { f(this.#b) } }"), "class A { #b;  }\n(this);");
+  assert.equal(cutDown("class A { async #b() {} c() { f(this.#b) } }"), "{}\n(this);");
 });
 
 // Parts that some programs that are made up have, with a type of each.
