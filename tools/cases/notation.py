@@ -298,7 +298,7 @@ class Reader:
         is_value = TABLE.is_value(field)
         if not is_value and self.is_here("["):
             self.take()
-            return self.several("]", lambda: self.child_or_hole(field))
+            return self.several("]", lambda: self.child(field))
         if not is_value:
             return self.child(field)
         if self.is_here("["):
@@ -311,15 +311,12 @@ class Reader:
             return int(value)
         return {"true": True, "false": False}.get(value, value)
 
-    def child_or_hole(self, field):
-        """A member of a list, or None where it is left out."""
+    def child(self, field):
+        """None where it is left out; else a word alone is a name of the field's kind, and a function is a declaration where a
+        statement may stand, and an expression elsewhere."""
         if self.is_here("null"):
             self.take()
             return None
-        return self.child(field)
-
-    def child(self, field):
-        """A word alone is a name of the field's kind; a function is a declaration where a statement may stand, and else an expression."""
         if self.kind == "word" and not self.is_before("("):
             if field.kind in ("BindingPattern", "BindingIdentifier"):
                 return self.binding()
