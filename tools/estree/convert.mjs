@@ -256,12 +256,22 @@ class Rows {
       case "MemberExpression":
         return this.expression(inside);
       case "ObjectPattern":
-        return this.add("ObjectAssignmentTarget", inside, this.withRest("properties", inside.properties, this.targetProperty, this.targetRest));
+        return this.objectTarget(inside);
       case "ArrayPattern":
-        return this.add("ArrayAssignmentTarget", inside, this.withRest("elements", inside.elements, this.targetOrDefault, this.targetRest));
+        return this.arrayTarget(inside);
       default:
         return this.refuse(inside.type, inside);
     }
+  }
+
+  objectTarget(node) {
+    const fields = this.withRest("properties", node.properties, this.targetProperty, this.targetRest);
+    return this.add("ObjectAssignmentTarget", node, fields);
+  }
+
+  arrayTarget(node) {
+    const fields = this.withRest("elements", node.elements, this.targetOrDefault, this.targetRest);
+    return this.add("ArrayAssignmentTarget", node, fields);
   }
 
   targetOrDefault(node) {

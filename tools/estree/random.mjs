@@ -193,7 +193,8 @@ class Draw {
     const privates = isType("PrivateIdentifier") ? this.several(0, 3, () => this.of(PRIVATE)) : [];
     const own = privates.filter((privateName, at, all) => all.indexOf(privateName) === at);
     this.privates.push(own);
-    const members = [...own.map((privateName) => this.classElement(depth, `#${privateName}`)), ...this.several(0, 3, () => this.otherElement(depth))];
+    const members = own.map((privateName) => this.classElement(depth, `#${privateName}`));
+    members.push(...this.several(0, 3, () => this.otherElement(depth)));
     this.privates.pop();
     if (this.below(4) === 0) members.unshift(`constructor${this.parameters(depth)} ${this.functionBody(depth)}`);
     return `class ${name}${heritage} { ${members.join(" ")} }`;
@@ -240,9 +241,9 @@ class Draw {
 
   // A name that is bound, or a pattern of such names.
   binding(depth) {
-    if (depth <= 0 || this.below(3) > 0) return `n${this.declared++}`;
-    const makers = [isType("ObjectPattern") && this.objectPattern, isType("ArrayPattern") && this.arrayPattern].filter((maker) => maker);
-    return makers.length > 0 ? this.of(makers).call(this, depth - 1) : `n${this.declared++}`;
+    const makers = [isType("ObjectPattern") && this.objectPattern, isType("ArrayPattern") && this.arrayPattern];
+    const isName = depth <= 0 || this.below(3) > 0 || !makers.every((maker) => maker);
+    return isName ? `n${this.declared++}` : this.of(makers).call(this, depth - 1);
   }
 
   objectPattern(depth) {
@@ -274,8 +275,8 @@ class Draw {
 
   // An object or an array of targets.
   targets(depth) {
-    const makers = [isType("ObjectAssignmentTarget") && this.objectTarget, isType("ArrayAssignmentTarget") && this.arrayTarget].filter((maker) => maker);
-    return makers.length > 0 ? this.of(makers).call(this, depth - 1) : this.target(depth);
+    const makers = [isType("ObjectAssignmentTarget") && this.objectTarget, isType("ArrayAssignmentTarget") && this.arrayTarget];
+    return makers.every((maker) => maker) ? this.of(makers).call(this, depth - 1) : this.target(depth);
   }
 
   objectTarget(depth) {

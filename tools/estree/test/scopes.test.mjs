@@ -124,7 +124,8 @@ class Printed {
   }
 
   targetProperty({ binding, init }) {
-    const value = init === undefined ? this.tree(binding) : { type: "AssignmentTargetWithDefault", binding: this.tree(binding), init: this.tree(init) };
+    const target = this.tree(binding);
+    const value = init === undefined ? target : { type: "AssignmentTargetWithDefault", binding: target, init: this.tree(init) };
     const name = { type: "IdentifierName", name: this.rows[binding].name };
     return { type: "AssignmentTargetPropertyProperty", name, binding: value };
   }

@@ -80,7 +80,8 @@ test("sets in sets are gone into, and lists of them have holes", { skip: unknown
   const typesOf = (type, name) => format.types.get(type).find((field) => field.name === name).types;
   const [elements, rest] = format.types.get("ArrayAssignmentTarget");
   assert.ok(elements.isList && elements.hasHoles && !rest.isList && !rest.isNeeded);
-  for (const type of ["IdentifierReference", "ObjectAssignmentTarget", "AssignmentTargetWithDefault"]) assert.ok(elements.types.has(type), type);
+  const members = ["IdentifierReference", "ObjectAssignmentTarget", "AssignmentTargetWithDefault"];
+  for (const type of members) assert.ok(elements.types.has(type), type);
   assert.deepEqual([...rest.types], ["AssignmentTargetRest"]);
   const heads = typesOf("ForOfStatement", "left");
   assert.ok(heads.has("VariableDeclaration") && heads.has("ArrayAssignmentTarget") && !heads.has("AssignmentTargetWithDefault"));
@@ -92,7 +93,8 @@ test("members of a class are of a set of their own", { skip: unknown("ClassBody"
   const [body] = format.types.get("ClassBody");
   assert.deepEqual([...body.types].sort(), ["MethodDefinition", "PropertyDefinition", "StaticBlock"]);
   const fields = format.types.get("MethodDefinition").filter(({ isUnread }) => !isUnread);
-  assert.deepEqual(fields.map(({ name, number }) => [name, number]), [["kind", 3], ["key", 4], ["value", 5], ["computed", 7], ["is_static", 8]]);
+  const numbers = [["kind", 3], ["key", 4], ["value", 5], ["computed", 7], ["is_static", 8]];
+  assert.deepEqual(fields.map(({ name, number }) => [name, number]), numbers);
   const keys = fields[1].types;
   assert.ok(keys.has("PrivateIdentifier") && keys.has("IdentifierName") && keys.has("Class"));
 });
