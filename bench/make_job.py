@@ -1,4 +1,4 @@
-"""Writes a job: `make_job.py SIZE [renamed|nested|sum|logical|choices|list|ascii|wide|escapes] [minify]`.
+"""Writes a job: `make_job.py SIZE [renamed|nested|sum|logical|choices|list|classes|patterns|deep|ascii|wide|escapes] [minify]`.
 
 SIZE is in megabytes. By itself the job holds declarations and statements, blocks and `if` of mixed expressions, a third of
 which are literals, unary operations, updates, `new`, and arrays and objects up to six deep, and a fifth of the others
@@ -7,6 +7,10 @@ every reference and every binding by the tables of the job: each binding is a sy
 With `nested` it holds blocks and `if` a thousand deep and sums nested a thousand to the left and to the right, as often as fill
 it. With `sum` it holds 20,000 `+` nested to the left, with `logical` 20,000 `&&` nested to the right, and with `choices` 20,000
 conditionals, each the alternate of the one before, as often as fill it; with `list`, one array of 12,500 numbers a megabyte.
+With `classes` it holds classes of fields, methods, accessors and static blocks, half of whose members have private names, which
+the job's tables rename; with `patterns`, declarations of patterns up to six deep and assignments to such; and with `deep`, in
+text whose indentation has no width, classes 10,000 deep, each in a field of the one round it, as often as fill it: each has a
+private name of its own and uses that of the next one outwards.
 With `ascii`, `wide` and `escapes` it is one string as long as the job: of ASCII, of characters of one to four bytes, and
 with a quote or another character that needs an escape at every tenth place.
 """
@@ -20,7 +24,9 @@ LOGICAL = ["&&", "||"]
 UNARY = ["+", "-", "!", "~", "typeof", "void"]
 ASSIGNMENT = ["=", "+=", "-=", "**=", ">>>=", "&&=", "??="]
 RAW = ["1.5", "0.25", "0xff", "1e21", "1_000.5e-7", "3.141592653589793"]
+PRIVATE = ["count", "name", "größe", "items", "if", "x"]
 DEPTH = 1000
+CLASSES = 10000
 CHAIN = 20000
 NUMBERS = 12500
 STRINGS = {
@@ -68,6 +74,7 @@ class Rows:
         self.rows = []
         self.size = 0
         self.names = names
+        self.tables = []
 
     def add(self, text):
         self.rows.append(text)
@@ -84,6 +91,26 @@ class Rows:
 
     def short_name(self):
         return self.add('{"type":"IdentifierReference","name":"a"}')
+
+    def own_name(self, name):
+        return self.add('{"type":"IdentifierName","name":"%s"}' % name)
+
+    def private_name(self, name):
+        return self.add('{"type":"PrivateIdentifier","name":"%s"}' % name)
+
+    def this_private(self, name):
+        this, field = self.add('{"type":"ThisExpression"}'), self.private_name(name)
+        return self.add('{"type":"PrivateFieldExpression","object":%d,"field":%d}' % (this, field))
+
+    def of(self, kind, **fields):
+        """A row of this type with these fields: numbers and lists of them."""
+        given = "".join(',"%s":%s' % (name, str(value).replace("None", "null")) for name, value in fields.items())
+        return self.add('{"type":"%s"%s}' % (kind, given))
+
+    def head(self):
+        """The tables; that of private names is by the classes in the order of their bodies."""
+        private = ",".join("{%s}" % ",".join('"%s":"%s"' % pair for pair in table.items()) for table in self.tables)
+        return self.names.head() + ('"private":[%s],' % private if self.tables else "")
 
     def binary(self, operator, left, right):
         return self.add('{"type":"BinaryExpression","operator":"%s","left":%d,"right":%d}' % (operator, left, right))
@@ -261,6 +288,96 @@ def statement(rows, depth, draw):
     return nested_statement(rows, depth, draw)
 
 
+def function(rows, params, body):
+    params = rows.of("FormalParameters", items=params)
+    return rows.add('{"type":"Function","kind":"expression","params":%d,"body":%d}' % (params, rows.of("FunctionBody", statements=body)))
+
+
+def method(rows, kind, key, names, draw):
+    """A method or an accessor, which returns a value or gives it to a member."""
+    params = []
+    if kind == "set":
+        params = [rows.of("FormalParameter", pattern=rows.binding("given%d" % len(rows.rows)))]
+    elif kind == "method":
+        params = [parameter(rows, draw) for _ in range(draw.randrange(3))]
+    value = rows.this_private(draw.choice(names)) if draw.random() < 0.5 else expression(rows, 2, draw)
+    if kind == "set":
+        target = rows.this_private(draw.choice(names))
+        body = rows.statement(rows.add('{"type":"AssignmentExpression","operator":"=","left":%d,"right":%d}' % (target, value)))
+    else:
+        body = rows.of("ReturnStatement", argument=value)
+    return rows.add('{"type":"MethodDefinition","kind":"%s","key":%d,"value":%d}' % (kind, key, function(rows, params, [body])))
+
+
+def member(rows, key, names, draw):
+    kind = draw.random()
+    if kind < 0.4:
+        return rows.of("PropertyDefinition", key=key, value=expression(rows, 3, draw))
+    return method(rows, draw.choice(["method", "method", "get", "set"]), key, names, draw)
+
+
+def one_class(rows, draw):
+    names = draw.sample(PRIVATE, draw.randrange(1, 4))
+    rows.tables.append({name: "p%d" % at for at, name in enumerate(names)})
+    body = [member(rows, rows.private_name(name), names, draw) for name in names]
+    body += [member(rows, rows.own_name(draw.choice(NAMES)), names, draw) for _ in names]
+    test = rows.of("PrivateInExpression", left=rows.private_name(names[0]), right=leaf(rows, draw))
+    body.append(rows.of("StaticBlock", body=[rows.statement(test)]))
+    name, body = rows.binding("Class%d" % len(rows.rows)), rows.of("ClassBody", body=body)
+    return rows.add('{"type":"Class","kind":"declaration","id":%d,"body":%d}' % (name, body))
+
+
+def deep_classes(rows):
+    """The innermost class first, so each is numbered by how many stand round it."""
+    inner, first = rows.this_private("n%d" % (CLASSES - 1)), len(rows.tables)
+    for depth in reversed(range(CLASSES)):
+        own = rows.of("PropertyDefinition", key=rows.private_name("n%d" % depth), value=rows.this_private("n%d" % max(depth - 1, 0)))
+        field = rows.of("PropertyDefinition", key=rows.own_name("a"), value=inner)
+        inner = rows.add('{"type":"Class","kind":"expression","body":%d}' % rows.of("ClassBody", body=[own, field]))
+    rows.tables[first:] = [{"n%d" % depth: "p%d" % depth} for depth in range(CLASSES)]
+    return rows.statement(inner)
+
+
+# The types of patterns that are bound and of targets, each with the fields of a property, of a default and of the rest.
+BOUND = (
+    "ObjectPattern", "ArrayPattern",
+    ("BindingProperty", "key", "value"), ("AssignmentPattern", "left", "right"), ("BindingRestElement", "argument"),
+)
+TARGETS = (
+    "ObjectAssignmentTarget", "ArrayAssignmentTarget", ("AssignmentTargetPropertyProperty", "name", "binding"),
+    ("AssignmentTargetWithDefault", "binding", "init"), ("AssignmentTargetRest", "target"),
+)
+
+
+def pattern(rows, types, depth, draw):
+    """A name, or an object or an array of such, so many deep."""
+    in_object, in_array, (prop_type, key, value), (default, left, right), (rest, taken) = types
+
+    def name():
+        return rows.binding("bound%d" % len(rows.rows)) if types is BOUND else rows.name(draw.choice(NAMES))
+
+    def part():
+        inside = pattern(rows, types, depth - 1, draw)
+        return rows.of(default, **{left: inside, right: leaf(rows, draw)}) if draw.random() < 0.25 else inside
+
+    if depth == 0 or draw.random() < 0.2:
+        return name()
+    last = {"rest": rows.of(rest, **{taken: name()})} if draw.random() < 0.125 else {}
+    if draw.random() < 0.5:
+        elements = [part() if draw.random() < 0.9 else None for _ in range(draw.randrange(1, 4))]
+        return rows.of(in_array, elements=elements, **last)
+    properties = [rows.of(prop_type, **{key: rows.own_name(draw.choice(NAMES)), value: part()}) for _ in range(draw.randrange(1, 4))]
+    return rows.of(in_object, properties=properties, **last)
+
+
+def destructuring(rows, draw):
+    if draw.random() < 0.5:
+        target, value = pattern(rows, TARGETS, 6, draw), expression(rows, 2, draw)
+        return rows.statement(rows.add('{"type":"AssignmentExpression","operator":"=","left":%d,"right":%d}' % (target, value)))
+    declarator = rows.of("VariableDeclarator", id=pattern(rows, BOUND, 6, draw), init=expression(rows, 2, draw))
+    return rows.add('{"type":"VariableDeclaration","kind":"const","declarations":[%d]}' % declarator)
+
+
 def deep_blocks(rows):
     inner = rows.statement(rows.name("a"))
     for _ in range(DEPTH // 2):
@@ -298,7 +415,8 @@ def long_choices(rows):
     return rows.statement(inner)
 
 
-CHAINS = {"sum": long_sum, "logical": long_logical, "choices": long_choices}
+CHAINS = {"sum": long_sum, "logical": long_logical, "choices": long_choices, "deep": deep_classes}
+DRAWN = {"classes": one_class, "patterns": destructuring}
 
 
 def long_list(rows, count, draw):
@@ -327,6 +445,8 @@ def body_of(rows, kind, megabytes, draw):
     while rows.size < wanted:
         if kind in CHAINS:
             body.append(CHAINS[kind](rows))
+        elif kind in DRAWN:
+            body.append(DRAWN[kind](rows, draw))
         elif kind == "nested":
             body += [deep_blocks(rows), deep_sum(rows, True), deep_sum(rows, False)]
         else:
@@ -336,12 +456,13 @@ def body_of(rows, kind, megabytes, draw):
 
 def main():
     words = sys.argv[2:]
-    kind = next((it for it in words if it in ("renamed", "nested", *CHAINS, "list", *STRINGS)), "mixed")
+    kind = next((it for it in words if it in ("renamed", "nested", *CHAINS, "list", *DRAWN, *STRINGS)), "mixed")
     rows = Rows(Names() if kind == "renamed" else OwnNames())
     body = body_of(rows, kind, int(sys.argv[1]), random.Random(1))
     rows.add('{"type":"Program","kind":"module","body":[%s]}' % ",".join(map(str, body)))
-    options = '"options":{"minify":true},' if "minify" in words else ""
-    sys.stdout.write("{%s%s\"rows\":[" % (options, rows.names.head()) + ",\n".join(rows.rows) + "]}\n")
+    given = ['"minify":true'] * ("minify" in words) + ['"indent_width":0'] * (kind == "deep")
+    options = '"options":{%s},' % ",".join(given) if given else ""
+    sys.stdout.write("{%s%s\"rows\":[" % (options, rows.head()) + ",\n".join(rows.rows) + "]}\n")
 
 
 main()

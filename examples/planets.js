@@ -211,4 +211,38 @@ if (typeof first === "number") {
 }
 report.push("\u{1F310} " + counter["\u00c5str\u00f6m"] + " " + (-1) ** 2 + " " + !(first in counter) + " " + [, 1].length);
 report.push("</script" + ">".repeat(1) + " 'single' \"double\" `backticks`");
+
+// A class, whose count is private, and patterns of what planets have.
+class Census {
+  static #taken = 0;
+  static {
+    Census.#taken += 1;
+  }
+
+  #count = 0;
+
+  get count() {
+    return this.#count;
+  }
+
+  set count(value) {
+    this.#count = value < 0 ? 0 : value;
+  }
+
+  add({ name, moons: { count = 0, known: [nearest, ...others] = [] } = {} }) {
+    this.count += count;
+    return nearest === undefined ? name : name + " with " + nearest + " and " + others.length + " more";
+  }
+
+  static isOne(value) {
+    return Census.#taken > 0 && #count in value;
+  }
+}
+
+const census = new Census();
+let nearest, rest;
+[nearest, ...{ length: rest }] = planets.map((planet) => census.add(planet));
+({ count: census.total, none: census.none = nearest } = census);
+for (const [name, value] of Object.entries(census)) report.push("  " + name + ": " + value);
+report.push(rest + " further lines, " + Census.isOne(census) + ", " + Census.isOne({}));
 console.log(report.join("\n"), planets.length, new Date(0).getTime());

@@ -120,7 +120,7 @@ class Reader:
         return Child("VariableDeclaration", kind=kind, declarations=self.several(";", self.declarator))
 
     def declarator(self):
-        fields = {"id": self.binding()}
+        fields = {"id": self.pattern()}
         if self.is_here("="):
             self.take()
             fields["init"] = self.expression()
@@ -152,6 +152,13 @@ class Reader:
         return Child("FunctionBody", directives=directives, statements=body[len(directives):])
 
     # ---- names
+
+    def pattern(self):
+        """A name that is bound, or a pattern by its type."""
+        return self.by_type(self.take()) if self.is_before("(") else self.binding()
+
+    def is_before(self, sign):
+        return self.text[self.at:].lstrip().startswith(sign)
 
     def binding(self):
         return Child("BindingIdentifier", name=self.take(), **self.number("symbol"))
@@ -251,13 +258,13 @@ class Reader:
         is_rest = self.is_here("...")
         if is_rest:
             self.take()
-        name = self.binding()
+        pattern = self.pattern()
         if is_rest:
-            return Child("FormalParameterRest", argument=name)
+            return Child("FormalParameterRest", argument=pattern)
         if not self.is_here("="):
-            return Child("FormalParameter", pattern=name)
+            return Child("FormalParameter", pattern=pattern)
         self.take()
-        return Child("FormalParameter", pattern=name, initializer=self.expression())
+        return Child("FormalParameter", pattern=pattern, initializer=self.expression())
 
     # ---- a node by its type, with its fields in their order or by their names
 
@@ -272,7 +279,7 @@ class Reader:
     def field(self, fields, in_order):
         """A field's name and what it holds: the field that is named, or else the next one. The span is always named."""
         by_name = {field.name: field for field in fields}
-        is_named = self.text[self.at:].lstrip().startswith("=")
+        is_named = self.is_before("=")
         if is_named and self.value == "span":
             self.take()
             self.take()
@@ -291,12 +298,7 @@ class Reader:
         is_value = TABLE.is_value(field)
         if not is_value and self.is_here("["):
             self.take()
-            return self.several("]", lambda: self.child_or_hole(field))
-        if self.kind == "word" and not self.text[self.at:].lstrip().startswith("("):
-            if field.kind == "BindingPattern":
-                return self.binding()
-            if field.kind == "LabelIdentifier":
-                return Child("LabelIdentifier", name=self.take())
+            return self.several("]", lambda: self.child(field))
         if not is_value:
             return self.child(field)
         if self.is_here("["):
@@ -309,15 +311,17 @@ class Reader:
             return int(value)
         return {"true": True, "false": False}.get(value, value)
 
-    def child_or_hole(self, field):
-        """A member of a list, or None where it is left out."""
+    def child(self, field):
+        """None where it is left out; else a word alone is a name of the field's kind, and a function is a declaration where a
+        statement may stand, and an expression elsewhere."""
         if self.is_here("null"):
             self.take()
             return None
-        return self.child(field)
-
-    def child(self, field):
-        """A function is a declaration where a statement may stand, and else an expression."""
+        if self.kind == "word" and not self.is_before("("):
+            if field.kind in ("BindingPattern", "BindingIdentifier"):
+                return self.binding()
+            if field.kind in ("IdentifierName", "LabelIdentifier", "PrivateIdentifier"):
+                return Child(field.kind, name=self.take())
         is_function = self.is_here("function") and field.kind != "Statement"
         return self.expression() if is_function else self.statement()
 

@@ -28,7 +28,7 @@ export function jobOf(program, { source, options = {}, spans = true, negative = 
   if (comments.length > 0 && source === undefined) throw new TypeError("comments are given without the source that they stand in");
   const rows = new Rows(source, spans, negative, names);
   rows.program(program, comments, comments.length > 0 || (options.source_map_path ?? null) !== null);
-  const tables = names ? { symbols: names.symbols, references: names.references } : {};
+  const tables = names ? { symbols: names.symbols, references: names.references, private: names.private } : {};
   return { ...(Object.keys(options).length > 0 ? { options } : {}), ...tables, rows: rows.rows };
 }
 
@@ -139,6 +139,8 @@ class Rows {
         return this.add(node.type, node, { kind: node.kind, declarations: this.several(node.declarations, this.declarator) });
       case "FunctionDeclaration":
         return this.function(node, "declaration");
+      case "ClassDeclaration":
+        return this.class(node, "declaration");
       case "ReturnStatement":
         return this.add(node.type, node, { argument: this.maybe(node.argument, this.expression) });
       case "ThrowStatement":
@@ -214,9 +216,85 @@ class Rows {
     return this.add(node.type, node, { id: this.binding(node.id), init: this.maybe(node.init, this.expression) });
   }
 
+  // ---- patterns
+
   binding(node) {
-    if (node.type !== "Identifier") this.refuse(node.type, node);
-    return this.add("BindingIdentifier", node, { name: node.name, symbol: this.names?.symbolOf.get(node) });
+    switch (node.type) {
+      case "Identifier":
+        return this.add("BindingIdentifier", node, { name: node.name, symbol: this.names?.symbolOf.get(node) });
+      case "ObjectPattern":
+        return this.add(node.type, node, this.withRest("properties", node.properties, this.bindingProperty, this.bindingRest));
+      case "ArrayPattern":
+        return this.add(node.type, node, this.withRest("elements", node.elements, this.binding, this.bindingRest));
+      case "AssignmentPattern":
+        return this.add(node.type, node, { left: this.binding(node.left), right: this.expression(node.right) });
+      default:
+        return this.refuse(node.type, node);
+    }
+  }
+
+  bindingProperty(node) {
+    return this.add("BindingProperty", node, { key: this.key(node), value: this.binding(node.value), computed: node.computed });
+  }
+
+  bindingRest(node) {
+    return this.add("BindingRestElement", node, { argument: this.binding(node.argument) });
+  }
+
+  // The fields of a list, the first of this name, and the second for what takes the rest, where that stands last.
+  withRest(name, nodes, convert, convertRest) {
+    const rest = nodes.at(-1)?.type === "RestElement" ? nodes.at(-1) : null;
+    const others = rest ? nodes.slice(0, -1) : nodes;
+    return { [name]: this.several(others, convert), rest: this.maybe(rest, convertRest) };
+  }
+
+  // What is assigned to. Parentheses round it are no node.
+  target(node) {
+    const inside = withoutParentheses(node);
+    switch (inside.type) {
+      case "Identifier":
+      case "MemberExpression":
+        return this.expression(inside);
+      case "ObjectPattern":
+        return this.objectTarget(inside);
+      case "ArrayPattern":
+        return this.arrayTarget(inside);
+      default:
+        return this.refuse(inside.type, inside);
+    }
+  }
+
+  objectTarget(node) {
+    const fields = this.withRest("properties", node.properties, this.targetProperty, this.targetRest);
+    return this.add("ObjectAssignmentTarget", node, fields);
+  }
+
+  arrayTarget(node) {
+    const fields = this.withRest("elements", node.elements, this.targetOrDefault, this.targetRest);
+    return this.add("ArrayAssignmentTarget", node, fields);
+  }
+
+  targetOrDefault(node) {
+    if (node.type !== "AssignmentPattern") return this.target(node);
+    return this.add("AssignmentTargetWithDefault", node, { binding: this.target(node.left), init: this.expression(node.right) });
+  }
+
+  targetProperty(node) {
+    if (node.shorthand) return this.targetIdentifier(node, node.value);
+    return this.add("AssignmentTargetPropertyProperty", node, {
+      name: this.key(node), binding: this.targetOrDefault(node.value), computed: node.computed,
+    });
+  }
+
+  targetIdentifier(node, value) {
+    const isDefault = value.type === "AssignmentPattern";
+    return this.add("AssignmentTargetPropertyIdentifier", node, {
+      binding: this.expression(isDefault ? value.left : value), init: isDefault ? this.expression(value.right) : null,
+    });
+  }
+
+  targetRest(node) {
+    return this.add("AssignmentTargetRest", node, { target: this.target(node.argument) });
   }
 
   // ---- expressions
@@ -246,7 +324,7 @@ class Rows {
       case "ChainExpression":
         return this.add(node.type, node, { expression: this.expression(node.expression) });
       case "BinaryExpression":
-        if (node.left.type === "PrivateIdentifier") this.refuse("PrivateInExpression", node);
+        if (node.left.type === "PrivateIdentifier") return this.privateIn(node);
       // falls through: the same fields
       case "LogicalExpression":
         return this.add(node.type, node, {
@@ -276,6 +354,8 @@ class Rows {
         return this.arrow(node);
       case "FunctionExpression":
         return this.function(node, "expression");
+      case "ClassExpression":
+        return this.class(node, "expression");
       default:
         return this.refuse(node.type, node);
     }
@@ -309,15 +389,30 @@ class Rows {
   }
 
   member(node) {
-    const object = this.expression(node.object);
-    if (node.property.type === "PrivateIdentifier") this.refuse("PrivateFieldExpression", node);
-    return node.computed
-      ? this.add("ComputedMemberExpression", node, { object, optional: node.optional, expression: this.expression(node.property) })
-      : this.add("StaticMemberExpression", node, { object, optional: node.optional, property: this.name(node.property) });
+    const link = { object: this.expression(node.object), optional: node.optional };
+    if (node.computed) return this.add("ComputedMemberExpression", node, { ...link, expression: this.expression(node.property) });
+    return node.property.type === "PrivateIdentifier"
+      ? this.add("PrivateFieldExpression", node, { ...link, field: this.privateName(node.property) })
+      : this.add("StaticMemberExpression", node, { ...link, property: this.name(node.property) });
+  }
+
+  privateIn(node) {
+    return this.add("PrivateInExpression", node, { left: this.privateName(node.left), right: this.expression(node.right) });
   }
 
   name(node) {
     return this.add("IdentifierName", node, { name: node.name });
+  }
+
+  privateName(node) {
+    return this.add("PrivateIdentifier", node, { name: node.name });
+  }
+
+  // The key of a property, of a class's member too.
+  key({ key, computed }) {
+    if (computed) return this.expression(key);
+    if (key.type === "PrivateIdentifier") return this.privateName(key);
+    return key.type === "Identifier" ? this.name(key) : this.expression(key);
   }
 
   // An argument, or an element of an array.
@@ -328,22 +423,14 @@ class Rows {
 
   property(node) {
     if (node.type === "SpreadElement") return this.element(node);
-    const key = !node.computed && node.key.type === "Identifier" ? this.name(node.key) : this.expression(node.key);
     return this.add("ObjectProperty", node, {
       kind: node.kind,
-      key,
+      key: this.key(node),
       value: this.expression(node.value),
       method: node.method,
       shorthand: node.shorthand,
       computed: node.computed,
     });
-  }
-
-  // What is assigned to. Parentheses round it are no node.
-  target(node) {
-    const inside = withoutParentheses(node);
-    if (inside.type !== "Identifier" && inside.type !== "MemberExpression") this.refuse(inside.type, inside);
-    return this.expression(inside);
   }
 
   // ---- functions
@@ -377,12 +464,7 @@ class Rows {
   }
 
   parameters(nodes) {
-    const rest = nodes.at(-1)?.type === "RestElement" ? nodes.at(-1) : null;
-    const items = rest ? nodes.slice(0, -1) : nodes;
-    return this.add("FormalParameters", null, {
-      items: this.several(items, this.parameter),
-      rest: this.maybe(rest, this.restParameter),
-    });
+    return this.add("FormalParameters", null, this.withRest("items", nodes, this.parameter, this.restParameter));
   }
 
   parameter(node) {
@@ -400,6 +482,63 @@ class Rows {
   restParameter(node) {
     return this.add("FormalParameterRest", node, {
       decorators: node.decorators, argument: this.binding(node.argument), type_annotation: node.typeAnnotation,
+    });
+  }
+
+  // ---- classes
+
+  class(node, kind) {
+    return this.add("Class", node, {
+      kind,
+      decorators: node.decorators,
+      id: this.maybe(node.id, this.binding),
+      declare: node.declare,
+      is_abstract: node.abstract,
+      type_parameters: node.typeParameters,
+      heritage: this.maybe(node.superClass, this.expression),
+      heritage_arguments: node.superTypeArguments ?? node.superTypeParameters,
+      implements: node.implements,
+      body: this.add("ClassBody", node.body, { body: this.several(node.body.body, this.classElement) }),
+    });
+  }
+
+  classElement(node) {
+    switch (node.type) {
+      case "StaticBlock":
+        return this.add(node.type, node, { body: this.several(node.body, this.statement) });
+      case "MethodDefinition":
+        return this.add(node.type, node, {
+          decorators: node.decorators,
+          kind: node.kind,
+          key: this.key(node),
+          value: this.expression(node.value),
+          accessibility: node.accessibility,
+          computed: node.computed,
+          is_static: node.static,
+          is_override: node.override,
+          optional: node.optional,
+        });
+      case "PropertyDefinition":
+        return this.field(node);
+      default:
+        return this.refuse(node.type, node);
+    }
+  }
+
+  field(node) {
+    return this.add(node.type, node, {
+      decorators: node.decorators,
+      key: this.key(node),
+      accessibility: node.accessibility,
+      computed: node.computed,
+      declare: node.declare,
+      is_static: node.static,
+      is_override: node.override,
+      readonly: node.readonly,
+      optional: node.optional,
+      definite: node.definite,
+      type_annotation: node.typeAnnotation,
+      value: this.maybe(node.value, this.expression),
     });
   }
 }

@@ -1,5 +1,5 @@
-// Cuts a program down to what jsgen reads by now: the statements that are read, at whatever depth they stand, and of the others
-// the greatest expressions that are.
+// Cuts a program down to what jsgen reads by now: the statements that are read, at whatever depth they stand, classes without the
+// members that aren't read, and of the others the greatest expressions that are.
 import { jobOf, NotRead } from "./convert.mjs";
 
 const LONGEST = 200000;
@@ -75,7 +75,23 @@ class Parts {
     const text = this.source.slice(node.start, node.end);
     if (isStatement(node) && this.keep(text.endsWith(";") || text.endsWith("}") ? text : `${text};`, node.start)) return;
     if (isOperation(node) && this.keep(`(${text});`, node.start)) return;
-    this.among(childrenOf(node));
+    const left = isClass(node) ? this.membersLeft(node) : null;
+    this.among(left ?? childrenOf(node));
+  }
+
+  // Keeps a class without the members that aren't read by themselves, and gives these; null where nothing is kept. In their
+  // places stand their line ends.
+  membersLeft(node) {
+    const left = node.body.body.filter((member) => !isReadMember(member));
+    let text = "";
+    let at = node.start;
+    for (const { start, end } of left) {
+      text += this.source.slice(at, start) + this.source.slice(start, end).replace(/[^\n\r\u2028\u2029]/g, "");
+      at = end;
+    }
+    text += this.source.slice(at, node.end);
+    const isKept = left.length < node.body.body.length && this.keep(node.type === "ClassExpression" ? `(${text});` : text, node.start);
+    return isKept ? left : null;
   }
 
   // Two of them may declare one name, so each is kept where the program goes on with it.
@@ -115,6 +131,16 @@ function isStatement(node) {
 
 function isOperation(node) {
   return /Expression$/.test(node.type) || node.type === "Literal";
+}
+
+function isClass(node) {
+  return node.type === "ClassDeclaration" || node.type === "ClassExpression";
+}
+
+function isReadMember(member) {
+  const body = { type: "ClassBody", body: [member] };
+  const statement = { type: "ClassDeclaration", id: { type: "Identifier", name: "a" }, superClass: null, body };
+  return isRead({ type: "Program", sourceType: "module", body: [statement] });
 }
 
 function childrenOf(node) {

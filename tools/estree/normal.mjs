@@ -11,7 +11,10 @@ const starts = new WeakMap();
 export function normal(node) {
   if (Array.isArray(node)) return node.map(normal);
   if (node === null || typeof node !== "object") return node ?? null;
-  const form = formOf(node);
+  return placed(formOf(node), node);
+}
+
+function placed(form, node) {
   if (!starts.has(form)) starts.set(form, node.start ?? null);
   return form;
 }
@@ -32,6 +35,8 @@ function formOf(node) {
       return ["sequence", operands(node, (inside) => inside.type === node.type)];
     case "Property":
       return [...members(node), isProtoShorthand(node)];
+    case "ObjectPattern":
+      return [node.type, node.properties.map((part) => (part.type === "Property" ? placed(members(part), part) : normal(part)))];
     case "ArrowFunctionExpression":
       return ["arrow", node.async, normal(node.params), normal(node.body)];
     case "IfStatement":
@@ -68,7 +73,7 @@ function operands(node, isSame) {
   return (inside.expressions ?? [inside.left, inside.right]).flatMap((operand) => operands(operand, isSame));
 }
 
-// `{ __proto__ }` is another property than `{ __proto__: __proto__ }`; of other names both are one.
+// In an object that is no pattern, `{ __proto__ }` is another property than `{ __proto__: __proto__ }`; of other names both are one.
 function isProtoShorthand(node) {
   return node.shorthand && node.key.name === "__proto__";
 }

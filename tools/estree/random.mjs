@@ -3,6 +3,8 @@ import { isType, wordsOf } from "./reads.mjs";
 
 const NAMES = ["a", "b", "total", "$", "_x", "größe", "日本", "of", "async", "get", "undefined"];
 const KEYS = [...NAMES, "if", "class", "__proto__", "constructor"];
+const PRIVATE = ["a", "b", "x", "if", "static", "get", "größe", "日本", "__proto__"];
+const MEMBERS = ["a", "b", "get", "set", "static", "async", "if", "in", "instanceof", "größe", "__proto__", "'a b'", "'get'", "7", "1.5", "2n"];
 const STRINGS = ['""', "'it\\'s'", '"a\\nb"', "'</script>'", '"\\u2028 ${x} `"', '"use strict"', "'\\ud800'", '"日本\\0"', '"\\x001"'];
 const QUOTED = [...STRINGS, '"default"', `'"'`, `"'\\""`, `'""\\''`];
 const WHOLE = ["0", "1", "7", "42", "1000000", "340282366920938463463374607431768211455"];
@@ -22,6 +24,7 @@ class Draw {
     this.declared = 0;
     this.loops = 0; // round what is drawn, up to the next function
     this.functions = 0;
+    this.privates = []; // private names of the classes round what is drawn
   }
 
   // A whole number below the limit (a congruential generator of 32 bits, from its upper half).
@@ -43,13 +46,19 @@ class Draw {
   item(depth) {
     if (this.below(5) > 0) return this.statement(depth);
     if (isType("Function") && this.below(4) === 0) return this.function(depth - 1, `n${this.declared++}`);
+    if (isType("Class") && this.below(4) === 0) return this.class(depth - 1, `n${this.declared++}`);
     return `${this.variables(depth, this.of(wordsOf("VariableDeclaration", "kind")))};`;
   }
 
   variables(depth, kind) {
-    const needsValue = () => kind === "const" || this.below(3) > 0;
-    const declarators = this.several(1, 2, () => `n${this.declared++}${needsValue() ? ` = ${this.assigned(depth)}` : ""}`);
-    return `${kind} ${declarators.join(", ")}`;
+    return `${kind} ${this.several(1, 2, () => this.declarator(depth, kind)).join(", ")}`;
+  }
+
+  // A pattern has a value.
+  declarator(depth, kind) {
+    const bound = this.binding(depth);
+    const hasValue = kind === "const" || /^[[{]/.test(bound) || this.below(3) > 0;
+    return `${bound}${hasValue ? ` = ${this.assigned(depth)}` : ""}`;
   }
 
   statement(depth) {
@@ -98,7 +107,7 @@ class Draw {
       case 0:
         return "";
       case 1:
-        return `${this.of(kinds)} n${this.declared++} = (${this.expression(depth)})`;
+        return `${this.of(kinds)} ${this.binding(depth - 1)} = (${this.expression(depth)})`;
       default:
         return `(${this.expression(depth)})`;
     }
@@ -109,8 +118,8 @@ class Draw {
   }
 
   left(depth) {
-    if (this.below(2)) return `${this.of(wordsOf("VariableDeclaration", "kind"))} n${this.declared++}`;
-    const target = this.target(depth);
+    if (this.below(2)) return `${this.of(wordsOf("VariableDeclaration", "kind"))} ${this.binding(depth - 1)}`;
+    const target = this.below(3) ? this.target(depth) : this.targets(depth - 1);
     return /^(async|let)$/.test(target) ? `(${target})` : target;
   }
 
@@ -135,7 +144,7 @@ class Draw {
 
   attempt(depth) {
     const braces = () => `{ ${this.several(0, 2, () => this.item(depth)).join(" ")} }`;
-    const handler = this.below(3) ? ` catch ${this.below(2) ? `(n${this.declared++}) ` : ""}${braces()}` : "";
+    const handler = this.below(3) ? ` catch ${this.below(2) ? `(${this.binding(depth - 1)}) ` : ""}${braces()}` : "";
     return `try ${braces()}${handler}${handler === "" || this.below(2) ? ` finally ${braces()}` : ""}`;
   }
 
@@ -146,13 +155,18 @@ class Draw {
   }
 
   functionBody(depth) {
-    const { loops } = this;
-    this.loops = 0;
-    this.functions++;
-    const directives = this.below(6) === 0 ? ['"use asm";', "'a';"].slice(0, 1 + this.below(2)) : [];
-    const text = `{ ${[...directives, ...this.several(0, 3, () => this.item(depth))].join(" ")} }`;
-    this.functions--;
-    this.loops = loops;
+    return this.apart(this.functions + 1, () => {
+      const directives = this.below(6) === 0 ? ['"use asm";', "'a';"].slice(0, 1 + this.below(2)) : [];
+      return `{ ${[...directives, ...this.several(0, 3, () => this.item(depth))].join(" ")} }`;
+    });
+  }
+
+  // Statements that no jump leaves, within so many functions.
+  apart(functions, make) {
+    const outside = { loops: this.loops, functions: this.functions };
+    Object.assign(this, { loops: 0, functions });
+    const text = make();
+    Object.assign(this, outside);
     return text;
   }
 
@@ -166,9 +180,124 @@ class Draw {
   }
 
   parameterList(depth) {
-    const names = this.several(0, 3, () => this.of(NAMES)).filter((name, at, all) => all.indexOf(name) === at);
+    const drawn = this.several(0, 3, () => this.of(NAMES)).filter((name, at, all) => all.indexOf(name) === at);
+    const names = drawn.map((name) => (this.below(4) ? name : this.binding(depth - 1)));
     const rest = names.length > 0 && this.below(4) === 0 ? [`...${names.pop()}`] : [];
     return { names, items: names.map((name) => (this.below(4) ? name : `${name} = ${this.assigned(depth)}`)), rest };
+  }
+
+  // ---- classes
+
+  class(depth, name) {
+    const heritage = this.below(4) === 0 ? ` extends ${this.below(2) ? this.of(NAMES) : `(${this.expression(depth)})`}` : "";
+    const privates = isType("PrivateIdentifier") ? this.several(0, 3, () => this.of(PRIVATE)) : [];
+    const own = privates.filter((privateName, at, all) => all.indexOf(privateName) === at);
+    this.privates.push(own);
+    const members = own.map((privateName) => this.classElement(depth, `#${privateName}`));
+    members.push(...this.several(0, 3, () => this.otherElement(depth)));
+    this.privates.pop();
+    if (this.below(4) === 0) members.unshift(`constructor${this.parameters(depth)} ${this.functionBody(depth)}`);
+    return `class ${name}${heritage} { ${members.join(" ")} }`;
+  }
+
+  classExpression(depth) {
+    const text = this.class(depth, this.below(2) ? `n${this.declared++}` : "");
+    return this.below(2) ? `(${text})` : text;
+  }
+
+  otherElement(depth) {
+    if (isType("StaticBlock") && this.below(6) === 0) {
+      return `static ${this.apart(0, () => `{ ${this.several(0, 2, () => this.item(depth)).join(" ")} }`)}`;
+    }
+    return this.classElement(depth, this.below(4) ? this.of(MEMBERS) : `[${this.assigned(depth)}]`);
+  }
+
+  // A member by its key. Of a private accessor both halves are of one kind.
+  classElement(depth, key) {
+    const before = this.below(3) === 0 ? "static " : "";
+    const get = () => `${before}get ${key}() ${this.functionBody(depth)}`;
+    const set = () => `${before}set ${key}(${this.binding(depth)}) ${this.functionBody(depth)}`;
+    switch (this.below(6)) {
+      case 0:
+        return `${before}${key}${this.parameters(depth)} ${this.functionBody(depth)}`;
+      case 1:
+        return get();
+      case 2:
+        return this.below(2) ? set() : `${get()} ${set()}`;
+      case 3:
+        return `${before}${key};`;
+      default:
+        return `${before}${key} = ${this.assigned(depth)};`;
+    }
+  }
+
+  // One of the private names that may be used here, or null.
+  privateName() {
+    const names = this.privates.flat();
+    return names.length > 0 ? `#${this.of(names)}` : null;
+  }
+
+  // ---- patterns
+
+  // A name that is bound, or a pattern of such names.
+  binding(depth) {
+    const makers = [isType("ObjectPattern") && this.objectPattern, isType("ArrayPattern") && this.arrayPattern];
+    const isName = depth <= 0 || this.below(3) > 0 || !makers.every((maker) => maker);
+    return isName ? `n${this.declared++}` : this.of(makers).call(this, depth - 1);
+  }
+
+  objectPattern(depth) {
+    const properties = this.several(0, 3, () => this.bindingProperty(depth));
+    const rest = this.below(4) === 0 ? [`...n${this.declared++}`] : [];
+    return `{ ${[...properties, ...rest].join(", ")} }`;
+  }
+
+  bindingProperty(depth) {
+    const name = `n${this.declared++}`;
+    const text = this.of([name, `${name}: ${name}`, `${this.key(depth)}: ${this.binding(depth)}`]);
+    return this.withDefault(text, depth);
+  }
+
+  arrayPattern(depth) {
+    const elements = this.several(0, 3, () => (this.below(5) ? this.withDefault(this.binding(depth), depth) : ""));
+    return this.listWithHoles(elements, this.below(4) === 0 ? this.binding(depth) : null);
+  }
+
+  withDefault(text, depth) {
+    return this.below(3) ? text : `${text} = ${this.assigned(depth)}`;
+  }
+
+  // A comma that nothing follows is none, so a hole at the end has one of its own.
+  listWithHoles(elements, rest) {
+    const text = rest === null ? elements : [...elements, `...${rest}`];
+    return `[${text.join(", ")}${text.at(-1) === "" ? "," : ""}]`;
+  }
+
+  // An object or an array of targets.
+  targets(depth) {
+    const makers = [isType("ObjectAssignmentTarget") && this.objectTarget, isType("ArrayAssignmentTarget") && this.arrayTarget];
+    return makers.every((maker) => maker) ? this.of(makers).call(this, depth - 1) : this.target(depth);
+  }
+
+  objectTarget(depth) {
+    const properties = this.several(0, 3, () => this.targetProperty(depth));
+    const rest = this.below(4) === 0 ? [`...${this.target(depth)}`] : [];
+    return `{ ${[...properties, ...rest].join(", ")} }`;
+  }
+
+  targetProperty(depth) {
+    const name = this.name();
+    const text = this.of([name, name, `${name}: ${name}`, `${this.key(depth)}: ${this.anyTarget(depth)}`]);
+    return this.withDefault(text, depth);
+  }
+
+  arrayTarget(depth) {
+    const elements = this.several(0, 3, () => (this.below(5) ? this.withDefault(this.anyTarget(depth), depth) : ""));
+    return this.listWithHoles(elements, this.below(4) === 0 ? this.anyTarget(depth) : null);
+  }
+
+  anyTarget(depth) {
+    return depth <= 0 || this.below(2) ? this.target(depth) : this.targets(depth - 1);
   }
 
   // A statement before `else`, whose inner `if` may not take it.
@@ -214,6 +343,9 @@ class Draw {
       when("ChainExpression", this.chain),
       when("ArrowFunctionExpression", this.arrow),
       when("Function", this.functionExpression),
+      when("Class", this.classExpression),
+      when("PrivateInExpression", this.privateIn),
+      when("ObjectAssignmentTarget", this.destructuring),
       this.quoted,
     ];
   }
@@ -227,6 +359,7 @@ class Draw {
     const kinds = [() => this.name(), () => this.name(), () => this.of(STRINGS), () => this.of(WHOLE)];
     if (wordsOf("NumericLiteral", "kind").includes("raw")) kinds.push(() => this.of(RAW));
     if (isType("BigIntLiteral")) kinds.push(() => `${this.of(WHOLE)}n`, () => "0xFn");
+    if (isType("ImportMeta")) kinds.push(() => "import.meta");
     for (const [type, word] of [["ThisExpression", "this"], ["NullLiteral", "null"], ["BooleanLiteral", this.of(["true", "false"])]]) {
       if (isType(type)) kinds.push(() => word);
     }
@@ -242,6 +375,8 @@ class Draw {
   }
 
   member(depth) {
+    const privateName = this.below(2) ? this.privateName() : null;
+    if (privateName !== null) return `${this.below(8) ? this.inside(depth) : `${this.of(WHOLE)} `}.${privateName}`;
     if (this.below(8) === 0) return `${this.of(WHOLE)} .${this.of(KEYS)}`;
     return this.below(2) ? `${this.inside(depth)}.${this.of(KEYS)}` : `${this.inside(depth)}[${this.expression(depth)}]`;
   }
@@ -300,7 +435,7 @@ class Draw {
       case 7:
         return this.below(2)
           ? `get ${this.key(depth)}() ${this.functionBody(depth)}`
-          : `set ${this.key(depth)}(${this.of(NAMES)}) ${this.functionBody(depth)}`;
+          : `set ${this.key(depth)}(${this.below(4) ? this.of(NAMES) : this.binding(depth)}) ${this.functionBody(depth)}`;
       case 0:
         return this.name();
       case 1:
@@ -329,13 +464,24 @@ class Draw {
   }
 
   chain(depth) {
-    const links = this.several(0, 2, () => this.of([".c", "[a]", "(b)", "?.c", "?.[a]", "?.(b)"]));
-    return `${this.inside(depth)}?.${this.of(["a", "[b]", "()"])}${links.join("")}`;
+    const name = this.privateName() ?? "d";
+    const links = this.several(0, 2, () => this.of([".c", "[a]", "(b)", "?.c", "?.[a]", "?.(b)", `.${name}`, `?.${name}`]));
+    return `${this.inside(depth)}?.${this.of(["a", "[b]", "()", name])}${links.join("")}`;
+  }
+
+  privateIn(depth) {
+    const name = this.privateName();
+    return name === null ? this.leaf() : `${name} in ${this.inside(depth)}`;
+  }
+
+  destructuring(depth) {
+    const text = `${this.targets(depth)} = ${this.assigned(depth)}`;
+    return this.below(2) ? `(${text})` : text;
   }
 
   arrow(depth) {
     const { names, items, rest } = this.parameterList(depth);
-    const isBare = items.length + rest.length === 1 && items[0] === names[0] && this.below(2) === 0;
+    const isBare = items.length + rest.length === 1 && items[0] === names[0] && !/^[[{]/.test(items[0]) && this.below(2) === 0;
     return `${isBare ? names[0] : `(${[...items, ...rest].join(", ")})`} => ${this.arrowBody(depth)}`;
   }
 
@@ -350,7 +496,7 @@ class Draw {
       case 1:
         return isType("ObjectExpression") ? `${this.object(depth)}${this.of(["", ".a", "[b]", "()", " + a", " ? a : b", ".a = b"])}` : "a";
       default:
-        return this.assigned(depth);
+        return this.assigned(depth).replace(/^\{.*/s, "($&)");
     }
   }
 

@@ -1,5 +1,6 @@
 // Which binding each name of a program stands for, in what jsgen reads by now: declarations of the module, of functions and of
-// blocks, parameters, and what a handler catches. Each binding is a symbol, and gets a new name. A label is none.
+// blocks, parameters, what a handler catches, and the own names of functions and classes. Each binding is a symbol, and gets a
+// new name. A label is none. A private name is one of the innermost class round it that has a member of that name.
 
 const RESERVED = new Set(
   (
@@ -15,32 +16,36 @@ export const LETTERS = [..."abcdefghijklmnopqrstuvwxyz"];
 export const SIGNS = ["é", "日本", "größe", "\u{20BB7}", "ñ", "ℵ", "π\u200D1", "_ü"];
 
 /**
- * The tables of a job that print each binding of the program by a new name, which no other binding and no global of it has.
- * `symbols` and `references` are those of the job; `symbolOf` and `referenceOf` have the numbers of the nodes; `shorthand` are
- * the references that are properties too, as in `{ a }`. A binding that is `__proto__` there keeps its name, since of such a
- * property the name is more than a name.
+ * The tables of a job that print each binding of the program by a new name, which no other binding and no global of it has, and
+ * each private name by one that no class round its own has given. `symbols`, `references` and `private` are those of the job;
+ * `symbolOf` and `referenceOf` have the numbers of the nodes, and `privateOf` the new names of the private ones; `shorthand` are
+ * the references and bindings that are properties too, as in `{ a }`. A binding that is `__proto__` there, in an object that is
+ * no pattern, keeps its name, since of such a property the name is more than a name.
  */
 export function renaming(program, letters = LETTERS) {
-  const scopes = new Scopes();
+  const scopes = new Scopes(letters);
   scopes.body(program.body, null);
-  const kept = new Set([...scopes.shorthand].filter((node) => node.name === PROTO).map((node) => scopes.symbolBehind(node)));
+  const kept = new Set(scopes.protos.map((node) => scopes.symbolBehind(node)));
   const globals = new Set(scopes.references.filter(({ symbol }) => symbol === null).map(({ name }) => name));
   const fresh = freshNames(letters, globals);
   return {
     symbols: scopes.symbols.map((name, symbol) => (kept.has(symbol) ? name : fresh.next().value)),
     references: scopes.references.map(({ symbol }) => symbol),
+    private: scopes.privateTables(),
     symbolOf: scopes.symbolOf,
     referenceOf: scopes.referenceOf,
+    privateOf: scopes.privateOf,
     shorthand: scopes.shorthand,
   };
 }
 
 /** The source with the new names in it: what the job with these tables is to print, in other words. */
-export function renamedSource(source, { symbols, references, symbolOf, referenceOf, shorthand }) {
+export function renamedSource(source, { symbols, references, symbolOf, referenceOf, privateOf, shorthand }) {
   const bindings = [...symbolOf].map(([node, symbol]) => [node, symbols[symbol]]);
   const looked = [...referenceOf].filter(([, reference]) => references[reference] !== null);
   const uses = looked.map(([node, reference]) => [node, symbols[references[reference]]]);
-  const edits = [...bindings, ...uses].sort(([one], [other]) => one.start - other.start);
+  const privates = [...privateOf].map(([node, name]) => [node, `#${name}`]);
+  const edits = [...bindings, ...uses, ...privates].sort(([one], [other]) => one.start - other.start);
   let text = "";
   let at = 0;
   for (const [node, name] of edits) {
@@ -61,12 +66,16 @@ function* freshNames(letters, taken) {
 }
 
 class Scopes {
-  constructor() {
+  constructor(letters) {
+    this.letters = letters;
     this.symbols = []; // their own names
     this.symbolOf = new Map();
     this.references = []; // each with its name and its symbol, or null
     this.referenceOf = new Map();
+    this.classes = []; // each with where its body begins, and the new names of its private ones
+    this.privateOf = new Map();
     this.shorthand = new Set();
+    this.protos = [];
   }
 
   symbolBehind(node) {
@@ -76,14 +85,14 @@ class Scopes {
   // A scope in which these nodes are bound: their symbols by their names. A name that is bound twice is one symbol.
   scope(nodes, outer) {
     const names = new Map();
-    for (const node of nodes.filter(isName)) {
+    for (const node of nodes) {
       if (!names.has(node.name)) names.set(node.name, this.symbols.push(node.name) - 1);
       this.symbolOf.set(node, names.get(node.name));
     }
     return { names, outer };
   }
 
-  // The body of a module, where `var` is bound from anywhere in it.
+  // The body of a module, or a static block, where `var` is bound from anywhere in it.
   body(nodes, outer) {
     const scope = this.scope([...nodes.flatMap(variablesIn), ...nodes.flatMap(declaredBy)], outer);
     for (const node of nodes) this.visit(node, scope);
@@ -113,6 +122,7 @@ class Scopes {
       case "BlockStatement":
         return this.block(node.body, scope);
       case "VariableDeclarator":
+        this.pattern(node.id, scope);
         return this.visit(node.init, scope);
       case "FunctionDeclaration":
         return this.function(node, scope);
@@ -120,6 +130,14 @@ class Scopes {
         return this.function(node, this.scope(node.id ? [node.id] : [], scope));
       case "ArrowFunctionExpression":
         return this.function(node, scope);
+      case "ClassDeclaration":
+        return this.class(node, scope);
+      case "ClassExpression":
+        return this.class(node, this.scope(node.id ? [node.id] : [], scope));
+      case "StaticBlock":
+        return this.body(node.body, scope);
+      case "PrivateIdentifier":
+        return this.privateOf.set(node, newPrivateName(node.name, scope));
       case "ForStatement":
         return this.loop([node.init], [node.test, node.update, node.body], scope);
       case "ForInStatement":
@@ -129,7 +147,7 @@ class Scopes {
         this.visit(node.discriminant, scope);
         return this.cases(node.cases, scope);
       case "CatchClause":
-        return this.visit(node.body, this.caught(node, scope));
+        return this.handler(node, this.caught(node, scope));
       case "LabeledStatement":
         return this.visit(node.body, scope);
       case "BreakStatement":
@@ -138,14 +156,55 @@ class Scopes {
         return null;
       case "MemberExpression":
         this.visit(node.object, scope);
-        return node.computed && this.visit(node.property, scope);
-      case "Property":
-        if (node.computed) this.visit(node.key, scope);
-        if (node.shorthand) this.shorthand.add(node.value);
+        return this.key(node.property, node, scope);
+      case "MethodDefinition":
+      case "PropertyDefinition":
+        this.key(node.key, node, scope);
         return this.visit(node.value, scope);
+      case "Property":
+        this.property(node, scope);
+        return this.visit(node.value, scope);
+      case "ObjectExpression":
+        this.protos.push(...node.properties.filter(({ shorthand, value }) => shorthand && value.name === PROTO).map(({ value }) => value));
+        return this.children(node, scope);
       default:
-        for (const child of Object.values(node ?? {}).flat()) if (typeof child?.type === "string") this.visit(child, scope);
-        return null;
+        return this.children(node, scope);
+    }
+  }
+
+  children(node, scope) {
+    for (const child of Object.values(node ?? {}).flat()) if (typeof child?.type === "string") this.visit(child, scope);
+  }
+
+  // A name that isn't private is no reference there.
+  key(key, { computed }, scope) {
+    if (computed || key.type === "PrivateIdentifier") this.visit(key, scope);
+  }
+
+  property({ key, value, computed, shorthand }, scope) {
+    if (computed) this.visit(key, scope);
+    if (shorthand) this.shorthand.add(value.type === "AssignmentPattern" ? value.left : value);
+  }
+
+  // What a pattern holds beside the names that it binds: keys, and what is taken where there is no value.
+  pattern(node, scope) {
+    switch (node?.type) {
+      case "ObjectPattern":
+        for (const property of node.properties) this.pattern(property, scope);
+        return;
+      case "ArrayPattern":
+        for (const element of node.elements) this.pattern(element, scope);
+        return;
+      case "Property":
+        this.property(node, scope);
+        this.pattern(node.value, scope);
+        return;
+      case "AssignmentPattern":
+        this.pattern(node.left, scope);
+        this.visit(node.right, scope);
+        return;
+      case "RestElement":
+        this.pattern(node.argument, scope);
     }
   }
 
@@ -154,10 +213,15 @@ class Scopes {
     for (const node of rest) this.visit(node, scope);
   }
 
+  handler({ param, body }, scope) {
+    this.pattern(param, scope);
+    this.visit(body, scope);
+  }
+
   // A variable of the same name that the handler's block declares takes its value by the name that is caught, so both are one.
   caught({ param, body }, outer) {
-    const isVariable = param && variablesIn(body).some(({ name }) => name === param.name);
-    if (!isVariable) return this.scope(param ? [param] : [], outer);
+    const isVariable = param?.type === "Identifier" && variablesIn(body).some(({ name }) => name === param.name);
+    if (!isVariable) return this.scope(boundIn(param), outer);
     this.symbolOf.set(param, this.symbolNamed(param.name, outer));
     return outer;
   }
@@ -173,29 +237,78 @@ class Scopes {
 
   // What a parameter is where none is given may name any of them. The name of a declaration is bound outside.
   function(node, outer) {
-    const patterns = node.params.map((param) => param.left ?? param.argument ?? param);
+    const names = node.params.flatMap(boundIn);
     const statements = node.body.type === "BlockStatement" ? node.body.body : [];
-    const scope = this.scope([...patterns, ...statements.flatMap(variablesIn), ...statements.flatMap(declaredBy)], outer);
-    for (const param of node.params) if (param.type === "AssignmentPattern") this.visit(param.right, scope);
+    const scope = this.scope([...names, ...statements.flatMap(variablesIn), ...statements.flatMap(declaredBy)], outer);
+    for (const param of node.params) this.pattern(param, scope);
     if (statements !== node.body.body) return this.visit(node.body, scope);
     for (const statement of statements) this.visit(statement, scope);
     return null;
   }
+
+  // What a class extends has no private names of its own.
+  class({ superClass, body }, outer) {
+    this.visit(superClass, outer);
+    const privates = this.newPrivateNames(body, outer);
+    this.classes.push({ start: body.start, privates });
+    for (const element of body.body) this.visit(element, { names: new Map(), privates, outer });
+  }
+
+  newPrivateNames({ body }, outer) {
+    const taken = tablesRound(outer).flatMap((table) => [...table.values()]);
+    const fresh = freshNames(this.letters, new Set(taken));
+    const names = body.filter(({ key }) => key?.type === "PrivateIdentifier").map(({ key }) => key.name);
+    return new Map([...new Set(names)].map((name) => [name, fresh.next().value]));
+  }
+
+  // Classes are numbered by where their bodies begin.
+  privateTables() {
+    const inOrder = this.classes.toSorted((one, other) => one.start - other.start);
+    return inOrder.map(({ privates }) => Object.fromEntries(privates));
+  }
+}
+
+// The new names of private ones by the classes round a scope, from the innermost outwards.
+function tablesRound(scope) {
+  if (!scope) return [];
+  return [...(scope.privates ? [scope.privates] : []), ...tablesRound(scope.outer)];
+}
+
+function newPrivateName(name, scope) {
+  return tablesRound(scope).find((table) => table.has(name))?.get(name) ?? name;
+}
+
+// The names that a pattern binds.
+function boundIn(pattern) {
+  switch (pattern?.type) {
+    case "Identifier":
+      return [pattern];
+    case "ObjectPattern":
+      return pattern.properties.flatMap((property) => boundIn(property.value ?? property));
+    case "ArrayPattern":
+      return pattern.elements.flatMap(boundIn);
+    case "AssignmentPattern":
+      return boundIn(pattern.left);
+    case "RestElement":
+      return boundIn(pattern.argument);
+    default:
+      return [];
+  }
+}
+
+function namesOf({ declarations }) {
+  return declarations.flatMap(({ id }) => boundIn(id));
 }
 
 // The names that a statement declares in the block that it stands in.
 function declaredBy(node) {
-  if (node.type === "FunctionDeclaration") return [node.id];
-  return node.type === "VariableDeclaration" && node.kind !== "var" ? node.declarations.map(({ id }) => id) : [];
+  if (node.type === "FunctionDeclaration" || node.type === "ClassDeclaration") return [node.id];
+  return node.type === "VariableDeclaration" && node.kind !== "var" ? namesOf(node) : [];
 }
 
-// The names that it declares by `var`, in whatever block within it, but in no function.
+// The names that it declares by `var`, in whatever block within it, but in no function and no static block.
 function variablesIn(node) {
-  if (typeof node?.type !== "string" || /Function/.test(node.type)) return [];
-  const own = node.type === "VariableDeclaration" && node.kind === "var" ? node.declarations.map(({ id }) => id) : [];
+  if (typeof node?.type !== "string" || /Function|StaticBlock/.test(node.type)) return [];
+  const own = node.type === "VariableDeclaration" && node.kind === "var" ? namesOf(node) : [];
   return [...own, ...Object.values(node).flat().flatMap(variablesIn)];
-}
-
-function isName(node) {
-  return node.type === "Identifier";
 }

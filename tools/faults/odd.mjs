@@ -42,7 +42,7 @@ export const DIGITS = [
 ];
 
 export const TYPES = [
-  ...["", "Programme", "program", "Program ", "ClassBody", "FunctionBody", "File", "Property", "Expression", "null"],
+  ...["", "Programme", "program", "Program ", "WithStatement", "FunctionBody", "File", "Property", "Expression", "null"],
   ...["constructor", "__proto__", "toString"],
 ];
 

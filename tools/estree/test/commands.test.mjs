@@ -44,10 +44,10 @@ test("a word that is unknown, and a file that isn't there, are one line and the 
 });
 
 test("what isn't read is refused by print with its place", () => {
-  withFile("a;\nclass A {}\n", (file) => {
+  withFile("a;\nimport \"b\";\n", (file) => {
     const { status, out, err } = ran("print", [file]);
     assert.deepEqual([status, out], [1, ""]);
-    assert.match(err, /^ClassDeclaration in line 2, column 1 is not read yet\n/);
+    assert.match(err, /^ImportDeclaration in line 2, column 1 is not read yet\n/);
   });
 });
 
@@ -78,7 +78,7 @@ function tripOf(source, printed) {
 }
 
 test("roundtrip tells file, line and what differs", () => {
-  const source = "class A {}\nf();\ng(1);\n";
+  const source = "export {};\nf();\ng(1);\n";
   const other = tripOf(source, "f();\ng(\n  2);");
   assert.equal(other.status, 1);
   assert.ok(other.err.includes(`${other.file}:3: pretty: `), other.err);

@@ -95,10 +95,10 @@ test("parentheses are rows where the tree has them, but for those of a target", 
 });
 
 test("what isn't read yet is named with its place", () => {
-  const source = "a;\n  class b {}";
+  const source = "a;\n  import \"b\";";
   assert.throws(() => jobOf(parsed(source), { source }), {
     name: "NotRead",
-    message: "ClassDeclaration in line 2, column 3 is not read yet",
+    message: "ImportDeclaration in line 2, column 3 is not read yet",
   });
 });
 
@@ -170,12 +170,12 @@ const NOT_READ_YET = [
   ["function* f() {}", "generator of Function in line 1, column 1 is not read yet"],
   ["f({ async g() {} })", "is_async of Function in line 1, column 12 is not read yet"],
   ["for await (a of b) c", "is_await of ForOfStatement in line 1, column 1 is not read yet"],
-  ["for ([a] of b) c", "ArrayPattern in line 1, column 6 is not read yet"],
-  ["try {} catch ({ a }) {}", "ObjectPattern in line 1, column 15 is not read yet"],
-  ["f(({ a }) => a)", "ObjectPattern in line 1, column 4 is not read yet"],
-  ["f(([a] = b) => a)", "ArrayPattern in line 1, column 4 is not read yet"],
-  ["f((...[a]) => a)", "ArrayPattern in line 1, column 7 is not read yet"],
-  ["f((a = class {}) => a)", "ClassExpression in line 1, column 8 is not read yet"],
+  ["f((a = `${b}`) => a)", "TemplateLiteral in line 1, column 8 is not read yet"],
+  ["let { a = /b/ } = c", "RegExpLiteral in line 1, column 11 is not read yet"],
+  ["class A { async b() {} }", "is_async of Function in line 1, column 18 is not read yet"],
+  ["class A { *b() {} }", "generator of Function in line 1, column 13 is not read yet"],
+  ["export class A {}", "ExportNamedDeclaration in line 1, column 1 is not read yet"],
+  ["await a", "AwaitExpression in line 1, column 1 is not read yet"],
 ];
 
 for (const [source, message] of NOT_READ_YET) {

@@ -30,6 +30,12 @@ const SAME = [
   ["switch (a) { case (b): c }", "switch ((a)) { case b: c; }"],
   ["try { (a) } catch (b) { } finally { c }", "try { a; } catch (b) {} finally { c; }"],
   ["throw (a)", "throw a;"],
+  ["let { a: a, b: b = (1), ...c } = d", "let { a, b = 1, ...c } = d"],
+  ["({ a: (a), b: b = 1, c: [(d)] } = e)", "({ a, b = 1, c: [d] } = e)"],
+  ["({ __proto__: __proto__ } = a)", "({ __proto__ } = a)"],
+  ["let { __proto__: __proto__ } = a", "let { __proto__ } = a"],
+  ["class A extends (B) { ; a() { (b) } ; #c = (1); }", "class A extends B { a() { b } #c = 1 }"],
+  ["(class {})", "(class { })"],
 ];
 
 const OTHER = [
@@ -61,6 +67,23 @@ const OTHER = [
   ["switch (a) { case b: case c: d }", "switch (a) { case b: d; case c: }"],
   ["try {} catch (a) {}", "try {} catch {}"],
   ["try {} catch { a }", "try {} finally { a }"],
+  ["let { a } = b", "let { 'a': a } = b"],
+  ["let { ['a']: b } = c", "let { 'a': b } = c"],
+  ["let [a,,] = b", "let [a] = b"],
+  ["let [...a] = b", "let [a] = b"],
+  ["let { a = 1 } = b", "let { a } = b"],
+  ["[{ a }] = b", "[{ a }]"],
+  ["class A {}", "(class A {})"],
+  ["class A { a() {} }", "class A { a = function () {} }"],
+  ["class A { a() {} }", "class A { static a() {} }"],
+  ["class A { get a() {} }", "class A { a() {} }"],
+  ["class A { #a }", "class A { #b }"],
+  ["class A { #a; b = this.#a }", "class A { #a; b = this.a }"],
+  ["class A { #a; b = #a in c }", "class A { #a; b = a in c }"],
+  ["class A { a }", "class A { ['a'] }"],
+  ["class A { static {} }", "class A { static() {} }"],
+  ["class A extends a {}", "class A {}"],
+  ["import.meta", "import_.meta"],
 ];
 
 for (const [one, other] of SAME) {

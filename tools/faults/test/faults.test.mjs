@@ -71,6 +71,34 @@ test("the fields of a type are in order, with their sets and words", () => {
   assert.deepEqual([name.isNeeded, reference.isNeeded, reference.kind], [true, false, "number"]);
 });
 
+// Why a test is left out: false where the table has all these types.
+function unknown(...types) {
+  return !types.every((type) => format.types.has(type)) && `the table has no ${types.find((type) => !format.types.has(type))}`;
+}
+
+test("sets in sets are gone into, and lists of them have holes", { skip: unknown("ArrayAssignmentTarget", "ObjectPattern") }, () => {
+  const typesOf = (type, name) => format.types.get(type).find((field) => field.name === name).types;
+  const [elements, rest] = format.types.get("ArrayAssignmentTarget");
+  assert.ok(elements.isList && elements.hasHoles && !rest.isList && !rest.isNeeded);
+  const members = ["IdentifierReference", "ObjectAssignmentTarget", "AssignmentTargetWithDefault"];
+  for (const type of members) assert.ok(elements.types.has(type), type);
+  assert.deepEqual([...rest.types], ["AssignmentTargetRest"]);
+  const heads = typesOf("ForOfStatement", "left");
+  assert.ok(heads.has("VariableDeclaration") && heads.has("ArrayAssignmentTarget") && !heads.has("AssignmentTargetWithDefault"));
+  assert.ok(!typesOf("UpdateExpression", "argument").has("ArrayAssignmentTarget"));
+  assert.ok(typesOf("FormalParameter", "pattern").has("ObjectPattern"));
+});
+
+test("members of a class are of a set of their own", { skip: unknown("ClassBody", "PrivateIdentifier") }, () => {
+  const [body] = format.types.get("ClassBody");
+  assert.deepEqual([...body.types].sort(), ["MethodDefinition", "PropertyDefinition", "StaticBlock"]);
+  const fields = format.types.get("MethodDefinition").filter(({ isUnread }) => !isUnread);
+  const numbers = [["kind", 3], ["key", 4], ["value", 5], ["computed", 7], ["is_static", 8]];
+  assert.deepEqual(fields.map(({ name, number }) => [name, number]), numbers);
+  const keys = fields[1].types;
+  assert.ok(keys.has("PrivateIdentifier") && keys.has("IdentifierName") && keys.has("Class"));
+});
+
 // Of jobs whose one row is the program.
 const HEADS = [
   ['"symbols":[],"references":[],"private":[]', null],

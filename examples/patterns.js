@@ -1,0 +1,1 @@
+const{name,size:[width,height=width]=[],...others}=shape;const area=([first,second]=others.sides,{unit:{length}})=>first*second*length;let count;({count,width:others.width=1,["area"]:others.area,...others.left}=area);[count,,...others.right]=list;
