@@ -362,7 +362,7 @@ class Rows {
   }
 
   literal(node) {
-    if (node.regex) return this.refuse("RegExpLiteral", node);
+    if (node.regex) return this.add("RegExpLiteral", node, { pattern: node.regex.pattern, flags: node.regex.flags });
     if (typeof node.bigint === "string" || typeof node.value === "bigint") {
       return this.add("BigIntLiteral", node, { value: BigInt(node.bigint ?? node.value).toString() });
     }

@@ -233,6 +233,14 @@ may_be_key false key = is_literal_key (type_of key) && not (is_negative_big_inte
 abbrev pub key_faults : Bool → Tree → List TreeFault
 key_faults computed key = fault_if (not (may_be_key computed key)) (faults.Place (span_of key).start)
 
+-- a key of a pattern is one of a property, and no negative number where it isn't computed
+abbrev pub may_be_pattern_key : Bool → Tree → Bool
+may_be_pattern_key true key = is_expression (type_of key)
+may_be_pattern_key false key = may_be_key false key && not (is_negative_number key)
+
+abbrev pub pattern_key_faults : Bool → Tree → List TreeFault
+pattern_key_faults computed key = fault_if (not (may_be_pattern_key computed key)) (faults.Place (span_of key).start)
+
 -- A key of a class's member may be a private name too, and is no negative number, where it isn't computed (ECMA-262, 15.7)
 abbrev pub is_private : NodeType → Bool
 is_private types.PrivateIdentifier = true
@@ -240,7 +248,7 @@ is_private type = false
 
 abbrev pub may_be_member_key : Bool → Tree → Bool
 may_be_member_key true key = is_expression (type_of key)
-may_be_member_key false key = is_private (type_of key) || (may_be_key false key && not (is_negative_number key))
+may_be_member_key false key = is_private (type_of key) || may_be_pattern_key false key
 
 abbrev pub member_key_faults : Bool → Tree → List TreeFault
 member_key_faults computed key = fault_if (not (may_be_member_key computed key)) (faults.Place (span_of key).start)
@@ -473,11 +481,11 @@ own_faults around (tree.property_definition a key value) = member_key_faults (pr
 own_faults around (tree.return_statement a argument) = return_faults around.in_function a.span
 own_faults around (tree.sequence a expressions) = sequence_faults a.span expressions
 own_faults around (tree.object_pattern a properties rest) = rest_faults rest
-own_faults around (tree.binding_property a key value) = key_faults (binding_property_computed a) key
+own_faults around (tree.binding_property a key value) = pattern_key_faults (binding_property_computed a) key
 own_faults around (tree.object_target a properties rest) = object_rest_faults rest
 own_faults around (tree.target_with_default a binding init) = target_faults binding
 own_faults around (tree.target_property_identifier a binding init) = shorthand_name_faults binding
-own_faults around (tree.target_property a key binding) = key_faults (assignment_target_property_property_computed a) key
+own_faults around (tree.target_property a key binding) = pattern_key_faults (assignment_target_property_property_computed a) key
 own_faults around (tree.target_rest a target) = target_faults target
 own_faults around t = []
 

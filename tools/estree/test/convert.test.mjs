@@ -171,7 +171,7 @@ const NOT_READ_YET = [
   ["f({ async g() {} })", "is_async of Function in line 1, column 12 is not read yet"],
   ["for await (a of b) c", "is_await of ForOfStatement in line 1, column 1 is not read yet"],
   ["f((a = `${b}`) => a)", "TemplateLiteral in line 1, column 8 is not read yet"],
-  ["let { a = /b/ } = c", "RegExpLiteral in line 1, column 11 is not read yet"],
+  ["let { a = `b` } = c", "TemplateLiteral in line 1, column 11 is not read yet"],
   ["class A { async b() {} }", "is_async of Function in line 1, column 18 is not read yet"],
   ["class A { *b() {} }", "generator of Function in line 1, column 13 is not read yet"],
   ["export class A {}", "ExportNamedDeclaration in line 1, column 1 is not read yet"],

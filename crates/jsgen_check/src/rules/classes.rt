@@ -9,7 +9,7 @@ ghost use Rattle.jsgen_model.specs.declared.fault.TreeFault.TheVariants as fault
 ghost use Rattle.jsgen_rules.specs.Verdict.{verdict};
 ghost use Rattle.jsgen_check.specs.Verdict.{surroundings_plain};
 
-use crate::rules::keys::{is_negative_number_key, key_start, key_type, may_be_key};
+use crate::rules::keys::{key_start, key_type, may_be_pattern_key};
 use crate::{CheckNode, Surroundings};
 use jsgen_model::TreeFault;
 use jsgen_rules::{as_property, check_class, check_private_name, fits_accessor, is_private};
@@ -46,7 +46,7 @@ fn may_be_member_key<N: CheckNode>(computed: bool, key: &PropertyKey<N>) -> bool
     if computed {
         key_type(key).is_expression()
     } else {
-        is_private(key_type(key)) || (may_be_key(false, key) && !is_negative_number_key(key))
+        is_private(key_type(key)) || may_be_pattern_key(false, key)
     }
 }
 

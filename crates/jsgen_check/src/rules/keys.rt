@@ -9,7 +9,7 @@ ghost use Rattle.jsgen_tree.specs.Inside.{without_parentheses, looked_up_in, wri
 ghost use Rattle.jsgen_tree.specs.Rows.{object_property_row, in_property_key, in_expression};
 ghost use Rattle.jsgen_tree.specs.Scoping.{tables_plain};
 ghost use Rattle.jsgen_tree.specs.Sets.{is_expression};
-ghost use Rattle.jsgen_model.specs.Valid.{own_faults, fault_if, may_be_key, key_faults, method_faults, named_faults, shorthand_faults, is_literal_key};
+ghost use Rattle.jsgen_model.specs.Valid.{own_faults, fault_if, may_be_key, key_faults, may_be_pattern_key, pattern_key_faults, method_faults, named_faults, shorthand_faults, is_literal_key};
 ghost use Rattle.jsgen_model.specs.declared.fault.TreeFault.TheVariants.{Name, Place};
 ghost use Rattle.jsgen_rules.specs.Verdict.{verdict};
 ghost use Rattle.jsgen_check.specs.Keys.{is_number, is_big_integer};
@@ -122,6 +122,32 @@ pub fn check_key<N: CheckNode>(computed: bool, key: &PropertyKey<N>) -> Result<(
     ensures { result ≡ verdict (key_faults computed (in_property_key N.plain key.now)) }
 {
     if may_be_key(computed, key) {
+        Ok(())
+    } else {
+        Err(TreeFault::Place {
+            start: key_start(key),
+        })
+    }
+}
+
+/// Whether it is a key of a pattern: one of a property, and no negative number where it isn't computed.
+pub fn may_be_pattern_key<N: CheckNode>(computed: bool, key: &PropertyKey<N>) -> bool
+    ensures { result ≡ may_be_pattern_key computed (in_property_key N.plain key.now) }
+{
+    if computed {
+        key_type(key).is_expression()
+    } else {
+        may_be_key(false, key) && !is_negative_number_key(key)
+    }
+}
+
+pub fn check_pattern_key<N: CheckNode>(
+    computed: bool,
+    key: &PropertyKey<N>,
+) -> Result<(), TreeFault>
+    ensures { result ≡ verdict (pattern_key_faults computed (in_property_key N.plain key.now)) }
+{
+    if may_be_pattern_key(computed, key) {
         Ok(())
     } else {
         Err(TreeFault::Place {

@@ -10,7 +10,7 @@ ghost use Rattle.jsgen_model.specs.declared.fault.TreeFault.TheVariants as fault
 ghost use Rattle.jsgen_rules.specs.Verdict.{verdict};
 ghost use Rattle.jsgen_check.specs.Verdict.{surroundings_plain};
 
-use crate::rules::keys::check_key;
+use crate::rules::keys::check_pattern_key;
 use crate::{CheckNode, Surroundings};
 use jsgen_model::TreeFault;
 use jsgen_rules::is_binding_name;
@@ -59,7 +59,7 @@ pub fn check_binding_property_rules<N: CheckNode>(
     ensures { result ≡ verdict (own_faults (surroundings_plain around.now) (binding_property_row N.plain node.now)) }
 {
     let _ = around;
-    check_key(node.computed, &node.key)
+    check_pattern_key(node.computed, &node.key)
 }
 
 // ---- patterns without a value

@@ -9,7 +9,7 @@ ghost use Rattle.jsgen_model.specs.declared.fault.TreeFault.TheVariants as fault
 ghost use Rattle.jsgen_rules.specs.Verdict.{verdict};
 ghost use Rattle.jsgen_check.specs.Verdict.{surroundings_plain};
 
-use crate::rules::keys::check_key;
+use crate::rules::keys::check_pattern_key;
 use crate::{CheckNode, Surroundings};
 use jsgen_model::TreeFault;
 use jsgen_rules::{assigns_alone, check_no_optional_link, check_written_name, is_target_pattern};
@@ -104,7 +104,7 @@ pub fn check_assignment_target_property_property_rules<N: CheckNode>(
     ensures { result ≡ verdict (own_faults (surroundings_plain around.now) (assignment_target_property_property_row N.plain node.now)) }
 {
     let _ = around;
-    check_key(node.computed, &node.name)
+    check_pattern_key(node.computed, &node.name)
 }
 
 #[tactic(auto)]
