@@ -77,7 +77,10 @@ nothing_said : {a b : Printer} (minified said : Bool) (key : Items) → said ≡
 nothing_said true said key e h = rw e at h
 nothing_said false said key e h = h
 
-pub before_target_laid : {a b : Printer} (minified said : Bool) (name : Option (List ℕ)) (target : Option Named) (key : Items) → minified ≡ (pen_of a).style.minified → said ≡ is_key_said (pen_of a).style.tables name target → Lays a b (if minified && said then nothing else key) → Lays a b (before_target name target key)
-before_target_laid minified said None target key m e h = nothing_said minified said key e h
-before_target_laid minified said (Some w) None key m e h = nothing_said minified said key e h
-before_target_laid minified said (Some w) (Some n) key m e h = left_out minified said w n key m e h
+before_target_by : {a b : Printer} (minified said : Bool) (name : Option (List ℕ)) (target : Option Named) (key : Items) → minified ≡ (pen_of a).style.minified → said ≡ is_key_said (pen_of a).style.tables name target → Lays a b (if minified && said then nothing else key) → Lays a b (before_target name target key)
+before_target_by minified said None target key m e h = nothing_said minified said key e h
+before_target_by minified said (Some w) None key m e h = nothing_said minified said key e h
+before_target_by minified said (Some w) (Some n) key m e h = left_out minified said w n key m e h
+
+pub before_target_laid : {a b : Printer} (left_out : Bool) (name : Option (List ℕ)) (target : Option Named) (key : Items) → left_out ≡ ((pen_of a).style.minified && is_key_said (pen_of a).style.tables name target) → Lays a b (if left_out then nothing else key) → Lays a b (before_target name target key)
+before_target_laid {a} left_out name target key e h = before_target_by (pen_of a).style.minified (is_key_said (pen_of a).style.tables name target) name target key refl refl (rw e at h)

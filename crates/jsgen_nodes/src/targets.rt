@@ -1,5 +1,5 @@
 // Patterns that are given values (ECMA-262, 13.15.5), one function for each row.
-ghost use Rattle.std.specs.Prelude.{◌≡◌, option_map};
+ghost use Rattle.std.specs.Prelude.{◌≡◌, ◌&&◌, option_map};
 ghost use Rattle.std.specs.Str.{chars};
 ghost use Rattle.jsgen_tree.specs.Characters.{characters};
 ghost use Rattle.jsgen_tree.specs.Inside.{looked_up_in, written_name_in};
@@ -183,14 +183,21 @@ fn print_before_target<N: PrintNode>(
 )
     ensures { Lays p.old p.new (before_target (written_name_in (in_property_key N.plain node.now.name)) (target_named (in_assignment_target_maybe_default N.plain node.now.binding)) (key_of node.now.computed (in_property_key N.plain node.now.name) ⊕ (punctuator colon ⊕ soft_space))) }
 {
-    let minified = p.is_minified();
-    let said = is_key_said(node, p);
-    if minified && said {
+    if is_key_left_out(node, p) {
         return;
     }
     print_key(&node.name, node.computed, p);
     p.print_colon();
     p.print_soft_space();
+}
+
+fn is_key_left_out<N: PrintNode>(
+    node: &AssignmentTargetPropertyProperty<N>,
+    p: &Printer<'_>,
+) -> bool
+    ensures { result ≡ ((pen_of p.now).style.minified && is_key_said (pen_of p.now).style.tables (written_name_in (in_property_key N.plain node.now.name)) (target_named (in_assignment_target_maybe_default N.plain node.now.binding))) }
+{
+    p.is_minified() && is_key_said(node, p)
 }
 
 // Whether the key is a name, and the target is printed as it is written.

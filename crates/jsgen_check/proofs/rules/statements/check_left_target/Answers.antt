@@ -3,4 +3,4 @@ use Rattle.jsgen_check.proofs.Heads.{left_misfit}
 use Rattle.jsgen_check.proofs.rules.statements.check_left_target.Goals as goal
 
 pub returns : goal.returns
-returns g c = rw sym (left_misfit (g.N.CheckNode.plain c.args.target.now)) (rw (c.misfits_left.ensures, c.start.ensures) at c.check_no_optional_link.ensures)
+returns g c = rw (sym (left_misfit (g.N.CheckNode.plain c.args.target.now))) (rw (c.misfits_left.ensures, c.start.ensures) at c.check_no_optional_link.ensures)
