@@ -11,7 +11,7 @@ use jsgen_classes::{
     print_private_identifier, print_private_in_expression, print_property_definition,
     print_static_block,
 };
-use jsgen_nodes::{Inside, PrintNode};
+use jsgen_nodes::{InClass, Inside, PrintNode};
 use jsgen_place::{Context, Place};
 use jsgen_printer::Printer;
 use jsgen_syntax::Precedence;
@@ -64,7 +64,7 @@ impl<N: PrintNode> PrintAlone for StaticBlock<N> {
     ghost alone = { λ n context. spell (static_block_row N.plain n) (at_level Lowest context) };
 
     fn print_alone(&self, p: &mut Printer<'_>, context: Context) {
-        print_static_block::<_, Inside>(self, p, Place::at_level(Precedence::Lowest, context));
+        print_static_block::<_, InClass>(self, p, Place::at_level(Precedence::Lowest, context));
     }
 }
 
@@ -72,7 +72,11 @@ impl<N: PrintNode> PrintAlone for MethodDefinition<N> {
     ghost alone = { λ n context. spell (method_definition_row N.plain n) (at_level Lowest context) };
 
     fn print_alone(&self, p: &mut Printer<'_>, context: Context) {
-        print_method_definition::<_, Inside>(self, p, Place::at_level(Precedence::Lowest, context));
+        print_method_definition::<_, InClass>(
+            self,
+            p,
+            Place::at_level(Precedence::Lowest, context),
+        );
     }
 }
 
@@ -80,7 +84,7 @@ impl<N: PrintNode> PrintAlone for PropertyDefinition<N> {
     ghost alone = { λ n context. spell (property_definition_row N.plain n) (at_level Lowest context) };
 
     fn print_alone(&self, p: &mut Printer<'_>, context: Context) {
-        print_property_definition::<_, Inside>(
+        print_property_definition::<_, InClass>(
             self,
             p,
             Place::at_level(Precedence::Lowest, context),

@@ -1,4 +1,5 @@
 // Members of classes by themselves.
+ghost use Rattle.std.specs.Prelude.{◌≡◌};
 ghost use Rattle.jsgen_tree.specs.Tree.{type_of};
 ghost use Rattle.jsgen_tree.specs.Rows.{class_element_plain};
 ghost use Rattle.jsgen_model.specs.Items.{◌⊕◌};

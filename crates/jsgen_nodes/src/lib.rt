@@ -29,7 +29,7 @@ ghost use Rattle.jsgen_questions.specs.Names.{is_binding_name};
 ghost use Rattle.jsgen_questions.specs.Operands.{operand_of};
 
 use functions::print_behind_name;
-pub use inside::Inside;
+pub use inside::{InClass, Inside};
 use jsgen_place::Place;
 use jsgen_printer::Printer;
 use jsgen_questions::{

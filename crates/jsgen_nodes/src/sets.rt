@@ -22,7 +22,7 @@ use crate::operations::{print_new_expression, print_update_expression};
 use crate::patterns::{print_array_pattern, print_object_pattern};
 use crate::statements::{print_block_statement, print_if_statement};
 use crate::targets::{print_array_assignment_target, print_object_assignment_target};
-use crate::{Inside, PrintNode};
+use crate::{InClass, Inside, PrintNode};
 use jsgen_classes::{
     print_class, print_method_definition, print_private_field_expression,
     print_private_in_expression, print_property_definition, print_static_block,
@@ -350,11 +350,11 @@ pub fn print_class_element<N: PrintNode>(node: &ClassElement<N>, p: &mut Printer
     ensures { Lays p.old p.new (spell (class_element_plain N.plain node.now) place) }
 {
     match node {
-        ClassElement::StaticBlock(node) => print_static_block::<_, Inside>(node, p, place),
-        ClassElement::MethodDefinition(node) => print_method_definition::<_, Inside>(
+        ClassElement::StaticBlock(node) => print_static_block::<_, InClass>(node, p, place),
+        ClassElement::MethodDefinition(node) => print_method_definition::<_, InClass>(
             node, p, place,
         ),
-        ClassElement::PropertyDefinition(node) => print_property_definition::<_, Inside>(
+        ClassElement::PropertyDefinition(node) => print_property_definition::<_, InClass>(
             node, p, place,
         ),
     }

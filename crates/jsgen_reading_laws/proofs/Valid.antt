@@ -186,6 +186,7 @@ mutual
       let g : StandsAt sets.Expression o → IsExpression around.tables c o = λ y. expression_valid c around o p.1.0 y k.1 in
       let v : AreArguments around.tables c es = arguments_valid c around es p.0 p.1.1.0 j.0 in
       link_kind (call_expression_optional a) o i h.0 (λ q r. family.an_optional_call q (base_valid c o k.0 r f g) v) (λ q r. family.a_further_call q (f r) v)
+  chain_valid c around (tree.private_member a o n) p e i = absurd (no_truth p.0)
   chain_valid c around t p e i = absurd (no_truth i)
 
   arguments_valid : (c : Allowed) (around : Surroundings) (es : Trees) → has_no_hole es ≡ true → EverywhereInTrees is_plain_row es → in_trees around (place_of sets.Argument around ∷ []) es ≡ [] → AreArguments around.tables c es

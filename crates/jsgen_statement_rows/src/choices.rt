@@ -9,11 +9,17 @@ ghost use Rattle.jsgen_fields.specs.Parts.{is_in_choices};
 ghost use Rattle.jsgen_tree.specs.declared.types.NodeType.TheVariants as types;
 
 use jsgen_fields::InputFault;
-use jsgen_fields::asked::{HoldsBindingPattern, HoldsDeclaration, HoldsExpression, HoldsStatement, PlainNode, ReadNode, RowOf};
+use jsgen_fields::asked::{
+    HoldsBindingPattern, HoldsDeclaration, HoldsExpression, HoldsStatement, PlainNode, ReadNode,
+    RowOf,
+};
 use jsgen_fields::fields::boxed;
 use jsgen_fields::kept::{row_of_catch_clause, row_of_statement, row_of_switch_case};
 use jsgen_fields::others::OtherStatement;
-use jsgen_fields::set_fields::{needed_block_statement, needed_expression, optional_binding_pattern, optional_block_statement, optional_catch_clause, optional_expression, statement_list, switch_case_list};
+use jsgen_fields::set_fields::{
+    needed_block_statement, needed_expression, optional_binding_pattern, optional_block_statement,
+    optional_catch_clause, optional_expression, statement_list, switch_case_list,
+};
 use jsgen_fields::values::field_not_given;
 use jsgen_pool::Kept;
 use jsgen_syntax::Span;
@@ -32,7 +38,14 @@ fn read_switch_statement<N: HoldsExpression + Drop, R: RowOf<N> + Drop>(
     ensures { Gives R.plain result (entries R.plain kept.new.items)
         (read_node number types.SwitchStatement switch_statement_fields span (view row.now) (entries R.plain kept.old.items)) }
 {
-    let discriminant = match needed_expression::<N, R>(alloc, kept, number, 2, row, "discriminant") {
+    let discriminant = match needed_expression::<N, R>(
+        alloc,
+        kept,
+        number,
+        2,
+        row,
+        "discriminant",
+    ) {
         Ok(discriminant) => discriminant,
         Err(fault) => return Err(fault),
     };
@@ -40,15 +53,27 @@ fn read_switch_statement<N: HoldsExpression + Drop, R: RowOf<N> + Drop>(
         Ok(cases) => cases,
         Err(fault) => return Err(fault),
     };
-    let node = SwitchStatement { span, discriminant, cases };
+    let node = SwitchStatement {
+        span,
+        discriminant,
+        cases,
+    };
     match boxed(alloc, node) {
-        Ok(node) => row_of_statement::<N, R>(alloc, OtherStatement { statement: Statement::SwitchStatement(node) }),
+        Ok(node) => row_of_statement::<N, R>(
+            alloc,
+            OtherStatement {
+                statement: Statement::SwitchStatement(node),
+            },
+        ),
         Err(fault) => Err(fault),
     }
 }
 
 #[tactic(auto, unfolding(jsgen_fields::specs::Reads::read_node))]
-fn read_switch_case<N: HoldsExpression + HoldsDeclaration + HoldsStatement + Drop, R: RowOf<N> + Drop>(
+fn read_switch_case<
+    N: HoldsExpression + HoldsDeclaration + HoldsStatement + Drop,
+    R: RowOf<N> + Drop,
+>(
     alloc: Global,
     kept: &mut Vec<Kept<R>>,
     number: usize,
@@ -66,7 +91,11 @@ fn read_switch_case<N: HoldsExpression + HoldsDeclaration + HoldsStatement + Dro
         Ok(consequent) => consequent,
         Err(fault) => return Err(fault),
     };
-    let node = SwitchCase { span, test, consequent };
+    let node = SwitchCase {
+        span,
+        test,
+        consequent,
+    };
     match boxed(alloc, node) {
         Ok(node) => Ok(row_of_switch_case::<N, R>(node)),
         Err(fault) => Err(fault),
@@ -92,13 +121,30 @@ fn read_try_statement<N: PlainNode + Drop, R: RowOf<N> + Drop>(
         Ok(handler) => handler,
         Err(fault) => return Err(fault),
     };
-    let finalizer = match optional_block_statement::<N, R>(alloc, kept, number, 4, row, "finalizer") {
+    let finalizer = match optional_block_statement::<N, R>(
+        alloc,
+        kept,
+        number,
+        4,
+        row,
+        "finalizer",
+    ) {
         Ok(finalizer) => finalizer,
         Err(fault) => return Err(fault),
     };
-    let node = TryStatement { span, block, handler, finalizer };
+    let node = TryStatement {
+        span,
+        block,
+        handler,
+        finalizer,
+    };
     match boxed(alloc, node) {
-        Ok(node) => row_of_statement::<N, R>(alloc, OtherStatement { statement: Statement::TryStatement(node) }),
+        Ok(node) => row_of_statement::<N, R>(
+            alloc,
+            OtherStatement {
+                statement: Statement::TryStatement(node),
+            },
+        ),
         Err(fault) => Err(fault),
     }
 }

@@ -1,11 +1,9 @@
 // Classes, their members, and private names.
 #![tactic(auto, unfolding(jsgen_rules::specs::Verdict::verdict))]
 
-ghost use Rattle.std.specs.Prelude.{◌≡◌, not};
-ghost use Rattle.jsgen_tree.specs.Tree.{span_of};
+ghost use Rattle.std.specs.Prelude.{◌≡◌};
 ghost use Rattle.jsgen_tree.specs.Rows.{class_row, function_row, in_property_key, method_definition_row, private_identifier_row, property_definition_row};
-ghost use Rattle.jsgen_model.specs.Valid.{own_faults, fault_if, fits_method, may_be_member_key, member_key_faults, class_method_faults};
-ghost use Rattle.jsgen_model.specs.declared.fault.TreeFault.TheVariants as faults;
+ghost use Rattle.jsgen_model.specs.Valid.{own_faults, fits_method, may_be_member_key, member_key_faults, class_method_faults};
 ghost use Rattle.jsgen_rules.specs.Verdict.{verdict};
 ghost use Rattle.jsgen_check.specs.Verdict.{surroundings_plain};
 

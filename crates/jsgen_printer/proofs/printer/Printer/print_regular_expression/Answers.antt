@@ -16,6 +16,6 @@ returns c =
     let apart = space_if c.joins_pattern-apart.result in
     let whole = between_slashes c.joins_pattern-apart.result (pen_of c.args.self.now).style.ascii pattern flags slash (ascii_chars (codes "/") refl) in
     goes_laid _ (ap (λ text. written text regular_expression_end (pen_of c.args.self.now)) (whole ∙ ap (λ test. space_if test ++ regular_expression_text (pen_of c.args.self.now).style.ascii pattern flags) c.joins_pattern-apart.ensures))
-      (in_a_row (λ _. apart ++ slash) (λ style. pattern_text style.ascii pattern ++ (slash ++ flags)) c.print_apart.ensures
-      (in_a_row (λ style. pattern_text style.ascii pattern) (λ _. slash ++ flags) c.print_pattern.ensures
-      (in_a_row (λ _. slash) (λ _. flags) c.print_str.ensures c.print_str-2.ensures)))
+    (in_a_row (λ _. apart ++ slash) (λ style. pattern_text style.ascii pattern ++ (slash ++ flags)) c.print_apart.ensures
+    (in_a_row (λ style. pattern_text style.ascii pattern) (λ _. slash ++ flags) c.print_pattern.ensures
+    (in_a_row (λ _. slash) (λ _. flags) c.print_str.ensures c.print_str-2.ensures)))
