@@ -39,10 +39,7 @@ pub use links::{
     check_computed_member_expression_rules, check_private_field_expression_rules,
     check_static_member_expression_rules, check_update_expression_rules,
 };
-pub use patterns::{
-    binds_nothing, check_binding_property_rules, check_object_pattern_rules,
-    declaration_binds_nothing,
-};
+pub use patterns::{binds_nothing, check_binding_property_rules, check_object_pattern_rules};
 pub use statements::{
     check_do_while_statement_rules, check_for_in_statement_rules, check_for_of_statement_rules,
     check_for_statement_rules, check_if_statement_rules, check_labeled_statement_rules,

@@ -2,7 +2,7 @@
 #![tactic(auto, unfolding(jsgen_rules::specs::Verdict::verdict))]
 
 ghost use Rattle.std.specs.Prelude.{◌≡◌, not, ◌&&◌, map, option_map};
-ghost use Rattle.jsgen_tree.specs.Tree.{optional, trees, type_of, span_of};
+ghost use Rattle.jsgen_tree.specs.Tree.{Tree, optional, trees, type_of, span_of};
 ghost use Rattle.jsgen_tree.specs.Rows.{object_pattern_row, binding_property_row, binding_rest_element_row, variable_declarator_row, variable_declaration_row, in_for_statement_init};
 ghost use Rattle.jsgen_tree.specs.Plain.{node_plain};
 ghost use Rattle.jsgen_model.specs.Valid.{own_faults, fault_if, rest_faults, is_binding_name, lacks_value, any_lacks_value, binds_nothing, init_faults};
@@ -15,8 +15,8 @@ use crate::{CheckNode, Surroundings};
 use jsgen_model::TreeFault;
 use jsgen_rules::is_binding_name;
 use jsgen_tree::{
-    BindingProperty, BindingRestElement, Declaration, ForStatementInit, Node, ObjectPattern,
-    Statement, VariableDeclaration, VariableDeclarator,
+    BindingProperty, BindingRestElement, Declaration, ForStatementInit, Node, NodeType,
+    ObjectPattern, Statement, VariableDeclaration, VariableDeclarator,
 };
 
 /// What takes the rest of an object is a name.
@@ -64,34 +64,62 @@ pub fn check_binding_property_rules<N: CheckNode>(
 
 // ---- patterns without a value
 
-fn lacks_value<N: CheckNode>(declarator: &VariableDeclarator<N>) -> bool
-    ensures { result ≡ lacks_value (variable_declarator_row N.plain declarator.now) }
-{
-    match declarator.init {
-        Some(_) => false,
-        None => !is_binding_name(declarator.id.get().node_type()),
+/// What tells the type of a child: the knot's own checks ask a node, and the rules of a row any child.
+trait TypeOf<N> {
+    ghost plain: { N → Tree };
+
+    fn type_of(node: &N) -> NodeType
+        ensures { result ≡ type_of (plain node.now) };
+}
+
+struct OfChild;
+
+impl<N: CheckNode> TypeOf<N> for OfChild {
+    ghost plain = { N.plain };
+
+    fn type_of(node: &N) -> NodeType {
+        node.node_type()
     }
 }
 
-fn any_lacks_value<N: CheckNode>(declarators: &[VariableDeclarator<N>]) -> bool
-    ensures { result ≡ any_lacks_value (trees (map (variable_declarator_row N.plain) declarators.now)) }
+struct OfNode;
+
+impl TypeOf<Node> for OfNode {
+    ghost plain = { λ n. node_plain n };
+
+    fn type_of(node: &Node) -> NodeType {
+        node.node_type()
+    }
+}
+
+fn lacks_value<N, T: TypeOf<N>>(declarator: &VariableDeclarator<N>) -> bool
+    ensures { result ≡ lacks_value (variable_declarator_row T.plain declarator.now) }
+{
+    match declarator.init {
+        Some(_) => false,
+        None => !is_binding_name(T::type_of(declarator.id.get())),
+    }
+}
+
+fn any_lacks_value<N, T: TypeOf<N>>(declarators: &[VariableDeclarator<N>]) -> bool
+    ensures { result ≡ any_lacks_value (trees (map (variable_declarator_row T.plain) declarators.now)) }
 {
     for declarator in declarators {
-        if lacks_value(declarator) {
+        if lacks_value::<N, T>(declarator) {
             return true;
         }
     }
     false
 }
 
-/// Whether a declaration binds a pattern and gives it no value.
-pub fn declaration_binds_nothing<N: CheckNode>(node: &VariableDeclaration<N>) -> bool
-    ensures { result ≡ binds_nothing (variable_declaration_row N.plain node.now) }
+// Whether a declaration binds a pattern and gives it no value.
+fn declaration_binds_nothing<N, T: TypeOf<N>>(node: &VariableDeclaration<N>) -> bool
+    ensures { result ≡ binds_nothing (variable_declaration_row T.plain node.now) }
 {
-    any_lacks_value(&node.declarations)
+    any_lacks_value::<N, T>(&node.declarations)
 }
 
-/// Whether a node is a declaration that does so.
+/// Whether a node is a declaration that binds a pattern and gives it no value.
 #[cycle(binds_nothing)]
 pub fn binds_nothing(node: &Node) -> bool
     ensures { result ≡ binds_nothing (node_plain node.now) }
@@ -104,7 +132,9 @@ pub fn binds_nothing(node: &Node) -> bool
             _ => false,
         },
         Node::Declaration(declaration) => match declaration {
-            Declaration::VariableDeclaration(node) => declaration_binds_nothing(node),
+            Declaration::VariableDeclaration(node) => {
+                declaration_binds_nothing::<Node, OfNode>(node)
+            }
             Declaration::Function(_) | Declaration::Class(_) => false,
         },
         Node::BindingPattern(_) => false,
@@ -127,7 +157,7 @@ fn check_first<N: CheckNode>(init: &ForStatementInit<N>) -> Result<(), TreeFault
 {
     match init {
         ForStatementInit::VariableDeclaration(node) => {
-            if declaration_binds_nothing(node) {
+            if declaration_binds_nothing::<N, OfChild>(node) {
                 return Err(TreeFault::Place {
                     start: node.span.start,
                 });

@@ -12,7 +12,7 @@ pub returns-in_default : goal.returns-in_default
 returns-in_default t c = search (rules, plain_statement)
 
 pub returns-in-VariableDeclaration : goal.returns-in-VariableDeclaration
-returns-in-VariableDeclaration t c = rw (c.in-Declaration.is, plain_declaration c.in-Declaration.declaration, c.in-VariableDeclaration.is, ← c.deref.ensures) c.declaration_binds_nothing.ensures
+returns-in-VariableDeclaration t c = rw (c.in-Declaration.is, plain_declaration c.in-Declaration.declaration, c.in-VariableDeclaration.is, ← c.deref-in-VariableDeclaration.ensures) c.declaration_binds_nothing.ensures
 
 pub returns-in-Function : goal.returns-in-Function
 returns-in-Function t c = search (rules, plain_declaration)

@@ -3,10 +3,10 @@ use Rattle.jsgen_check.proofs.Bare.{found_there, next_left, all_passed}
 use Rattle.jsgen_check.proofs.rules.patterns.any_lacks_value.Goals as goal
 
 pub loop-declarator-preserved : goal.loop-declarator-preserved
-loop-declarator-preserved g c = next_left g.N.CheckNode.plain c.args.declarators.now c.loop-declarator.declarator-index c.declarator-item.result c.loop-declarator-test.true c.declarator-item.is (sym c.lacks_value.ensures ∙ c.if-lacks_value.false) c.loop-declarator.invariant
+loop-declarator-preserved g c = next_left g.T.TypeOf.plain c.args.declarators.now c.loop-declarator.declarator-index c.declarator-item.result c.loop-declarator-test.true c.declarator-item.is (sym c.lacks_value.ensures ∙ c.if-lacks_value.false) c.loop-declarator.invariant
 
 pub returns-then-lacks_value : goal.returns-then-lacks_value
-returns-then-lacks_value g c = found_there g.N.CheckNode.plain c.args.declarators.now c.loop-declarator.declarator-index c.declarator-item.result c.loop-declarator-test.true c.declarator-item.is (sym c.lacks_value.ensures ∙ c.if-lacks_value.true) c.loop-declarator.invariant
+returns-then-lacks_value g c = found_there g.T.TypeOf.plain c.args.declarators.now c.loop-declarator.declarator-index c.declarator-item.result c.loop-declarator-test.true c.declarator-item.is (sym c.lacks_value.ensures ∙ c.if-lacks_value.true) c.loop-declarator.invariant
 
 pub returns : goal.returns
-returns g c = all_passed g.N.CheckNode.plain c.args.declarators.now c.loop-declarator.declarator-index c.loop-declarator-test.false c.loop-declarator.invariant
+returns g c = all_passed g.T.TypeOf.plain c.args.declarators.now c.loop-declarator.declarator-index c.loop-declarator-test.false c.loop-declarator.invariant
