@@ -1,7 +1,7 @@
 mod Alone
 pub mod Cases
 pub mod Declarators
-pub mod Heads
+pub mod Misfits
 pub mod Numbers
 pub mod Programs
 pub mod Steps

@@ -1,6 +1,6 @@
 use Rattle.std.proofs.Common.{rules, sym}
 use Rattle.jsgen_tree.proofs.Knot.{plain_expression, plain_assignment_target, plain_statement, plain_declaration, plain_binding_pattern, plain_class_element}
-use Rattle.jsgen_check.proofs.Heads.{expression_misfit, target_misfit}
+use Rattle.jsgen_check.proofs.Misfits.{expression_misfit, target_misfit}
 use Rattle.jsgen_check.proofs.heads.+misfits_left.Goals as goal
 
 pub returns-in-Expression : goal.returns-in-Expression

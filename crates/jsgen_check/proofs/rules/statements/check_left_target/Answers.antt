@@ -1,5 +1,5 @@
 use Rattle.std.proofs.Common.{sym}
-use Rattle.jsgen_check.proofs.Heads.{left_misfit}
+use Rattle.jsgen_check.proofs.Misfits.{left_misfit}
 use Rattle.jsgen_check.proofs.rules.statements.check_left_target.Goals as goal
 
 pub returns : goal.returns
