@@ -9,6 +9,7 @@ mod expressions;
 mod functions;
 mod loops;
 mod operations;
+mod patterns;
 mod sets;
 mod statements;
 mod targets;
