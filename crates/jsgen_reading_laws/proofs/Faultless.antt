@@ -65,6 +65,7 @@ stands_at s t e =
 -- a function that may stand at the place is an expression there, if it may stand in an expression
 pub fits_expression : (s : NodeSet) (t : Tree) → stands_among s ≡ kinds.Expression → fits_kind s t ≡ true → fits_kind sets.Expression t ≡ true
 fits_expression s (tree.function a id ps body) e f = subst (λ k. same_kind (function_kind a) k ≡ true) e f
+fits_expression s (tree.variable_declaration a ds) e f = refl
 fits_expression s t e f = refl
 
 -- and so may the others
@@ -138,6 +139,7 @@ target_stands type h = absurd (no_truth h)
 
 pub target_fits : (t : Tree) → is_simple_assignment_target (type_of t) ≡ true → fits_kind sets.Expression t ≡ true
 target_fits (tree.function a id ps body) h = absurd (no_truth h)
+target_fits (tree.variable_declaration a ds) h = absurd (no_truth h)
 target_fits t h = refl
 
 -- what may be given a value may be changed as it stands
