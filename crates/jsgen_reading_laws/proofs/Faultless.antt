@@ -66,6 +66,7 @@ stands_at s t e =
 pub fits_expression : (s : NodeSet) (t : Tree) → stands_among s ≡ kinds.Expression → fits_kind s t ≡ true → fits_kind sets.Expression t ≡ true
 fits_expression s (tree.function a id ps body) e f = subst (λ k. same_kind (function_kind a) k ≡ true) e f
 fits_expression s (tree.class a id heritage body) e f = subst (λ k. same_kind (as_function_kind (class_kind a)) k ≡ true) e f
+fits_expression s (tree.variable_declaration a ds) e f = refl
 fits_expression s t e f = refl
 
 -- and so may the others
@@ -141,6 +142,7 @@ target_stands type h = absurd (no_truth h)
 pub target_fits : (t : Tree) → is_simple_assignment_target (type_of t) ≡ true → fits_kind sets.Expression t ≡ true
 target_fits (tree.function a id ps body) h = absurd (no_truth h)
 target_fits (tree.class a id heritage body) h = absurd (no_truth h)
+target_fits (tree.variable_declaration a ds) h = absurd (no_truth h)
 target_fits t h = refl
 
 -- what may be given a value may be changed as it stands, where a reading is promised of it
