@@ -142,6 +142,7 @@ target_fits t h = refl
 
 -- what may be given a value may be changed as it stands, where a reading is promised of it
 none_pattern : (t : Tree) → is_plain_row t ≡ true → is_assignment_target (type_of t) ≡ true → is_simple_assignment_target (type_of t) ≡ false → ⊥
+none_pattern (tree.array_target a elements rest) p s e = no_truth p
 none_pattern t p s e = search (no_truth, no_falsehood, no_truth_behind)
 
 pub target_is_simple : (t : Tree) → is_plain_row t ≡ true → is_assignment_target (type_of t) ≡ true → is_simple_assignment_target (type_of t) ≡ true
