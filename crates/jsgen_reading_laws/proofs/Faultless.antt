@@ -147,14 +147,18 @@ target_fits t h = refl
 
 -- what may be given a value may be changed as it stands, where a reading is promised of it
 none_pattern : (t : Tree) → is_plain_row t ≡ true → is_assignment_target (type_of t) ≡ true → is_simple_assignment_target (type_of t) ≡ false → ⊥
+none_pattern (tree.array_target a elements rest) p s e = no_truth p
 none_pattern t p s e = search (no_truth, no_falsehood, no_truth_behind)
 
-pub target_is_simple : (t : Tree) → is_plain_row t ≡ true → is_assignment_target (type_of t) ≡ true → is_simple_assignment_target (type_of t) ≡ true
+plain_row : (t : Tree) → IsPlain t → is_plain_row t ≡ true
+plain_row (node type a slots) p = p.0
+
+pub target_is_simple : (t : Tree) → IsPlain t → is_assignment_target (type_of t) ≡ true → is_simple_assignment_target (type_of t) ≡ true
 target_is_simple t p s = by (is_simple_assignment_target (type_of t)) refl
   where
     by : (b : Bool) → is_simple_assignment_target (type_of t) ≡ b → b ≡ true
     by true e = refl
-    by false e = absurd (none_pattern t p s e)
+    by false e = absurd (none_pattern t (plain_row t p) s e)
 
 -- what a link goes on from is `super`, or may stand anywhere
 pub link_valid : {names : Tables} (c : Allowed) (t : Tree) → IsPlain t → StandsAt sets.Link t → has_optional_link t ≡ false → (StandsAt sets.Expression t → IsExpression names c t) → IsLink names c t

@@ -89,7 +89,7 @@ mutual
       let h = parts (span_faults around a.span) (assigned_faults (assignment_expression_operator a) t) _ e in
       let k = placed around sets.AssignmentTarget t _ h.1 in
       let j = standing around sets.Expression u [] k.2 in
-      let i = target_is_simple t p.1.0.0 k.0 in
+      let i = target_is_simple t p.1.0 k.0 in
       let barred : Bool = not (assigns_alone (assignment_expression_operator a)) && is_target_pattern (type_of t) in
       let unlinked = or_parts (has_optional_link t) barred (none_if (has_optional_link t || barred) (faults.Place (span_of t).start) h.0) in
       family.an_assignment i (expression_valid c around t p.1.0 (target_stands (type_of t) i, unlinked.0, target_fits t i) k.1) (expression_valid c around u p.1.1.0 j.0 j.1)

@@ -346,7 +346,7 @@ def inner_answers(table, s):
         goal = f"returns-in-{m}"
         if m in table.nodes:
             # the first is known by no arm
-            deref = f"deref-in-{m}" if parts else "deref"
+            deref = "deref" if m == s.members[0] else f"deref-in-{m}"
             parts.append(f"pub {goal} : goal.{goal}\n{goal} {g}c = rw c.in-{m}.is ((rw c.{deref}.ensures at c.{check(m)}.ensures) ∙ sym (of_right_set _ sets.{s.name} _ refl))")
     homes = [("Rattle.std.proofs.Common", ["◌≡◌", "refl", "sym", "◌∙◌"]), (f"{PROOFS}.Verdicts", ["of_right_set"])]
     aliases = [(f"{SPECS}.declared.types.NodeSet.TheVariants", "sets"), (f"{PROOFS}.children.{check(s.name)}.Goals", "goal")]
