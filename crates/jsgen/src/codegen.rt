@@ -133,7 +133,8 @@ impl<'a> Codegen<'a> {
         self.with_tables(tables)
     }
 
-    /// The same printer by these new names of private names, from here on; `None` for none. No name is printed by them yet.
+    /// The same printer by these new names of private names, from here on; `None` for none. Classes are numbered from the first one
+    /// that it prints, over all calls.
     #[tactic(auto, unfolding(jsgen_tree::specs::Scoping::tables_plain))]
     pub fn with_private_member_mappings(self, mappings: Option<&'a PrivateMappings>) -> Codegen<'a>
         ensures options { options_of result ≡ options_of self.entry }

@@ -8,8 +8,7 @@ pub record Scoping : Type 0 where
   pub symbols : List (List ℕ)
   pub references : List (Option ℕ)
 
--- The tables of names. Those of private names are by the number of the class, each name with its new one; they are kept, and
--- no name is printed by them yet.
+-- the tables of names; those of private names are by the number of the class, each name with its new one
 pub record Tables : Type 0 where
   pub scoping : Option Scoping
   pub private : Option (List (List (List ℕ × List ℕ)))

@@ -16,7 +16,7 @@ pub struct Scoping {
     pub references: Vec<Option<u32>>,
 }
 
-/// The new names of private names. They are kept, and no name is printed by them yet.
+/// The new names of private names.
 #[derive(Drop)]
 pub struct PrivateMappings {
     /// For each class, by its number, the new name of each name that it renames. Neither has the `#`.
