@@ -6,21 +6,24 @@ ghost use Rattle.jsgen_place.specs.Place.{at_level};
 ghost use Rattle.jsgen_model.specs.Spell.{spell};
 
 use crate::{PrintAlone, PrintAtLevel};
-use jsgen_classes::{print_class, print_class_body, print_method_definition, print_private_field_expression, print_private_identifier, print_private_in_expression, print_property_definition, print_static_block};
-use jsgen_nodes::{Inside, PrintNode};
+use jsgen_classes::{
+    print_class, print_class_body, print_method_definition, print_private_field_expression,
+    print_private_identifier, print_private_in_expression, print_property_definition,
+    print_static_block,
+};
+use jsgen_nodes::{InClass, Inside, PrintNode};
 use jsgen_place::{Context, Place};
 use jsgen_printer::Printer;
 use jsgen_syntax::Precedence;
-use jsgen_tree::{Class, ClassBody, MethodDefinition, PrivateFieldExpression, PrivateIdentifier, PrivateInExpression, PropertyDefinition, StaticBlock};
+use jsgen_tree::{
+    Class, ClassBody, MethodDefinition, PrivateFieldExpression, PrivateIdentifier,
+    PrivateInExpression, PropertyDefinition, StaticBlock,
+};
 
 impl PrintAlone for PrivateIdentifier {
     ghost alone = { λ n context. spell (private_identifier_row n) (at_level Lowest context) };
 
-    fn print_alone(
-        &self,
-        p: &mut Printer<'_>,
-        context: Context,
-    ) {
+    fn print_alone(&self, p: &mut Printer<'_>, context: Context) {
         print_private_identifier(self, p, Place::at_level(Precedence::Lowest, context));
     }
 }
@@ -44,11 +47,7 @@ impl<N: PrintNode> PrintAtLevel for PrivateInExpression<N> {
 impl<N: PrintNode> PrintAlone for Class<N> {
     ghost alone = { λ n context. spell (class_row N.plain n) (at_level Lowest context) };
 
-    fn print_alone(
-        &self,
-        p: &mut Printer<'_>,
-        context: Context,
-    ) {
+    fn print_alone(&self, p: &mut Printer<'_>, context: Context) {
         print_class::<_, Inside>(self, p, Place::at_level(Precedence::Lowest, context));
     }
 }
@@ -56,11 +55,7 @@ impl<N: PrintNode> PrintAlone for Class<N> {
 impl<N: PrintNode> PrintAlone for ClassBody<N> {
     ghost alone = { λ n context. spell (class_body_row N.plain n) (at_level Lowest context) };
 
-    fn print_alone(
-        &self,
-        p: &mut Printer<'_>,
-        context: Context,
-    ) {
+    fn print_alone(&self, p: &mut Printer<'_>, context: Context) {
         print_class_body::<_, Inside>(self, p, Place::at_level(Precedence::Lowest, context));
     }
 }
@@ -68,35 +63,31 @@ impl<N: PrintNode> PrintAlone for ClassBody<N> {
 impl<N: PrintNode> PrintAlone for StaticBlock<N> {
     ghost alone = { λ n context. spell (static_block_row N.plain n) (at_level Lowest context) };
 
-    fn print_alone(
-        &self,
-        p: &mut Printer<'_>,
-        context: Context,
-    ) {
-        print_static_block::<_, Inside>(self, p, Place::at_level(Precedence::Lowest, context));
+    fn print_alone(&self, p: &mut Printer<'_>, context: Context) {
+        print_static_block::<_, InClass>(self, p, Place::at_level(Precedence::Lowest, context));
     }
 }
 
 impl<N: PrintNode> PrintAlone for MethodDefinition<N> {
     ghost alone = { λ n context. spell (method_definition_row N.plain n) (at_level Lowest context) };
 
-    fn print_alone(
-        &self,
-        p: &mut Printer<'_>,
-        context: Context,
-    ) {
-        print_method_definition::<_, Inside>(self, p, Place::at_level(Precedence::Lowest, context));
+    fn print_alone(&self, p: &mut Printer<'_>, context: Context) {
+        print_method_definition::<_, InClass>(
+            self,
+            p,
+            Place::at_level(Precedence::Lowest, context),
+        );
     }
 }
 
 impl<N: PrintNode> PrintAlone for PropertyDefinition<N> {
     ghost alone = { λ n context. spell (property_definition_row N.plain n) (at_level Lowest context) };
 
-    fn print_alone(
-        &self,
-        p: &mut Printer<'_>,
-        context: Context,
-    ) {
-        print_property_definition::<_, Inside>(self, p, Place::at_level(Precedence::Lowest, context));
+    fn print_alone(&self, p: &mut Printer<'_>, context: Context) {
+        print_property_definition::<_, InClass>(
+            self,
+            p,
+            Place::at_level(Precedence::Lowest, context),
+        );
     }
 }

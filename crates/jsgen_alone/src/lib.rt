@@ -3,6 +3,7 @@
 
 mod assignments;
 mod choices;
+mod classes;
 mod collections;
 mod expressions;
 mod functions;

@@ -11,13 +11,20 @@ use crate::{PrintAlone, PrintAtLevel};
 use jsgen_nodes::classes::print_ended_element;
 use jsgen_nodes::collections::{print_key_text, print_object_property};
 use jsgen_nodes::loops::print_left;
-use jsgen_nodes::sets::{print_assignment_target, print_binding_pattern, print_expression, print_simple_assignment_target, print_statement};
+use jsgen_nodes::sets::{
+    print_assignment_target, print_binding_pattern, print_expression,
+    print_simple_assignment_target, print_statement,
+};
 use jsgen_nodes::{Inside, PrintNode};
 use jsgen_place::{Context, Place};
 use jsgen_printer::Printer;
 use jsgen_spelled::{print_spread_element, print_variable_declaration};
 use jsgen_syntax::Precedence;
-use jsgen_tree::{Argument, ArrayExpressionElement, AssignmentTarget, BindingPattern, ClassElement, Expression, ForStatementInit, ForStatementLeft, ObjectPropertyKind, PropertyKey, SimpleAssignmentTarget, Statement};
+use jsgen_tree::{
+    Argument, ArrayExpressionElement, AssignmentTarget, BindingPattern, ClassElement, Expression,
+    ForStatementInit, ForStatementLeft, ObjectPropertyKind, PropertyKey, SimpleAssignmentTarget,
+    Statement,
+};
 
 impl<N: PrintNode> PrintAtLevel for Expression<N> {
     ghost plain = { expression_plain N.plain };
@@ -30,11 +37,7 @@ impl<N: PrintNode> PrintAtLevel for Expression<N> {
 impl<N: PrintNode> PrintAlone for Argument<N> {
     ghost alone = { λ n context. spell (in_argument N.plain n) (in_brackets Comma) };
 
-    fn print_alone(
-        &self,
-        p: &mut Printer<'_>,
-        context: Context,
-    ) {
+    fn print_alone(&self, p: &mut Printer<'_>, context: Context) {
         let _ = context;
         let place = Place::in_brackets(Precedence::Comma);
         match self {
@@ -47,15 +50,13 @@ impl<N: PrintNode> PrintAlone for Argument<N> {
 impl<N: PrintNode> PrintAlone for ArrayExpressionElement<N> {
     ghost alone = { λ n context. spell (in_array_expression_element N.plain n) (in_brackets Comma) };
 
-    fn print_alone(
-        &self,
-        p: &mut Printer<'_>,
-        context: Context,
-    ) {
+    fn print_alone(&self, p: &mut Printer<'_>, context: Context) {
         let _ = context;
         let place = Place::in_brackets(Precedence::Comma);
         match self {
-            ArrayExpressionElement::SpreadElement(node) => print_spread_element::<_, Inside>(node, p, place),
+            ArrayExpressionElement::SpreadElement(node) => print_spread_element::<_, Inside>(
+                node, p, place,
+            ),
             ArrayExpressionElement::Expression(node) => node.get().print(p, place),
         }
     }
@@ -72,11 +73,7 @@ impl<N: PrintNode> PrintAtLevel for SimpleAssignmentTarget<N> {
 impl<N: PrintNode> PrintAlone for AssignmentTarget<N> {
     ghost alone = { λ n context. spell (in_assignment_target N.plain n) (in_brackets Comma) };
 
-    fn print_alone(
-        &self,
-        p: &mut Printer<'_>,
-        context: Context,
-    ) {
+    fn print_alone(&self, p: &mut Printer<'_>, context: Context) {
         let _ = context;
         print_assignment_target(self, p, Place::in_brackets(Precedence::Comma));
     }
@@ -85,15 +82,13 @@ impl<N: PrintNode> PrintAlone for AssignmentTarget<N> {
 impl<N: PrintNode> PrintAlone for ForStatementInit<N> {
     ghost alone = { λ n context. spell (in_for_statement_init N.plain n) loop_head };
 
-    fn print_alone(
-        &self,
-        p: &mut Printer<'_>,
-        context: Context,
-    ) {
+    fn print_alone(&self, p: &mut Printer<'_>, context: Context) {
         let _ = context;
         let place = Place::loop_head();
         match self {
-            ForStatementInit::VariableDeclaration(node) => print_variable_declaration::<_, Inside>(node, p, place),
+            ForStatementInit::VariableDeclaration(node) => print_variable_declaration::<_, Inside>(
+                node, p, place,
+            ),
             ForStatementInit::Expression(node) => node.get().print(p, place),
         }
     }
@@ -102,11 +97,7 @@ impl<N: PrintNode> PrintAlone for ForStatementInit<N> {
 impl<N: PrintNode> PrintAlone for ForStatementLeft<N> {
     ghost alone = { λ n context. spell (in_for_statement_left N.plain n) (left_place (type_of (in_for_statement_left N.plain n))) };
 
-    fn print_alone(
-        &self,
-        p: &mut Printer<'_>,
-        context: Context,
-    ) {
+    fn print_alone(&self, p: &mut Printer<'_>, context: Context) {
         let _ = context;
         print_left(self, p);
     }
@@ -115,16 +106,14 @@ impl<N: PrintNode> PrintAlone for ForStatementLeft<N> {
 impl<N: PrintNode> PrintAlone for ObjectPropertyKind<N> {
     ghost alone = { λ n context. spell (in_object_property_kind N.plain n) (in_brackets Comma) };
 
-    fn print_alone(
-        &self,
-        p: &mut Printer<'_>,
-        context: Context,
-    ) {
+    fn print_alone(&self, p: &mut Printer<'_>, context: Context) {
         let _ = context;
         let place = Place::in_brackets(Precedence::Comma);
         match self {
             ObjectPropertyKind::ObjectProperty(node) => print_object_property(node, p, place),
-            ObjectPropertyKind::SpreadElement(node) => print_spread_element::<_, Inside>(node, p, place),
+            ObjectPropertyKind::SpreadElement(node) => print_spread_element::<_, Inside>(
+                node, p, place,
+            ),
         }
     }
 }
@@ -132,11 +121,7 @@ impl<N: PrintNode> PrintAlone for ObjectPropertyKind<N> {
 impl<N: PrintNode> PrintAlone for PropertyKey<N> {
     ghost alone = { λ n context. key_text (in_property_key N.plain n) (spell (in_property_key N.plain n) (in_brackets Comma)) };
 
-    fn print_alone(
-        &self,
-        p: &mut Printer<'_>,
-        context: Context,
-    ) {
+    fn print_alone(&self, p: &mut Printer<'_>, context: Context) {
         let _ = context;
         print_key_text(self, p, Place::in_brackets(Precedence::Comma));
     }
@@ -145,11 +130,7 @@ impl<N: PrintNode> PrintAlone for PropertyKey<N> {
 impl<N: PrintNode> PrintAlone for Statement<N> {
     ghost alone = { λ n context. spell (statement_plain N.plain n) among_statements };
 
-    fn print_alone(
-        &self,
-        p: &mut Printer<'_>,
-        context: Context,
-    ) {
+    fn print_alone(&self, p: &mut Printer<'_>, context: Context) {
         let _ = context;
         print_statement(self, p, Place::among_statements());
     }
@@ -158,11 +139,7 @@ impl<N: PrintNode> PrintAlone for Statement<N> {
 impl PrintAlone for BindingPattern {
     ghost alone = { λ n context. spell (binding_pattern_plain n) (at_level Lowest context) };
 
-    fn print_alone(
-        &self,
-        p: &mut Printer<'_>,
-        context: Context,
-    ) {
+    fn print_alone(&self, p: &mut Printer<'_>, context: Context) {
         print_binding_pattern(self, p, Place::at_level(Precedence::Lowest, context));
     }
 }
@@ -170,11 +147,7 @@ impl PrintAlone for BindingPattern {
 impl<N: PrintNode> PrintAlone for ClassElement<N> {
     ghost alone = { λ n context. spell (class_element_plain N.plain n) (at_level Lowest context) ⊕ element_end (type_of (class_element_plain N.plain n)) };
 
-    fn print_alone(
-        &self,
-        p: &mut Printer<'_>,
-        context: Context,
-    ) {
+    fn print_alone(&self, p: &mut Printer<'_>, context: Context) {
         let _ = context;
         print_ended_element(self, p, Place::at_level(Precedence::Lowest, context));
     }

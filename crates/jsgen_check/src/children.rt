@@ -9,14 +9,26 @@ ghost use Rattle.jsgen_tree.specs.declared.types.NodeSet.TheVariants as sets;
 use crate::choices::{check_catch_clause, check_switch_case};
 use crate::classes::{check_private_field_expression, check_private_identifier};
 use crate::collections::{check_object_property, check_spread_element};
-use crate::expressions::{check_call_expression, check_computed_member_expression, check_identifier_name, check_identifier_reference, check_static_member_expression};
+use crate::expressions::{
+    check_call_expression, check_computed_member_expression, check_identifier_name,
+    check_identifier_reference, check_static_member_expression,
+};
 use crate::functions::{check_formal_parameter, check_formal_parameter_rest, check_function_body};
 use crate::heights::higher;
 use crate::loops::check_label_identifier;
-use crate::statements::{check_binding_identifier, check_block_statement, check_comment, check_directive, check_variable_declaration, check_variable_declarator};
+use crate::statements::{
+    check_binding_identifier, check_block_statement, check_comment, check_directive,
+    check_variable_declaration, check_variable_declarator,
+};
 use crate::{CheckNode, Surroundings, check_child};
 use jsgen_model::TreeFault;
-use jsgen_tree::{Argument, ArrayExpressionElement, ArrowFunctionBody, AssignmentTarget, BindingIdentifier, BindingPatternNode, BlockStatement, CatchClause, ChainElement, ClassElementNode, Comment, Directive, ExpressionNode, ForStatementInit, ForStatementLeft, FormalParameter, FormalParameterRest, FunctionBody, LabelIdentifier, NodeSet, ObjectPropertyKind, PropertyKey, SimpleAssignmentTarget, StatementNode, SwitchCase, VariableDeclarator};
+use jsgen_tree::{
+    Argument, ArrayExpressionElement, ArrowFunctionBody, AssignmentTarget, BindingIdentifier,
+    BindingPatternNode, BlockStatement, CatchClause, ChainElement, ClassElementNode, Comment,
+    Directive, ExpressionNode, ForStatementInit, ForStatementLeft, FormalParameter,
+    FormalParameterRest, FunctionBody, LabelIdentifier, NodeSet, ObjectPropertyKind, PropertyKey,
+    SimpleAssignmentTarget, StatementNode, SwitchCase, VariableDeclarator,
+};
 
 pub fn check_comments(nodes: &[Comment], around: &Surroundings<'_>) -> Result<u64, TreeFault>
     ensures { result ≡ children_verdict around.now sets.Comment (trees (map comment_row nodes.now)) }
@@ -40,7 +52,10 @@ pub fn check_directives(nodes: &[Directive], around: &Surroundings<'_>) -> Resul
     below
 }
 
-pub fn check_statements<N: CheckNode>(nodes: &[StatementNode<N>], around: &Surroundings<'_>) -> Result<u64, TreeFault>
+pub fn check_statements<N: CheckNode>(
+    nodes: &[StatementNode<N>],
+    around: &Surroundings<'_>,
+) -> Result<u64, TreeFault>
     ensures { result ≡ children_verdict around.now sets.Statement (trees (map (in_statement N.plain) nodes.now)) }
 {
     let mut below = Ok(0);
@@ -51,7 +66,10 @@ pub fn check_statements<N: CheckNode>(nodes: &[StatementNode<N>], around: &Surro
     below
 }
 
-pub fn check_variable_declarators<N: CheckNode>(nodes: &[VariableDeclarator<N>], around: &Surroundings<'_>) -> Result<u64, TreeFault>
+pub fn check_variable_declarators<N: CheckNode>(
+    nodes: &[VariableDeclarator<N>],
+    around: &Surroundings<'_>,
+) -> Result<u64, TreeFault>
     ensures { result ≡ children_verdict around.now sets.VariableDeclarator (trees (map (variable_declarator_row N.plain) nodes.now)) }
 {
     let mut below = Ok(0);
@@ -62,7 +80,10 @@ pub fn check_variable_declarators<N: CheckNode>(nodes: &[VariableDeclarator<N>],
     below
 }
 
-pub fn check_arguments<N: CheckNode>(nodes: &[Argument<N>], around: &Surroundings<'_>) -> Result<u64, TreeFault>
+pub fn check_arguments<N: CheckNode>(
+    nodes: &[Argument<N>],
+    around: &Surroundings<'_>,
+) -> Result<u64, TreeFault>
     ensures { result ≡ children_verdict around.now sets.Argument (trees (map (in_argument N.plain) nodes.now)) }
 {
     let mut below = Ok(0);
@@ -73,7 +94,10 @@ pub fn check_arguments<N: CheckNode>(nodes: &[Argument<N>], around: &Surrounding
     below
 }
 
-pub fn check_object_property_kinds<N: CheckNode>(nodes: &[ObjectPropertyKind<N>], around: &Surroundings<'_>) -> Result<u64, TreeFault>
+pub fn check_object_property_kinds<N: CheckNode>(
+    nodes: &[ObjectPropertyKind<N>],
+    around: &Surroundings<'_>,
+) -> Result<u64, TreeFault>
     ensures { result ≡ children_verdict around.now sets.ObjectPropertyKind (trees (map (in_object_property_kind N.plain) nodes.now)) }
 {
     let mut below = Ok(0);
@@ -84,7 +108,10 @@ pub fn check_object_property_kinds<N: CheckNode>(nodes: &[ObjectPropertyKind<N>]
     below
 }
 
-pub fn check_expressions<N: CheckNode>(nodes: &[ExpressionNode<N>], around: &Surroundings<'_>) -> Result<u64, TreeFault>
+pub fn check_expressions<N: CheckNode>(
+    nodes: &[ExpressionNode<N>],
+    around: &Surroundings<'_>,
+) -> Result<u64, TreeFault>
     ensures { result ≡ children_verdict around.now sets.Expression (trees (map (in_expression N.plain) nodes.now)) }
 {
     let mut below = Ok(0);
@@ -95,7 +122,10 @@ pub fn check_expressions<N: CheckNode>(nodes: &[ExpressionNode<N>], around: &Sur
     below
 }
 
-pub fn check_each_formal_parameter<N: CheckNode>(nodes: &[FormalParameter<N>], around: &Surroundings<'_>) -> Result<u64, TreeFault>
+pub fn check_each_formal_parameter<N: CheckNode>(
+    nodes: &[FormalParameter<N>],
+    around: &Surroundings<'_>,
+) -> Result<u64, TreeFault>
     ensures { result ≡ children_verdict around.now sets.FormalParameter (trees (map (formal_parameter_row N.plain) nodes.now)) }
 {
     let mut below = Ok(0);
@@ -106,7 +136,10 @@ pub fn check_each_formal_parameter<N: CheckNode>(nodes: &[FormalParameter<N>], a
     below
 }
 
-pub fn check_switch_cases<N: CheckNode>(nodes: &[SwitchCase<N>], around: &Surroundings<'_>) -> Result<u64, TreeFault>
+pub fn check_switch_cases<N: CheckNode>(
+    nodes: &[SwitchCase<N>],
+    around: &Surroundings<'_>,
+) -> Result<u64, TreeFault>
     ensures { result ≡ children_verdict around.now sets.SwitchCase (trees (map (switch_case_row N.plain) nodes.now)) }
 {
     let mut below = Ok(0);
@@ -117,7 +150,10 @@ pub fn check_switch_cases<N: CheckNode>(nodes: &[SwitchCase<N>], around: &Surrou
     below
 }
 
-pub fn check_class_elements<N: CheckNode>(nodes: &[ClassElementNode<N>], around: &Surroundings<'_>) -> Result<u64, TreeFault>
+pub fn check_class_elements<N: CheckNode>(
+    nodes: &[ClassElementNode<N>],
+    around: &Surroundings<'_>,
+) -> Result<u64, TreeFault>
     ensures { result ≡ children_verdict around.now sets.ClassElement (trees (map (in_class_element N.plain) nodes.now)) }
 {
     let mut below = Ok(0);
@@ -128,7 +164,10 @@ pub fn check_class_elements<N: CheckNode>(nodes: &[ClassElementNode<N>], around:
     below
 }
 
-pub fn check_array_expression_elements_or_holes<N: CheckNode>(nodes: &[Option<ArrayExpressionElement<N>>], around: &Surroundings<'_>) -> Result<u64, TreeFault>
+pub fn check_array_expression_elements_or_holes<N: CheckNode>(
+    nodes: &[Option<ArrayExpressionElement<N>>],
+    around: &Surroundings<'_>,
+) -> Result<u64, TreeFault>
     ensures { result ≡ children_verdict around.now sets.ArrayExpressionElement (holed (map (option_map (in_array_expression_element N.plain)) nodes.now)) }
 {
     let mut below = Ok(0);
@@ -139,7 +178,10 @@ pub fn check_array_expression_elements_or_holes<N: CheckNode>(nodes: &[Option<Ar
     below
 }
 
-pub fn check_optional_expression<N: CheckNode>(node: &Option<ExpressionNode<N>>, around: &Surroundings<'_>) -> Result<u64, TreeFault>
+pub fn check_optional_expression<N: CheckNode>(
+    node: &Option<ExpressionNode<N>>,
+    around: &Surroundings<'_>,
+) -> Result<u64, TreeFault>
     ensures { result ≡ maybe_verdict around.now sets.Expression (optional (option_map (in_expression N.plain) node.now)) }
 {
     match node {
@@ -148,7 +190,10 @@ pub fn check_optional_expression<N: CheckNode>(node: &Option<ExpressionNode<N>>,
     }
 }
 
-pub fn check_optional_statement<N: CheckNode>(node: &Option<StatementNode<N>>, around: &Surroundings<'_>) -> Result<u64, TreeFault>
+pub fn check_optional_statement<N: CheckNode>(
+    node: &Option<StatementNode<N>>,
+    around: &Surroundings<'_>,
+) -> Result<u64, TreeFault>
     ensures { result ≡ maybe_verdict around.now sets.Statement (optional (option_map (in_statement N.plain) node.now)) }
 {
     match node {
@@ -157,7 +202,10 @@ pub fn check_optional_statement<N: CheckNode>(node: &Option<StatementNode<N>>, a
     }
 }
 
-pub fn check_optional_formal_parameter_rest<N: CheckNode>(node: &Option<Box<FormalParameterRest<N>>>, around: &Surroundings<'_>) -> Result<u64, TreeFault>
+pub fn check_optional_formal_parameter_rest<N: CheckNode>(
+    node: &Option<Box<FormalParameterRest<N>>>,
+    around: &Surroundings<'_>,
+) -> Result<u64, TreeFault>
     ensures { result ≡ maybe_verdict around.now sets.FormalParameterRest (optional (option_map (λ b. formal_parameter_rest_row N.plain b.value) node.now)) }
 {
     match node {
@@ -166,7 +214,10 @@ pub fn check_optional_formal_parameter_rest<N: CheckNode>(node: &Option<Box<Form
     }
 }
 
-pub fn check_optional_binding_identifier(node: &Option<Box<BindingIdentifier>>, around: &Surroundings<'_>) -> Result<u64, TreeFault>
+pub fn check_optional_binding_identifier(
+    node: &Option<Box<BindingIdentifier>>,
+    around: &Surroundings<'_>,
+) -> Result<u64, TreeFault>
     ensures { result ≡ maybe_verdict around.now sets.BindingIdentifier (optional (option_map (λ b. binding_identifier_row b.value) node.now)) }
 {
     match node {
@@ -175,7 +226,10 @@ pub fn check_optional_binding_identifier(node: &Option<Box<BindingIdentifier>>, 
     }
 }
 
-pub fn check_optional_function_body<N: CheckNode>(node: &Option<Box<FunctionBody<N>>>, around: &Surroundings<'_>) -> Result<u64, TreeFault>
+pub fn check_optional_function_body<N: CheckNode>(
+    node: &Option<Box<FunctionBody<N>>>,
+    around: &Surroundings<'_>,
+) -> Result<u64, TreeFault>
     ensures { result ≡ maybe_verdict around.now sets.FunctionBody (optional (option_map (λ b. function_body_row N.plain b.value) node.now)) }
 {
     match node {
@@ -184,7 +238,10 @@ pub fn check_optional_function_body<N: CheckNode>(node: &Option<Box<FunctionBody
     }
 }
 
-pub fn check_optional_for_statement_init<N: CheckNode>(node: &Option<ForStatementInit<N>>, around: &Surroundings<'_>) -> Result<u64, TreeFault>
+pub fn check_optional_for_statement_init<N: CheckNode>(
+    node: &Option<ForStatementInit<N>>,
+    around: &Surroundings<'_>,
+) -> Result<u64, TreeFault>
     ensures { result ≡ maybe_verdict around.now sets.ForStatementInit (optional (option_map (in_for_statement_init N.plain) node.now)) }
 {
     match node {
@@ -193,7 +250,10 @@ pub fn check_optional_for_statement_init<N: CheckNode>(node: &Option<ForStatemen
     }
 }
 
-pub fn check_optional_label_identifier(node: &Option<Box<LabelIdentifier>>, around: &Surroundings<'_>) -> Result<u64, TreeFault>
+pub fn check_optional_label_identifier(
+    node: &Option<Box<LabelIdentifier>>,
+    around: &Surroundings<'_>,
+) -> Result<u64, TreeFault>
     ensures { result ≡ maybe_verdict around.now sets.LabelIdentifier (optional (option_map (λ b. label_identifier_row b.value) node.now)) }
 {
     match node {
@@ -202,7 +262,10 @@ pub fn check_optional_label_identifier(node: &Option<Box<LabelIdentifier>>, arou
     }
 }
 
-pub fn check_optional_catch_clause<N: CheckNode>(node: &Option<Box<CatchClause<N>>>, around: &Surroundings<'_>) -> Result<u64, TreeFault>
+pub fn check_optional_catch_clause<N: CheckNode>(
+    node: &Option<Box<CatchClause<N>>>,
+    around: &Surroundings<'_>,
+) -> Result<u64, TreeFault>
     ensures { result ≡ maybe_verdict around.now sets.CatchClause (optional (option_map (λ b. catch_clause_row N.plain b.value) node.now)) }
 {
     match node {
@@ -211,7 +274,10 @@ pub fn check_optional_catch_clause<N: CheckNode>(node: &Option<Box<CatchClause<N
     }
 }
 
-pub fn check_optional_block_statement<N: CheckNode>(node: &Option<Box<BlockStatement<N>>>, around: &Surroundings<'_>) -> Result<u64, TreeFault>
+pub fn check_optional_block_statement<N: CheckNode>(
+    node: &Option<Box<BlockStatement<N>>>,
+    around: &Surroundings<'_>,
+) -> Result<u64, TreeFault>
     ensures { result ≡ maybe_verdict around.now sets.BlockStatement (optional (option_map (λ b. block_statement_row N.plain b.value) node.now)) }
 {
     match node {
@@ -220,7 +286,10 @@ pub fn check_optional_block_statement<N: CheckNode>(node: &Option<Box<BlockState
     }
 }
 
-pub fn check_optional_binding_pattern<N: CheckNode>(node: &Option<BindingPatternNode<N>>, around: &Surroundings<'_>) -> Result<u64, TreeFault>
+pub fn check_optional_binding_pattern<N: CheckNode>(
+    node: &Option<BindingPatternNode<N>>,
+    around: &Surroundings<'_>,
+) -> Result<u64, TreeFault>
     ensures { result ≡ maybe_verdict around.now sets.BindingPattern (optional (option_map (in_binding_pattern N.plain) node.now)) }
 {
     match node {
@@ -229,7 +298,10 @@ pub fn check_optional_binding_pattern<N: CheckNode>(node: &Option<BindingPattern
     }
 }
 
-pub fn check_optional_array_expression_element<N: CheckNode>(node: &Option<ArrayExpressionElement<N>>, around: &Surroundings<'_>) -> Result<u64, TreeFault>
+pub fn check_optional_array_expression_element<N: CheckNode>(
+    node: &Option<ArrayExpressionElement<N>>,
+    around: &Surroundings<'_>,
+) -> Result<u64, TreeFault>
     ensures { result ≡ maybe_verdict around.now sets.ArrayExpressionElement (optional (option_map (in_array_expression_element N.plain) node.now)) }
 {
     match node {
@@ -238,7 +310,10 @@ pub fn check_optional_array_expression_element<N: CheckNode>(node: &Option<Array
     }
 }
 
-pub fn check_argument<N: CheckNode>(node: &Argument<N>, around: &Surroundings<'_>) -> Result<u64, TreeFault>
+pub fn check_argument<N: CheckNode>(
+    node: &Argument<N>,
+    around: &Surroundings<'_>,
+) -> Result<u64, TreeFault>
     ensures { result ≡ child_verdict around.now sets.Argument (in_argument N.plain node.now) }
 {
     match node {
@@ -247,79 +322,137 @@ pub fn check_argument<N: CheckNode>(node: &Argument<N>, around: &Surroundings<'_
     }
 }
 
-pub fn check_array_expression_element<N: CheckNode>(node: &ArrayExpressionElement<N>, around: &Surroundings<'_>) -> Result<u64, TreeFault>
+pub fn check_array_expression_element<N: CheckNode>(
+    node: &ArrayExpressionElement<N>,
+    around: &Surroundings<'_>,
+) -> Result<u64, TreeFault>
     ensures { result ≡ child_verdict around.now sets.ArrayExpressionElement (in_array_expression_element N.plain node.now) }
 {
     match node {
         ArrayExpressionElement::SpreadElement(node) => check_spread_element(node, around),
-        ArrayExpressionElement::Expression(node) => check_child(node.get(), NodeSet::ArrayExpressionElement, around),
+        ArrayExpressionElement::Expression(node) => check_child(
+            node.get(),
+            NodeSet::ArrayExpressionElement,
+            around,
+        ),
     }
 }
 
-pub fn check_chain_element<N: CheckNode>(node: &ChainElement<N>, around: &Surroundings<'_>) -> Result<u64, TreeFault>
+pub fn check_chain_element<N: CheckNode>(
+    node: &ChainElement<N>,
+    around: &Surroundings<'_>,
+) -> Result<u64, TreeFault>
     ensures { result ≡ child_verdict around.now sets.ChainElement (in_chain_element N.plain node.now) }
 {
     match node {
         ChainElement::StaticMemberExpression(node) => check_static_member_expression(node, around),
-        ChainElement::ComputedMemberExpression(node) => check_computed_member_expression(node, around),
+        ChainElement::ComputedMemberExpression(node) => check_computed_member_expression(
+            node, around,
+        ),
         ChainElement::PrivateFieldExpression(node) => check_private_field_expression(node, around),
         ChainElement::CallExpression(node) => check_call_expression(node, around),
     }
 }
 
-pub fn check_simple_assignment_target<N: CheckNode>(node: &SimpleAssignmentTarget<N>, around: &Surroundings<'_>) -> Result<u64, TreeFault>
+pub fn check_simple_assignment_target<N: CheckNode>(
+    node: &SimpleAssignmentTarget<N>,
+    around: &Surroundings<'_>,
+) -> Result<u64, TreeFault>
     ensures { result ≡ child_verdict around.now sets.SimpleAssignmentTarget (in_simple_assignment_target N.plain node.now) }
 {
     match node {
-        SimpleAssignmentTarget::IdentifierReference(node) => check_identifier_reference(node, around),
-        SimpleAssignmentTarget::StaticMemberExpression(node) => check_static_member_expression(node, around),
-        SimpleAssignmentTarget::ComputedMemberExpression(node) => check_computed_member_expression(node, around),
-        SimpleAssignmentTarget::PrivateFieldExpression(node) => check_private_field_expression(node, around),
+        SimpleAssignmentTarget::IdentifierReference(node) => check_identifier_reference(
+            node, around,
+        ),
+        SimpleAssignmentTarget::StaticMemberExpression(node) => check_static_member_expression(
+            node, around,
+        ),
+        SimpleAssignmentTarget::ComputedMemberExpression(node) => check_computed_member_expression(
+            node, around,
+        ),
+        SimpleAssignmentTarget::PrivateFieldExpression(node) => check_private_field_expression(
+            node, around,
+        ),
     }
 }
 
-pub fn check_assignment_target<N: CheckNode>(node: &AssignmentTarget<N>, around: &Surroundings<'_>) -> Result<u64, TreeFault>
+pub fn check_assignment_target<N: CheckNode>(
+    node: &AssignmentTarget<N>,
+    around: &Surroundings<'_>,
+) -> Result<u64, TreeFault>
     ensures { result ≡ child_verdict around.now sets.AssignmentTarget (in_assignment_target N.plain node.now) }
 {
     match node {
         AssignmentTarget::IdentifierReference(node) => check_identifier_reference(node, around),
-        AssignmentTarget::StaticMemberExpression(node) => check_static_member_expression(node, around),
-        AssignmentTarget::ComputedMemberExpression(node) => check_computed_member_expression(node, around),
-        AssignmentTarget::PrivateFieldExpression(node) => check_private_field_expression(node, around),
+        AssignmentTarget::StaticMemberExpression(node) => check_static_member_expression(
+            node, around,
+        ),
+        AssignmentTarget::ComputedMemberExpression(node) => check_computed_member_expression(
+            node, around,
+        ),
+        AssignmentTarget::PrivateFieldExpression(node) => check_private_field_expression(
+            node, around,
+        ),
     }
 }
 
-pub fn check_arrow_function_body<N: CheckNode>(node: &ArrowFunctionBody<N>, around: &Surroundings<'_>) -> Result<u64, TreeFault>
+pub fn check_arrow_function_body<N: CheckNode>(
+    node: &ArrowFunctionBody<N>,
+    around: &Surroundings<'_>,
+) -> Result<u64, TreeFault>
     ensures { result ≡ child_verdict around.now sets.ArrowFunctionBody (in_arrow_function_body N.plain node.now) }
 {
     match node {
         ArrowFunctionBody::FunctionBody(node) => check_function_body(node, around),
-        ArrowFunctionBody::Expression(node) => check_child(node.get(), NodeSet::ArrowFunctionBody, around),
+        ArrowFunctionBody::Expression(node) => check_child(
+            node.get(),
+            NodeSet::ArrowFunctionBody,
+            around,
+        ),
     }
 }
 
-pub fn check_for_statement_init<N: CheckNode>(node: &ForStatementInit<N>, around: &Surroundings<'_>) -> Result<u64, TreeFault>
+pub fn check_for_statement_init<N: CheckNode>(
+    node: &ForStatementInit<N>,
+    around: &Surroundings<'_>,
+) -> Result<u64, TreeFault>
     ensures { result ≡ child_verdict around.now sets.ForStatementInit (in_for_statement_init N.plain node.now) }
 {
     match node {
         ForStatementInit::VariableDeclaration(node) => check_variable_declaration(node, around),
-        ForStatementInit::Expression(node) => check_child(node.get(), NodeSet::ForStatementInit, around),
+        ForStatementInit::Expression(node) => check_child(
+            node.get(),
+            NodeSet::ForStatementInit,
+            around,
+        ),
     }
 }
 
-pub fn check_for_statement_left<N: CheckNode>(node: &ForStatementLeft<N>, around: &Surroundings<'_>) -> Result<u64, TreeFault>
+pub fn check_for_statement_left<N: CheckNode>(
+    node: &ForStatementLeft<N>,
+    around: &Surroundings<'_>,
+) -> Result<u64, TreeFault>
     ensures { result ≡ child_verdict around.now sets.ForStatementLeft (in_for_statement_left N.plain node.now) }
 {
     match node {
         ForStatementLeft::VariableDeclaration(node) => check_variable_declaration(node, around),
         ForStatementLeft::IdentifierReference(node) => check_identifier_reference(node, around),
-        ForStatementLeft::StaticMemberExpression(node) => check_static_member_expression(node, around),
-        ForStatementLeft::ComputedMemberExpression(node) => check_computed_member_expression(node, around),
-        ForStatementLeft::PrivateFieldExpression(node) => check_private_field_expression(node, around),
+        ForStatementLeft::StaticMemberExpression(node) => check_static_member_expression(
+            node, around,
+        ),
+        ForStatementLeft::ComputedMemberExpression(node) => check_computed_member_expression(
+            node, around,
+        ),
+        ForStatementLeft::PrivateFieldExpression(node) => check_private_field_expression(
+            node, around,
+        ),
     }
 }
 
-pub fn check_object_property_kind<N: CheckNode>(node: &ObjectPropertyKind<N>, around: &Surroundings<'_>) -> Result<u64, TreeFault>
+pub fn check_object_property_kind<N: CheckNode>(
+    node: &ObjectPropertyKind<N>,
+    around: &Surroundings<'_>,
+) -> Result<u64, TreeFault>
     ensures { result ≡ child_verdict around.now sets.ObjectPropertyKind (in_object_property_kind N.plain node.now) }
 {
     match node {
@@ -328,7 +461,10 @@ pub fn check_object_property_kind<N: CheckNode>(node: &ObjectPropertyKind<N>, ar
     }
 }
 
-pub fn check_property_key<N: CheckNode>(node: &PropertyKey<N>, around: &Surroundings<'_>) -> Result<u64, TreeFault>
+pub fn check_property_key<N: CheckNode>(
+    node: &PropertyKey<N>,
+    around: &Surroundings<'_>,
+) -> Result<u64, TreeFault>
     ensures { result ≡ child_verdict around.now sets.PropertyKey (in_property_key N.plain node.now) }
 {
     match node {

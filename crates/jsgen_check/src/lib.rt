@@ -35,12 +35,14 @@ use crate::kinds::{expression_fits_kind, method_fits};
 use crate::links::{expression_has_optional_link, has_optional_link};
 use crate::program::check_program_row;
 use crate::sets::{
-    check_binding_pattern_set, check_class_element_set, check_declaration_set, check_expression_set, check_statement_set,
+    check_binding_pattern_set, check_class_element_set, check_declaration_set,
+    check_expression_set, check_statement_set,
 };
 pub use crate::surroundings::Surroundings;
 use jsgen_model::TreeFault;
 use jsgen_rules::{
-    check_no_optional_link, check_set, class_fits, function_fits, is_declaration, takes_optional_link,
+    check_no_optional_link, check_set, class_fits, function_fits, is_declaration,
+    takes_optional_link,
 };
 use jsgen_tree::{
     CodegenOptions, Expression, GetSpan, IdentifierReference, Node, NodeSet, NodeType,

@@ -34,8 +34,8 @@ use jsgen_tree::{
 pub use keys::check_object_property_rules;
 pub use links::{
     check_assignment_expression_rules, check_call_expression_rules, check_chain_expression_rules,
-    check_computed_member_expression_rules, check_private_field_expression_rules, check_static_member_expression_rules,
-    check_update_expression_rules,
+    check_computed_member_expression_rules, check_private_field_expression_rules,
+    check_static_member_expression_rules, check_update_expression_rules,
 };
 pub use statements::{
     check_do_while_statement_rules, check_for_in_statement_rules, check_for_of_statement_rules,

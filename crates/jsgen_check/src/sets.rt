@@ -4,21 +4,45 @@ ghost use Rattle.std.specs.Prelude.{◌≡◌};
 ghost use Rattle.jsgen_tree.specs.Rows.{expression_plain, declaration_plain, statement_plain, binding_pattern_plain, class_element_plain};
 ghost use Rattle.jsgen_check.specs.Verdict.{tree_verdict};
 
-use crate::assignments::{check_assignment_expression, check_conditional_expression, check_sequence_expression};
+use crate::assignments::{
+    check_assignment_expression, check_conditional_expression, check_sequence_expression,
+};
 use crate::choices::{check_switch_statement, check_try_statement};
-use crate::classes::{check_class, check_method_definition, check_private_field_expression, check_private_in_expression, check_property_definition, check_static_block};
+use crate::classes::{
+    check_class, check_method_definition, check_private_field_expression,
+    check_private_in_expression, check_property_definition, check_static_block,
+};
 use crate::collections::{check_array_expression, check_object_expression};
-use crate::expressions::{check_big_int_literal, check_binary_expression, check_boolean_literal, check_call_expression, check_chain_expression, check_computed_member_expression, check_identifier_reference, check_logical_expression, check_null_literal, check_numeric_literal, check_parenthesized_expression, check_static_member_expression, check_string_literal, check_this_expression};
+use crate::expressions::{
+    check_big_int_literal, check_binary_expression, check_boolean_literal, check_call_expression,
+    check_chain_expression, check_computed_member_expression, check_identifier_reference,
+    check_logical_expression, check_null_literal, check_numeric_literal,
+    check_parenthesized_expression, check_static_member_expression, check_string_literal,
+    check_this_expression,
+};
 use crate::functions::{check_arrow_function_expression, check_function};
-use crate::loops::{check_break_statement, check_continue_statement, check_debugger_statement, check_do_while_statement, check_for_in_statement, check_for_of_statement, check_for_statement, check_labeled_statement, check_return_statement, check_throw_statement, check_while_statement};
-use crate::operations::{check_import_meta, check_new_expression, check_new_target, check_super, check_unary_expression, check_update_expression};
-use crate::statements::{check_binding_identifier, check_block_statement, check_empty_statement, check_expression_statement, check_if_statement, check_variable_declaration};
+use crate::loops::{
+    check_break_statement, check_continue_statement, check_debugger_statement,
+    check_do_while_statement, check_for_in_statement, check_for_of_statement, check_for_statement,
+    check_labeled_statement, check_return_statement, check_throw_statement, check_while_statement,
+};
+use crate::operations::{
+    check_import_meta, check_new_expression, check_new_target, check_super, check_unary_expression,
+    check_update_expression,
+};
+use crate::statements::{
+    check_binding_identifier, check_block_statement, check_empty_statement,
+    check_expression_statement, check_if_statement, check_variable_declaration,
+};
 use crate::{CheckNode, Surroundings};
 use jsgen_model::TreeFault;
 use jsgen_tree::{BindingPattern, ClassElement, Declaration, Expression, Statement};
 
 #[inline(never)]
-pub fn check_expression_set<N: CheckNode>(node: &Expression<N>, around: &Surroundings<'_>) -> Result<u64, TreeFault>
+pub fn check_expression_set<N: CheckNode>(
+    node: &Expression<N>,
+    around: &Surroundings<'_>,
+) -> Result<u64, TreeFault>
     ensures { result ≡ tree_verdict around.now (expression_plain N.plain node.now) }
 {
     match node {
@@ -33,7 +57,9 @@ pub fn check_expression_set<N: CheckNode>(node: &Expression<N>, around: &Surroun
         Expression::LogicalExpression(node) => check_logical_expression(node, around),
         Expression::ParenthesizedExpression(node) => check_parenthesized_expression(node, around),
         Expression::StaticMemberExpression(node) => check_static_member_expression(node, around),
-        Expression::ComputedMemberExpression(node) => check_computed_member_expression(node, around),
+        Expression::ComputedMemberExpression(node) => check_computed_member_expression(
+            node, around,
+        ),
         Expression::CallExpression(node) => check_call_expression(node, around),
         Expression::ChainExpression(node) => check_chain_expression(node, around),
         Expression::ArrayExpression(node) => check_array_expression(node, around),
@@ -56,7 +82,10 @@ pub fn check_expression_set<N: CheckNode>(node: &Expression<N>, around: &Surroun
 }
 
 #[inline(never)]
-pub fn check_declaration_set<N: CheckNode>(node: &Declaration<N>, around: &Surroundings<'_>) -> Result<u64, TreeFault>
+pub fn check_declaration_set<N: CheckNode>(
+    node: &Declaration<N>,
+    around: &Surroundings<'_>,
+) -> Result<u64, TreeFault>
     ensures { result ≡ tree_verdict around.now (declaration_plain N.plain node.now) }
 {
     match node {
@@ -67,7 +96,10 @@ pub fn check_declaration_set<N: CheckNode>(node: &Declaration<N>, around: &Surro
 }
 
 #[inline(never)]
-pub fn check_statement_set<N: CheckNode>(node: &Statement<N>, around: &Surroundings<'_>) -> Result<u64, TreeFault>
+pub fn check_statement_set<N: CheckNode>(
+    node: &Statement<N>,
+    around: &Surroundings<'_>,
+) -> Result<u64, TreeFault>
     ensures { result ≡ tree_verdict around.now (statement_plain N.plain node.now) }
 {
     match node {
@@ -93,7 +125,10 @@ pub fn check_statement_set<N: CheckNode>(node: &Statement<N>, around: &Surroundi
 }
 
 #[inline(never)]
-pub fn check_binding_pattern_set(node: &BindingPattern, around: &Surroundings<'_>) -> Result<u64, TreeFault>
+pub fn check_binding_pattern_set(
+    node: &BindingPattern,
+    around: &Surroundings<'_>,
+) -> Result<u64, TreeFault>
     ensures { result ≡ tree_verdict around.now (binding_pattern_plain node.now) }
 {
     match node {
@@ -102,7 +137,10 @@ pub fn check_binding_pattern_set(node: &BindingPattern, around: &Surroundings<'_
 }
 
 #[inline(never)]
-pub fn check_class_element_set<N: CheckNode>(node: &ClassElement<N>, around: &Surroundings<'_>) -> Result<u64, TreeFault>
+pub fn check_class_element_set<N: CheckNode>(
+    node: &ClassElement<N>,
+    around: &Surroundings<'_>,
+) -> Result<u64, TreeFault>
     ensures { result ≡ tree_verdict around.now (class_element_plain N.plain node.now) }
 {
     match node {

@@ -5,56 +5,56 @@ ghost use Rattle.jsgen_model.specs.Items.{◌⊕◌, comments, all_of_them, inde
 ghost use Rattle.jsgen_model.specs.Spell.{spell, items_if, key_word, method_kind_word};
 ghost use Rattle.jsgen_printer.specs.Steps.{Lays};
 
-use jsgen_inside::{Nested, PrintInside};
-use jsgen_lists::{print_key_word, print_value};
+use jsgen_inside::PrintInClass;
+use jsgen_lists::print_key_word;
 use jsgen_place::Place;
 use jsgen_printer::Printer;
 use jsgen_syntax::Precedence;
 use jsgen_tree::{MethodDefinition, MethodDefinitionKind, PropertyDefinition, StaticBlock};
 
-pub fn print_static_block<N, L: PrintInside<N>>(
+pub fn print_static_block<N, M: PrintInClass<N>>(
     node: &StaticBlock<N>,
     p: &mut Printer<'_>,
     place: Place,
 )
-    ensures { Lays p.old p.new (spell (static_block_row L.plain node.now) place) }
+    ensures { Lays p.old p.new (spell (static_block_row M.plain node.now) place) }
 {
     begin_element(place.in_list, node.span.start, p);
     p.print_mark(node.span);
     print_key_word("static", p);
-    L::print_block(&node.body, p);
+    M::print_block(&node.body, p);
     p.print_soft_line_if(place.in_list);
 }
 
-pub fn print_method_definition<N, L: PrintInside<N>>(
+pub fn print_method_definition<N, M: PrintInClass<N>>(
     node: &MethodDefinition<N>,
     p: &mut Printer<'_>,
     place: Place,
 )
-    ensures { Lays p.old p.new (spell (method_definition_row L.plain node.now) place) }
+    ensures { Lays p.old p.new (spell (method_definition_row M.plain node.now) place) }
 {
     begin_element(place.in_list, node.span.start, p);
     p.print_mark(node.span);
     print_static_if(node.is_static, p);
     print_method_kind(node.kind, p);
-    L::print_key(&node.key, node.computed, p);
-    L::print_method(&node.value, p, place);
+    M::print_key(&node.key, node.computed, p);
+    M::print_method(&node.value, p, place);
     p.print_soft_line_if(place.in_list);
 }
 
 /// Among others its semicolon is left to what follows.
-pub fn print_property_definition<N, L: PrintInside<N>>(
+pub fn print_property_definition<N, M: PrintInClass<N>>(
     node: &PropertyDefinition<N>,
     p: &mut Printer<'_>,
     place: Place,
 )
-    ensures { Lays p.old p.new (spell (property_definition_row L.plain node.now) place) }
+    ensures { Lays p.old p.new (spell (property_definition_row M.plain node.now) place) }
 {
     begin_element(place.in_list, node.span.start, p);
     p.print_mark(node.span);
     print_static_if(node.is_static, p);
-    L::print_key(&node.key, node.computed, p);
-    print_value::<_, Nested<L>>(&node.value, p, Place::in_brackets(Precedence::Comma));
+    M::print_key(&node.key, node.computed, p);
+    M::print_initializer(&node.value, p, Place::in_brackets(Precedence::Comma));
     p.print_statement_end_if(place.in_list);
 }
 

@@ -12,11 +12,7 @@ use jsgen_printer::Printer;
 use jsgen_tree::{ClassElement, NodeType};
 
 /// A member of a class, and what ends it there.
-pub fn print_ended_element<N: PrintNode>(
-    node: &ClassElement<N>,
-    p: &mut Printer<'_>,
-    place: Place,
-)
+pub fn print_ended_element<N: PrintNode>(node: &ClassElement<N>, p: &mut Printer<'_>, place: Place)
     ensures { Lays p.old p.new (spell (class_element_plain N.plain node.now) place ⊕ element_end (type_of (class_element_plain N.plain node.now))) }
 {
     print_class_element(node, p, place);

@@ -5,11 +5,11 @@ use crate::PrintNode;
 use crate::collections::print_key_if;
 use crate::functions::print_behind_name;
 use crate::statements::Statements;
-use jsgen_inside::PrintInside;
-use jsgen_lists::print_braces;
+use jsgen_inside::{Nested, PrintInClass, PrintInside};
+use jsgen_lists::{print_braces, print_value};
 use jsgen_place::Place;
 use jsgen_printer::Printer;
-use jsgen_tree::{Function, NodeType, PropertyKey, StatementNode};
+use jsgen_tree::{ExpressionNode, Function, NodeType, PropertyKey, StatementNode};
 
 /// By this crate's own functions.
 pub struct Inside;
@@ -24,9 +24,20 @@ impl<N: PrintNode> PrintInside<N> for Inside {
     fn print(node: &N, p: &mut Printer<'_>, place: Place) {
         node.print(p, place);
     }
+}
+
+/// The same of the members of classes.
+pub struct InClass;
+
+impl<N: PrintNode> PrintInClass<N> for InClass {
+    ghost plain = { N.plain };
 
     fn print_key(key: &PropertyKey<N>, bracketed: bool, p: &mut Printer<'_>) {
         print_key_if(bracketed, key, p);
+    }
+
+    fn print_initializer(value: &Option<ExpressionNode<N>>, p: &mut Printer<'_>, place: Place) {
+        print_value::<_, Nested<Inside>>(value, p, place);
     }
 
     fn print_method(function: &Function<N>, p: &mut Printer<'_>, place: Place) {

@@ -27,7 +27,7 @@ ghost use Rattle.jsgen_questions.specs.Names.{is_binding_name};
 ghost use Rattle.jsgen_questions.specs.Operands.{operand_of};
 
 use functions::print_behind_name;
-pub use inside::Inside;
+pub use inside::{InClass, Inside};
 use jsgen_place::Place;
 use jsgen_printer::Printer;
 use jsgen_questions::{
@@ -35,7 +35,10 @@ use jsgen_questions::{
 };
 use jsgen_syntax::JsStr;
 use jsgen_tree::{Declaration, Expression, IdentifierReference, Node, NodeType, Statement};
-use sets::{print_binding_pattern, print_class_element, print_declaration, print_expression, print_statement};
+use sets::{
+    print_binding_pattern, print_class_element, print_declaration, print_expression,
+    print_statement,
+};
 
 /// Where trees nest: what the print functions ask of a child. Only `Node` implements it.
 pub trait PrintNode {

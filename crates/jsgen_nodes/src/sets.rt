@@ -9,24 +9,39 @@ ghost use Rattle.jsgen_nodes.specs.Parts.{expression_part, declaration_part, sta
 use crate::assignments::print_assignment_expression;
 use crate::choices::{print_switch_statement, print_try_statement};
 use crate::collections::{print_array_expression, print_object_expression};
-use crate::expressions::{print_big_int_literal, print_binary_expression, print_boolean_literal, print_call_expression, print_chain_expression, print_computed_member_expression, print_logical_expression, print_numeric_literal, print_static_member_expression, print_string_literal};
+use crate::expressions::{
+    print_big_int_literal, print_binary_expression, print_boolean_literal, print_call_expression,
+    print_chain_expression, print_computed_member_expression, print_logical_expression,
+    print_numeric_literal, print_static_member_expression, print_string_literal,
+};
 use crate::functions::{print_arrow_function_expression, print_function};
-use crate::loops::{print_do_while_statement, print_for_in_statement, print_for_of_statement, print_for_statement};
+use crate::loops::{
+    print_do_while_statement, print_for_in_statement, print_for_of_statement, print_for_statement,
+};
 use crate::operations::{print_new_expression, print_update_expression};
 use crate::statements::{print_block_statement, print_if_statement};
-use crate::{Inside, PrintNode};
-use jsgen_classes::{print_class, print_method_definition, print_private_field_expression, print_private_in_expression, print_property_definition, print_static_block};
+use crate::{InClass, Inside, PrintNode};
+use jsgen_classes::{
+    print_class, print_method_definition, print_private_field_expression,
+    print_private_in_expression, print_property_definition, print_static_block,
+};
 use jsgen_inside::{print_binding_identifier, print_identifier_reference};
 use jsgen_place::Place;
 use jsgen_printer::Printer;
-use jsgen_spelled::{print_break_statement, print_conditional_expression, print_continue_statement, print_debugger_statement, print_empty_statement, print_expression_statement, print_import_meta, print_labeled_statement, print_new_target, print_null_literal, print_parenthesized_expression, print_return_statement, print_sequence_expression, print_super, print_this_expression, print_throw_statement, print_unary_expression, print_variable_declaration, print_while_statement};
-use jsgen_tree::{AssignmentTarget, BindingPattern, ClassElement, Declaration, Expression, SimpleAssignmentTarget, Statement};
+use jsgen_spelled::{
+    print_break_statement, print_conditional_expression, print_continue_statement,
+    print_debugger_statement, print_empty_statement, print_expression_statement, print_import_meta,
+    print_labeled_statement, print_new_target, print_null_literal, print_parenthesized_expression,
+    print_return_statement, print_sequence_expression, print_super, print_this_expression,
+    print_throw_statement, print_unary_expression, print_variable_declaration,
+    print_while_statement,
+};
+use jsgen_tree::{
+    AssignmentTarget, BindingPattern, ClassElement, Declaration, Expression,
+    SimpleAssignmentTarget, Statement,
+};
 
-pub fn print_expression<N: PrintNode>(
-    node: &Expression<N>,
-    p: &mut Printer<'_>,
-    place: Place,
-)
+pub fn print_expression<N: PrintNode>(node: &Expression<N>, p: &mut Printer<'_>, place: Place)
     ensures { Lays p.old p.new (spell (expression_plain N.plain node.now) place) }
 {
     match node {
@@ -37,11 +52,15 @@ pub fn print_expression<N: PrintNode>(
         Expression::NumericLiteral(node) => print_numeric_literal(node, p, place),
         Expression::BigIntLiteral(node) => print_big_int_literal(node, p, place),
         Expression::StringLiteral(node) => print_string_literal(node, p, place),
-        Expression::ParenthesizedExpression(node) => print_parenthesized_expression::<_, Inside>(node, p, place),
+        Expression::ParenthesizedExpression(node) => print_parenthesized_expression::<_, Inside>(
+            node, p, place,
+        ),
         Expression::BinaryExpression(node) => print_binary_expression(node, p, place),
         Expression::LogicalExpression(node) => print_logical_expression(node, p, place),
         Expression::StaticMemberExpression(node) => print_static_member_expression(node, p, place),
-        Expression::ComputedMemberExpression(node) => print_computed_member_expression(node, p, place),
+        Expression::ComputedMemberExpression(node) => print_computed_member_expression(
+            node, p, place,
+        ),
         Expression::CallExpression(node) => print_call_expression(node, p, place),
         Expression::ChainExpression(node) => print_chain_expression(node, p, place),
         _ => print_expression_in_collections(node, p, place),
@@ -91,8 +110,12 @@ fn print_expression_in_assignments<N: PrintNode>(
     ensures { Lays p.old p.new (spell (expression_plain N.plain node.now) place) }
 {
     match node {
-        Expression::ConditionalExpression(node) => print_conditional_expression::<_, Inside>(node, p, place),
-        Expression::SequenceExpression(node) => print_sequence_expression::<_, Inside>(node, p, place),
+        Expression::ConditionalExpression(node) => print_conditional_expression::<_, Inside>(
+            node, p, place,
+        ),
+        Expression::SequenceExpression(node) => print_sequence_expression::<_, Inside>(
+            node, p, place,
+        ),
         Expression::AssignmentExpression(node) => print_assignment_expression(node, p, place),
         _ => print_expression_in_functions(node, p, place),
     }
@@ -108,7 +131,9 @@ fn print_expression_in_functions<N: PrintNode>(
 {
     match node {
         Expression::Function(node) => print_function(node, p, place),
-        Expression::ArrowFunctionExpression(node) => print_arrow_function_expression(node, p, place),
+        Expression::ArrowFunctionExpression(node) => print_arrow_function_expression(
+            node, p, place,
+        ),
         _ => print_expression_in_classes(node, p, place),
     }
 }
@@ -122,22 +147,24 @@ fn print_expression_in_classes<N: PrintNode>(
     ensures { Lays p.old p.new (spell (expression_plain N.plain node.now) place) }
 {
     match node {
-        Expression::PrivateFieldExpression(node) => print_private_field_expression::<_, Inside>(node, p, place),
-        Expression::PrivateInExpression(node) => print_private_in_expression::<_, Inside>(node, p, place),
+        Expression::PrivateFieldExpression(node) => print_private_field_expression::<_, Inside>(
+            node, p, place,
+        ),
+        Expression::PrivateInExpression(node) => print_private_in_expression::<_, Inside>(
+            node, p, place,
+        ),
         Expression::Class(node) => print_class::<_, Inside>(node, p, place),
         _ => unreachable!(),
     }
 }
 
-pub fn print_declaration<N: PrintNode>(
-    node: &Declaration<N>,
-    p: &mut Printer<'_>,
-    place: Place,
-)
+pub fn print_declaration<N: PrintNode>(node: &Declaration<N>, p: &mut Printer<'_>, place: Place)
     ensures { Lays p.old p.new (spell (declaration_plain N.plain node.now) place) }
 {
     match node {
-        Declaration::VariableDeclaration(node) => print_variable_declaration::<_, Inside>(node, p, place),
+        Declaration::VariableDeclaration(node) => print_variable_declaration::<_, Inside>(
+            node, p, place,
+        ),
         _ => print_declaration_in_functions(node, p, place),
     }
 }
@@ -170,11 +197,7 @@ fn print_declaration_in_classes<N: PrintNode>(
     }
 }
 
-pub fn print_statement<N: PrintNode>(
-    node: &Statement<N>,
-    p: &mut Printer<'_>,
-    place: Place,
-)
+pub fn print_statement<N: PrintNode>(node: &Statement<N>, p: &mut Printer<'_>, place: Place)
     ensures { Lays p.old p.new (spell (statement_plain N.plain node.now) place) }
 {
     match node {
@@ -192,7 +215,9 @@ fn print_statement_in_statements<N: PrintNode>(
     ensures { Lays p.old p.new (spell (statement_plain N.plain node.now) place) }
 {
     match node {
-        Statement::ExpressionStatement(node) => print_expression_statement::<_, Inside>(node, p, place),
+        Statement::ExpressionStatement(node) => print_expression_statement::<_, Inside>(
+            node, p, place,
+        ),
         Statement::BlockStatement(node) => print_block_statement(node, p, place),
         Statement::IfStatement(node) => print_if_statement(node, p, place),
         Statement::EmptyStatement(node) => print_empty_statement(node, p, place),
@@ -200,11 +225,7 @@ fn print_statement_in_statements<N: PrintNode>(
     }
 }
 
-fn print_statement_in_loops<N: PrintNode>(
-    node: &Statement<N>,
-    p: &mut Printer<'_>,
-    place: Place,
-)
+fn print_statement_in_loops<N: PrintNode>(node: &Statement<N>, p: &mut Printer<'_>, place: Place)
     requires { nat_le 2 (statement_part node.now) ≡ true }
     ensures { Lays p.old p.new (spell (statement_plain N.plain node.now) place) }
 {
@@ -224,11 +245,7 @@ fn print_statement_in_loops<N: PrintNode>(
     }
 }
 
-fn print_statement_in_choices<N: PrintNode>(
-    node: &Statement<N>,
-    p: &mut Printer<'_>,
-    place: Place,
-)
+fn print_statement_in_choices<N: PrintNode>(node: &Statement<N>, p: &mut Printer<'_>, place: Place)
     requires { nat_le 3 (statement_part node.now) ≡ true }
     ensures { Lays p.old p.new (spell (statement_plain N.plain node.now) place) }
 {
@@ -239,11 +256,7 @@ fn print_statement_in_choices<N: PrintNode>(
     }
 }
 
-pub fn print_binding_pattern(
-    node: &BindingPattern,
-    p: &mut Printer<'_>,
-    place: Place,
-)
+pub fn print_binding_pattern(node: &BindingPattern, p: &mut Printer<'_>, place: Place)
     ensures { Lays p.old p.new (spell (binding_pattern_plain node.now) place) }
 {
     match node {
@@ -251,17 +264,17 @@ pub fn print_binding_pattern(
     }
 }
 
-pub fn print_class_element<N: PrintNode>(
-    node: &ClassElement<N>,
-    p: &mut Printer<'_>,
-    place: Place,
-)
+pub fn print_class_element<N: PrintNode>(node: &ClassElement<N>, p: &mut Printer<'_>, place: Place)
     ensures { Lays p.old p.new (spell (class_element_plain N.plain node.now) place) }
 {
     match node {
-        ClassElement::StaticBlock(node) => print_static_block::<_, Inside>(node, p, place),
-        ClassElement::MethodDefinition(node) => print_method_definition::<_, Inside>(node, p, place),
-        ClassElement::PropertyDefinition(node) => print_property_definition::<_, Inside>(node, p, place),
+        ClassElement::StaticBlock(node) => print_static_block::<_, InClass>(node, p, place),
+        ClassElement::MethodDefinition(node) => print_method_definition::<_, InClass>(
+            node, p, place,
+        ),
+        ClassElement::PropertyDefinition(node) => print_property_definition::<_, InClass>(
+            node, p, place,
+        ),
     }
 }
 
@@ -273,10 +286,19 @@ pub fn print_simple_assignment_target<N: PrintNode>(
     ensures { Lays p.old p.new (spell (in_simple_assignment_target N.plain node.now) place) }
 {
     match node {
-        SimpleAssignmentTarget::IdentifierReference(node) => print_identifier_reference(node, p, place),
-        SimpleAssignmentTarget::StaticMemberExpression(node) => print_static_member_expression(node, p, place),
-        SimpleAssignmentTarget::ComputedMemberExpression(node) => print_computed_member_expression(node, p, place),
-        SimpleAssignmentTarget::PrivateFieldExpression(node) => print_private_field_expression::<_, Inside>(node, p, place),
+        SimpleAssignmentTarget::IdentifierReference(node) => print_identifier_reference(
+            node, p, place,
+        ),
+        SimpleAssignmentTarget::StaticMemberExpression(node) => print_static_member_expression(
+            node, p, place,
+        ),
+        SimpleAssignmentTarget::ComputedMemberExpression(node) => print_computed_member_expression(
+            node, p, place,
+        ),
+        SimpleAssignmentTarget::PrivateFieldExpression(node) => print_private_field_expression::<
+            _,
+            Inside,
+        >(node, p, place),
     }
 }
 
@@ -289,8 +311,15 @@ pub fn print_assignment_target<N: PrintNode>(
 {
     match node {
         AssignmentTarget::IdentifierReference(node) => print_identifier_reference(node, p, place),
-        AssignmentTarget::StaticMemberExpression(node) => print_static_member_expression(node, p, place),
-        AssignmentTarget::ComputedMemberExpression(node) => print_computed_member_expression(node, p, place),
-        AssignmentTarget::PrivateFieldExpression(node) => print_private_field_expression::<_, Inside>(node, p, place),
+        AssignmentTarget::StaticMemberExpression(node) => print_static_member_expression(
+            node, p, place,
+        ),
+        AssignmentTarget::ComputedMemberExpression(node) => print_computed_member_expression(
+            node, p, place,
+        ),
+        AssignmentTarget::PrivateFieldExpression(node) => print_private_field_expression::<
+            _,
+            Inside,
+        >(node, p, place),
     }
 }

@@ -1,7 +1,6 @@
 -- The tables of private names, by the order of their names and one after the other.
 use Rattle.std.proofs.Common.{◌≡◌, ℕ, ◌+◌, ◌<◌, ◌≤◌, Bool, true, false, ◌&&◌, List, [], ◌∷◌, length, map, drop, Some, option_map, cond, if◌then◌else◌, String, string_bytes, bytes_eq, refl, sym, ap, ◌∙◌}
 use Rattle.std.specs.declared.alloc.Global.{Global}
-use Rattle.std.specs.declared.collections.BTreeMap.{BTreeMap}
 use Rattle.std.specs.BTreeMap.{is_at}
 use Rattle.std.specs.Cmp.Lexicographic.{slice_cmp}
 use Rattle.std.specs.Map.{lookup}
@@ -31,7 +30,7 @@ abbrev pub Left : {A : Type 0} → (A → List (List ℕ × List ℕ)) → List 
 Left f w xs i = all_rename_well w (map f (drop i xs)) ≡ all_rename_well w (map f xs)
 
 at_next : {A : Type 0} (f : A → List (List ℕ × List ℕ)) (w : List ℕ) (xs : List A) (i : ℕ) (x : A) → i < length xs → x ≡ get_or xs i x → all_rename_well w (map f (drop i xs)) ≡ (renames_well w (f x) && all_rename_well w (map f (drop (i + 1) xs)))
-at_next f w xs i x h e = ap (λ ys. all_rename_well w (map f ys)) (at_drop_more xs i x h) ∙ sym (ap (λ y. renames_well w (f y) && all_rename_well w (map f (drop (i + 1) xs))) e)
+at_next f w xs i x h e = at_drop_more (λ ys. all_rename_well w (map f ys)) xs i x h ∙ sym (ap (λ y. renames_well w (f y) && all_rename_well w (map f (drop (i + 1) xs))) e)
 
 pub one_well : {A : Type 0} (f : A → List (List ℕ × List ℕ)) (w : List ℕ) (xs : List A) (i : ℕ) (x : A) → i < length xs → x ≡ get_or xs i x → renames_well w (f x) ≡ true → Left f w xs i → Left f w xs (i + 1)
 one_well f w xs i x h e well left = sym (at_next f w xs i x h e ∙ ap (λ b. b && all_rename_well w (map f (drop (i + 1) xs))) well) ∙ left
@@ -40,4 +39,4 @@ pub one_ill : {A : Type 0} (f : A → List (List ℕ × List ℕ)) (w : List ℕ
 one_ill f w xs i x h e ill left = sym (at_next f w xs i x h e ∙ ap (λ b. b && all_rename_well w (map f (drop (i + 1) xs))) ill) ∙ left
 
 pub all_well : {A : Type 0} (f : A → List (List ℕ × List ℕ)) (w : List ℕ) (xs : List A) (i : ℕ) → length xs ≤ i → Left f w xs i → true ≡ all_rename_well w (map f xs)
-all_well f w xs i h left = sym (ap (λ ys. all_rename_well w (map f ys)) (at_drop_all xs i h)) ∙ left
+all_well f w xs i h left = sym (at_drop_all (λ ys. all_rename_well w (map f ys)) xs i h) ∙ left

@@ -110,7 +110,7 @@ def of_file(table, types):
                ("Rattle.jsgen_model.specs.Spell", ["spell", "key_text", "left_place", "element_end"])]
     homes = print_functions(table, "jsgen_nodes")
     homes += [("jsgen_nodes::sets", [f"print_{snake(s.name)}" for s in table.nesting() + chosen(table)]),
-              ("crate", ["PrintAlone", "PrintAtLevel"]), ("jsgen_nodes", ["Inside", "PrintNode"]),
+              ("crate", ["PrintAlone", "PrintAtLevel"]), ("jsgen_nodes", ["InClass", "Inside", "PrintNode"]),
               ("jsgen_place", ["Context", "Place"]), ("jsgen_printer", ["Printer"]),
               ("jsgen_syntax", ["Precedence"]), ("jsgen_tree", list(table.nodes) + list(table.sets))]
     body = "\n\n".join(of_type(table, t) for t in types)

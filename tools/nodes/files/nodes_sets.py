@@ -23,7 +23,7 @@ def write(table):
     ghosts = [("Rattle.std.specs.Prelude", ["◌≡◌", "true", "nat_le"])] + row_names(table)
     ghosts += [("Rattle.jsgen_printer.specs.Steps", ["Lays"]),
                (f"{MODEL}.specs.Spell", ["spell"]), (SPECS, [f"{snake(s.name)}_part" for s in divided(table)])]
-    homes = print_functions(table, "crate") + [("crate", ["Inside", "PrintNode"]), ("jsgen_place", ["Place"]), ("jsgen_printer", ["Printer"]),
+    homes = print_functions(table, "crate") + [("crate", ["InClass", "Inside", "PrintNode"]), ("jsgen_place", ["Place"]), ("jsgen_printer", ["Printer"]),
                                  ("jsgen_tree", list(table.sets))]
     functions = [function(table, s, at) for s in table.nesting() for at in range(len(parts(table, s)))]
     body = "\n\n".join(functions + [choice(table, s) for s in chosen(table)])
@@ -50,6 +50,8 @@ def print_functions(table, at):
 
 def turbofish(table, name):
     """How what nests in a type that is printed in a crate below is printed."""
+    if name in table.sets["ClassElement"].members:
+        return "::<_, InClass>"
     return "::<_, Inside>" if name in table.nodes and is_below(table, table.nodes[name]) and table.generic(name) else ""
 
 
