@@ -12,6 +12,7 @@ pub mod Operators
 pub mod Tokens
 pub mod Normal
 pub mod Renamed
+pub mod Resolved
 pub mod Plain
 pub mod Grammar
 pub mod Reading

@@ -9,3 +9,4 @@ pub mod NumberSamples
 pub mod Values
 pub mod RefusedTexts
 pub mod NormalSamples
+pub mod PrivateSamples

@@ -1,5 +1,5 @@
 //! Plain, slow programs for the definitions of the model, for tests to compare with, and samples: what a few texts are read as,
-//! which are not read, and which trees have one normal form.
+//! which are not read, which trees have one normal form, and what private names are printed as.
 #![tactic(auto)]
 
 ghost use Rattle.std.specs.Prelude.{IfOk, MatchOption};
@@ -13,6 +13,7 @@ ghost use Rattle.jsgen_oracle.specs.FunctionSamples.{FunctionSamples};
 ghost use Rattle.jsgen_oracle.specs.NumberSamples.{NumberSamples};
 ghost use Rattle.jsgen_oracle.specs.RefusedTexts.{RefusedTexts};
 ghost use Rattle.jsgen_oracle.specs.NormalSamples.{NormalSamples};
+ghost use Rattle.jsgen_oracle.specs.PrivateSamples.{PrivateSamples};
 
 mod characters;
 mod directive;
@@ -78,4 +79,9 @@ pub fn refused_texts()
 /// The normal form keeps what a program means, and drops parentheses, spans and how a number is held.
 pub fn normal_samples()
     ensures { NormalSamples }
+{}
+
+/// A private name is printed by the innermost class round it whose table holds it.
+pub fn private_samples()
+    ensures { PrivateSamples }
 {}
