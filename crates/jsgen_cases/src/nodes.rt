@@ -7,8 +7,8 @@ use crate::push::{push_numbers, push_where};
 use jsgen::{Codegen, CodegenError, Context, Gen, GenExpr, TreeFault};
 use jsgen_syntax::{Memory, Precedence, Span};
 use jsgen_tree::{
-    Declaration, Expression, FormalParameters, GetSpan, Inner, Node, ObjectProperty, ObjectPropertyKind,
-    Program, Statement, VariableDeclaration,
+    Declaration, Expression, FormalParameters, GetSpan, Inner, Node, ObjectProperty,
+    ObjectPropertyKind, Program, Statement, VariableDeclaration,
 };
 use std::alloc::Global;
 
