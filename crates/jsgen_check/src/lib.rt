@@ -55,7 +55,7 @@ pub trait CheckNode {
     ghost use Rattle.std.specs.Str.{chars};
     ghost use Rattle.jsgen_tree.specs.Tree.{Tree};
     ghost use Rattle.jsgen_tree.specs.Inside.{without_parentheses, has_optional_link, looked_up_in, named_by, written_name_in, is_negative};
-    ghost use Rattle.jsgen_model.specs.Valid.{is_declaration, fits_kind, fits_method};
+    ghost use Rattle.jsgen_model.specs.Valid.{is_declaration, fits_kind, fits_method, binds_nothing};
 
     ghost plain: { Self → Tree };
 
@@ -92,6 +92,10 @@ pub trait CheckNode {
     /// Whether one of the links up to this one is optional, where it is a member or a call.
     fn has_optional_link(&self) -> bool
         ensures { result ≡ has_optional_link (plain self.now) };
+
+    /// Whether it is a declaration that binds a pattern and gives it no value.
+    fn binds_nothing(&self) -> bool
+        ensures { result ≡ binds_nothing (plain self.now) };
 
     /// Where no rule is broken, how many nodes stand on the longest way down, counted up to what 64 bits hold.
     fn check(&self, around: &Surroundings<'_>) -> Result<u64, TreeFault>
@@ -249,6 +253,10 @@ impl CheckNode for Node {
 
     fn has_optional_link(&self) -> bool {
         has_optional_link(self)
+    }
+
+    fn binds_nothing(&self) -> bool {
+        binds_nothing(self)
     }
 
     #[cycle(node)]
