@@ -60,7 +60,7 @@ pub trait CheckNode {
     ghost use Rattle.std.specs.Str.{chars};
     ghost use Rattle.jsgen_tree.specs.Tree.{Tree};
     ghost use Rattle.jsgen_tree.specs.Inside.{without_parentheses, has_optional_link, looked_up_in, named_by, written_name_in, is_negative};
-    ghost use Rattle.jsgen_model.specs.Valid.{is_declaration, fits_kind, fits_method};
+    ghost use Rattle.jsgen_model.specs.Valid.{is_declaration, fits_kind, fits_method, binds_nothing};
     ghost use Rattle.jsgen_check.specs.Heads.{misfits_left};
 
     ghost plain: { Self → Tree };
@@ -102,6 +102,10 @@ pub trait CheckNode {
     /// Whether a loop may not give its values to it: a declaration but of one name without a value, or what has an optional link.
     fn misfits_left(&self) -> bool
         ensures { result ≡ misfits_left (plain self.now) };
+
+    /// Whether it is a declaration that binds a pattern and gives it no value.
+    fn binds_nothing(&self) -> bool
+        ensures { result ≡ binds_nothing (plain self.now) };
 
     /// Where no rule is broken, how many nodes stand on the longest way down, counted up to what 64 bits hold.
     fn check(&self, around: &Surroundings<'_>) -> Result<u64, TreeFault>
@@ -269,6 +273,10 @@ impl CheckNode for Node {
 
     fn misfits_left(&self) -> bool {
         misfits_left(self)
+    }
+
+    fn binds_nothing(&self) -> bool {
+        binds_nothing(self)
     }
 
     #[cycle(node)]

@@ -164,6 +164,14 @@ fn check_first<N: CheckNode>(init: &ForStatementInit<N>) -> Result<(), TreeFault
             }
             Ok(())
         }
-        ForStatementInit::Expression(_) => Ok(()),
+        // No expression is one, which the proof doesn't know.
+        ForStatementInit::Expression(node) => {
+            if node.get().binds_nothing() {
+                return Err(TreeFault::Place {
+                    start: node.get().start(),
+                });
+            }
+            Ok(())
+        }
     }
 }
