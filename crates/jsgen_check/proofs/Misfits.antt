@@ -26,5 +26,6 @@ pub target_misfit : (n : AssignmentTarget Node) → has_optional_link (assignmen
 target_misfit (targets.IdentifierReference b) = refl
 target_misfit (targets.StaticMemberExpression b) = refl
 target_misfit (targets.ComputedMemberExpression b) = refl
+target_misfit (targets.PrivateFieldExpression b) = refl
 target_misfit (targets.ArrayAssignmentTarget b) = refl
 target_misfit (targets.ObjectAssignmentTarget b) = refl

@@ -2,7 +2,7 @@
 // Lists, children that may be absent, and sets that don't nest.
 ghost use Rattle.std.specs.Prelude.{◌≡◌, map, option_map};
 ghost use Rattle.jsgen_tree.specs.Tree.{optional, trees, holed};
-ghost use Rattle.jsgen_tree.specs.Rows.{in_expression, in_argument, in_array_expression_element, in_chain_element, in_simple_assignment_target, in_assignment_target_pattern, in_assignment_target_maybe_default, in_assignment_target_property, in_arrow_function_body, in_for_statement_init, in_for_statement_left, in_object_property_kind, in_property_key, in_statement, in_binding_pattern, in_class_element, comment_row, directive_row, variable_declarator_row, binding_identifier_row, block_statement_row, formal_parameter_row, formal_parameter_rest_row, function_body_row, label_identifier_row, switch_case_row, catch_clause_row, binding_property_row, binding_rest_element_row, assignment_target_rest_row};
+ghost use Rattle.jsgen_tree.specs.Rows.{in_expression, in_argument, in_array_expression_element, in_chain_element, in_simple_assignment_target, in_assignment_target_maybe_default, in_assignment_target_property, in_arrow_function_body, in_for_statement_init, in_for_statement_left, in_object_property_kind, in_property_key, in_statement, in_binding_pattern, in_class_element, comment_row, directive_row, variable_declarator_row, binding_identifier_row, block_statement_row, formal_parameter_row, formal_parameter_rest_row, function_body_row, label_identifier_row, switch_case_row, catch_clause_row, binding_property_row, binding_rest_element_row, assignment_target_rest_row};
 ghost use Rattle.jsgen_check.specs.Verdict.{child_verdict, maybe_verdict, children_verdict};
 ghost use Rattle.jsgen_tree.specs.declared.types.NodeSet.TheVariants as sets;
 
@@ -22,18 +22,17 @@ use crate::statements::{
     check_variable_declaration, check_variable_declarator,
 };
 use crate::targets::{
-    check_array_assignment_target, check_assignment_target_property_identifier,
-    check_assignment_target_property_property, check_assignment_target_rest,
-    check_assignment_target_with_default, check_object_assignment_target,
+    check_assignment_target_property_identifier, check_assignment_target_property_property,
+    check_assignment_target_rest, check_assignment_target_with_default,
 };
 use crate::{CheckNode, Surroundings, check_child};
 use jsgen_model::TreeFault;
 use jsgen_tree::{
     Argument, ArrayExpressionElement, ArrowFunctionBody, AssignmentTargetMaybeDefault,
-    AssignmentTargetPattern, AssignmentTargetProperty, AssignmentTargetRest, BindingIdentifier,
-    BindingPatternNode, BindingProperty, BindingRestElement, BlockStatement, CatchClause,
-    ChainElement, ClassElementNode, Comment, Directive, ExpressionNode, ForStatementInit,
-    ForStatementLeft, FormalParameter, FormalParameterRest, FunctionBody, LabelIdentifier, NodeSet,
+    AssignmentTargetProperty, AssignmentTargetRest, BindingIdentifier, BindingPatternNode,
+    BindingProperty, BindingRestElement, BlockStatement, CatchClause, ChainElement,
+    ClassElementNode, Comment, Directive, ExpressionNode, ForStatementInit, ForStatementLeft,
+    FormalParameter, FormalParameterRest, FunctionBody, LabelIdentifier, NodeSet,
     ObjectPropertyKind, PropertyKey, SimpleAssignmentTarget, StatementNode, SwitchCase,
     VariableDeclarator,
 };
@@ -483,22 +482,6 @@ pub fn check_simple_assignment_target<N: CheckNode>(
             node, around,
         ),
         SimpleAssignmentTarget::PrivateFieldExpression(node) => check_private_field_expression(
-            node, around,
-        ),
-    }
-}
-
-pub fn check_assignment_target_pattern<N: CheckNode>(
-    node: &AssignmentTargetPattern<N>,
-    around: &Surroundings<'_>,
-) -> Result<u64, TreeFault>
-    ensures { result ≡ child_verdict around.now sets.AssignmentTargetPattern (in_assignment_target_pattern N.plain node.now) }
-{
-    match node {
-        AssignmentTargetPattern::ArrayAssignmentTarget(node) => check_array_assignment_target(
-            node, around,
-        ),
-        AssignmentTargetPattern::ObjectAssignmentTarget(node) => check_object_assignment_target(
             node, around,
         ),
     }

@@ -32,7 +32,8 @@ pub fn misfits_left(node: &Node) -> bool
         },
         Node::Declaration(declaration) => match declaration {
             Declaration::VariableDeclaration(node) => !is_one_name(&node.declarations),
-            Declaration::Function(_) | Declaration::Class(_) => false,
+            Declaration::Function(_) => false,
+            Declaration::Class(_) => false,
         },
         Node::BindingPattern(_) => false,
         Node::ClassElement(_) => false,

@@ -47,7 +47,8 @@ def write(table):
         for n in nodes:
             files[f"{CHECK}/proofs/{file}/{check(n.name)}/Answers.antt"] = row_answers(table, n)
     lists, optional = kinds_of(table, "*"), kinds_of(table, "?")
-    inner = [s for s in table.sets.values() if not s.nests]
+    places = {f.kind for n in table.nodes.values() for f in table.children(n)}
+    inner = [s for s in table.sets.values() if not s.nests and s.name in places]
     holed = kinds_of(table, "?*")
     optional += [k for k in holed if k not in optional]
     parts = [of_list(table, k) for k in lists] + [of_holed_list(table, k) for k in holed] + [of_optional(table, k) for k in optional]

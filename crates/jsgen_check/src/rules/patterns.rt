@@ -135,7 +135,8 @@ pub fn binds_nothing(node: &Node) -> bool
             Declaration::VariableDeclaration(node) => {
                 declaration_binds_nothing::<Node, OfNode>(node)
             }
-            Declaration::Function(_) | Declaration::Class(_) => false,
+            Declaration::Function(_) => false,
+            Declaration::Class(_) => false,
         },
         Node::BindingPattern(_) => false,
         Node::ClassElement(_) => false,
