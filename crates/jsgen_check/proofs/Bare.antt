@@ -1,14 +1,15 @@
 -- Declarators of patterns without a value.
-use Rattle.std.proofs.Common.{◌≡◌, ℕ, ◌+◌, ◌<◌, ◌≤◌, Bool, true, false, not, ◌&&◌, ◌||◌, List, ◌∷◌, map, drop, length, Option, None, refl, sym, ap, ◌∙◌}
+use Rattle.std.proofs.Common.{◌≡◌, ℕ, ◌+◌, ◌<◌, ◌≤◌, Bool, true, false, not, ◌&&◌, ◌||◌, List, ◌∷◌, map, drop, length, Option, Some, None, refl, sym, ap, ◌∙◌}
 use Rattle.std.proofs.Math.ListN.{get_or}
 use Rattle.std.proofs.lemmas.List.{at_drop_all, at_drop_more}
 use Rattle.jsgen_tree.specs.Nodes as tree
 use Rattle.jsgen_tree.specs.Rows.{variable_declarator_row}
 use Rattle.jsgen_tree.specs.Tree.{Tree, trees}
-use Rattle.jsgen_tree.specs.Inside.{function_in}
+use Rattle.jsgen_tree.specs.Inside.{function_in, class_kind_in}
+use Rattle.jsgen_tree.specs.declared.classes.ClassKind.{ClassKind}
 use Rattle.jsgen_tree.specs.declared.types.NodeSet.{NodeSet}
 use Rattle.jsgen_tree.specs.declared.statements.VariableDeclarator.{VariableDeclarator}
-use Rattle.jsgen_model.specs.Valid.{lacks_value, any_lacks_value, binds_nothing, is_among_statements, fits_kind}
+use Rattle.jsgen_model.specs.Valid.{lacks_value, any_lacks_value, binds_nothing, is_among_statements, fits_kind, same_kind, as_function_kind, stands_among}
 
 abbrev pub any_of : {N : Type 0} → (N → Tree) → List (VariableDeclarator N) → Bool
 any_of plain xs = any_lacks_value (trees (map (variable_declarator_row plain) xs))
@@ -26,13 +27,18 @@ found_there plain xs i x inside is some so_far = sym (ap (λ b. b || any_of plai
 pub all_passed : {N : Type 0} (plain : N → Tree) (xs : List (VariableDeclarator N)) (i : ℕ) → length xs ≤ i → any_of plain (drop i xs) ≡ any_of plain xs → false ≡ any_of plain xs
 all_passed plain xs i outside so_far = sym (at_drop_all (any_of plain) xs i outside) ∙ so_far
 
--- ---- what a place among statements asks of what is no function
+-- ---- what a place among statements asks of what is neither a function nor a class
 
 none_bound : (b : Bool) → not (b && false) ≡ true
 none_bound true = refl
 none_bound false = refl
 
-pub bound_there : (set : NodeSet) (t : Tree) → function_in t ≡ None → not (is_among_statements set && binds_nothing t) ≡ fits_kind set t
-bound_there set (tree.function a id params body) e = absurd (cc)
-bound_there set (tree.variable_declaration a declarations) e = refl
-bound_there set t e = none_bound (is_among_statements set)
+pub bound_there : (set : NodeSet) (t : Tree) → function_in t ≡ None → class_kind_in t ≡ None → not (is_among_statements set && binds_nothing t) ≡ fits_kind set t
+bound_there set (tree.function a id params body) e none = absurd (cc)
+bound_there set (tree.class a id heritage body) e none = absurd (cc)
+bound_there set (tree.variable_declaration a declarations) e none = refl
+bound_there set t e none = none_bound (is_among_statements set)
+
+pub class_there : (set : NodeSet) (t : Tree) (kind : ClassKind) → class_kind_in t ≡ Some kind → same_kind (as_function_kind kind) (stands_among set) ≡ fits_kind set t
+class_there set (tree.class a id heritage body) kind e = cc
+class_there set t kind e = absurd (cc)

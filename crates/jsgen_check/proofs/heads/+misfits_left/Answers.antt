@@ -26,3 +26,6 @@ returns-in-BindingPattern t c = search (rules, plain_binding_pattern)
 
 pub returns-in-ClassElement : goal.returns-in-ClassElement
 returns-in-ClassElement t c = search (rules, plain_class_element)
+
+pub returns-in-Class : goal.returns-in-Class
+returns-in-Class t c = search (rules, plain_declaration)

@@ -25,3 +25,6 @@ returns-in-AssignmentTarget t c = search (rules, plain_assignment_target)
 
 pub returns-in-ClassElement : goal.returns-in-ClassElement
 returns-in-ClassElement t c = search (rules, plain_class_element)
+
+pub returns-in-Class : goal.returns-in-Class
+returns-in-Class t c = search (rules, plain_declaration)
