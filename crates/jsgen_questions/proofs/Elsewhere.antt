@@ -32,6 +32,7 @@ pub no_open_target : (n : AssignmentTarget Node) → false ≡ ends_open (assign
 no_open_target (targets.IdentifierReference b) = refl
 no_open_target (targets.StaticMemberExpression b) = refl
 no_open_target (targets.ComputedMemberExpression b) = refl
+no_open_target (targets.PrivateFieldExpression b) = refl
 no_open_target (targets.ArrayAssignmentTarget b) = refl
 no_open_target (targets.ObjectAssignmentTarget b) = refl
 
@@ -71,6 +72,7 @@ pub no_target_string : (n : AssignmentTarget Node) → None ≡ string_statement
 no_target_string (targets.IdentifierReference b) = refl
 no_target_string (targets.StaticMemberExpression b) = refl
 no_target_string (targets.ComputedMemberExpression b) = refl
+no_target_string (targets.PrivateFieldExpression b) = refl
 no_target_string (targets.ArrayAssignmentTarget b) = refl
 no_target_string (targets.ObjectAssignmentTarget b) = refl
 

@@ -67,6 +67,7 @@ wrapped_alone : (type : NodeType) → is_simple_assignment_target type ≡ true 
 wrapped_alone types.IdentifierReference h test items = refl
 wrapped_alone types.StaticMemberExpression h test items = refl
 wrapped_alone types.ComputedMemberExpression h test items = refl
+wrapped_alone types.PrivateFieldExpression h test items = refl
 wrapped_alone type h test items = absurd (both_ways false refl h)
 
 -- what is forbidden outside its parentheses stays forbidden in them

@@ -178,6 +178,7 @@ target_place : (type : NodeType) → is_simple_assignment_target type ≡ true �
 target_place types.IdentifierReference h = refl
 target_place types.StaticMemberExpression h = refl
 target_place types.ComputedMemberExpression h = refl
+target_place types.PrivateFieldExpression h = refl
 target_place type h = absurd (both_ways false refl h)
 
 -- a target that may stand there
