@@ -9,6 +9,7 @@ const STRINGS = ['""', "'it\\'s'", '"a\\nb"', "'</script>'", '"\\u2028 ${x} `"',
 const QUOTED = [...STRINGS, '"default"', `'"'`, `"'\\""`, `'""\\''`];
 const WHOLE = ["0", "1", "7", "42", "1000000", "340282366920938463463374607431768211455"];
 const RAW = ["1.5", "0x1F", "0b101", "0o17", "1e3", "1E-7", "1_000", "1_000.5e-7", ".5", "5.", "340282366920938463463374607431768211456"];
+const PATTERNS = ["/a/", "/[/]\\//g", "/=b/i", "/script>/", "/[</script]/m", "/(?<a>é)\\k<a>/u", "/\\//dgimsuy"];
 const DEPTH = 4;
 
 /** A program's text. */
@@ -358,6 +359,7 @@ class Draw {
   leaf() {
     const kinds = [() => this.name(), () => this.name(), () => this.of(STRINGS), () => this.of(WHOLE)];
     if (wordsOf("NumericLiteral", "kind").includes("raw")) kinds.push(() => this.of(RAW));
+    if (isType("RegExpLiteral")) kinds.push(() => this.of(PATTERNS));
     if (isType("BigIntLiteral")) kinds.push(() => `${this.of(WHOLE)}n`, () => "0xFn");
     if (isType("ImportMeta")) kinds.push(() => "import.meta");
     for (const [type, word] of [["ThisExpression", "this"], ["NullLiteral", "null"], ["BooleanLiteral", this.of(["true", "false"])]]) {
