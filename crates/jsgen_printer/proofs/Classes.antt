@@ -13,7 +13,7 @@ use Rattle.std.proofs.lemmas.Str.{IsUtf8-string_bytes}
 use Rattle.jsgen_syntax.specs.Escapes.{name_text, has_escapes}
 use Rattle.jsgen_tree.specs.Characters.{characters}
 use Rattle.jsgen_tree.proofs.Texts.{same_characters}
-use Rattle.jsgen_model.specs.Items.{Items, ◌⊕◌, indentation, deeper, in_class, brackets, wrapped, wrapped_at_start, parentheses_unless_minified, where_same, statement_end}
+use Rattle.jsgen_model.specs.Items.{Items, ◌⊕◌, indentation, deeper, in_class, brackets, wrapped, wrapped_at_start, parentheses_unless_minified, unless_minified, where_same, statement_end}
 use Rattle.jsgen_model.specs.Punctuator.{Round, opening}
 use Rattle.jsgen_model.specs.Layout.{Pen, nowhere, layout, written, written_if, other_end, name_ending, with_private_name, entered, indented, indent_or_space, at_indentation, end_statement, deeper_level, are_same, is_barred, not}
 use Rattle.jsgen_model.specs.Private.{name_in, has_table}
@@ -72,6 +72,7 @@ keeps_classes (wrapped test a) pen = keeps_classes a (written_if test (opening R
 keeps_classes (wrapped_at_start test opener a) pen = keeps_classes a (written_if (test || is_barred opener pen.start) (opening Round) pen)
 keeps_classes (parentheses_unless_minified a) pen = keeps_classes a (written_if (not pen.style.minified) (opening Round) pen)
 keeps_classes (where_same m n a b) pen = either_keeps (are_same pen.style.tables m n) pen.classes (layout a pen) (layout b pen) (keeps_classes a pen) (keeps_classes b pen)
+keeps_classes (unless_minified a) pen = either_keeps pen.style.minified pen.classes pen (layout a pen) refl (keeps_classes a pen)
 keeps_classes indentation pen = indentation_keeps pen.style.minified pen
 keeps_classes statement_end pen = end_keeps pen.style.minified pen
 keeps_classes item pen = refl
