@@ -24,6 +24,7 @@ pub no_target_method : (n : AssignmentTarget Node) (place : Place) â†’ nothing â
 no_target_method (targets.IdentifierReference b) place = refl
 no_target_method (targets.StaticMemberExpression b) place = refl
 no_target_method (targets.ComputedMemberExpression b) place = refl
+no_target_method (targets.PrivateFieldExpression b) place = refl
 no_target_method (targets.ArrayAssignmentTarget b) place = refl
 no_target_method (targets.ObjectAssignmentTarget b) place = refl
 

@@ -178,7 +178,8 @@ def lemma(table, s, at):
 def answers(table, s, at):
     every, name = parts(table, s), function_name(table, s, at)
     facts = " ".join((["c.requires"] if at else []) + [f"c.in_default.not-{m}" for m in every[at][1]])
-    each, given = members_answers(table, s, every[at][1]), "g c" if table.generic(s.name) else "c"
+    is_alone = at + 1 == len(every) and len(every[at][1]) == 1
+    each, given = members_answers(table, s, every[at][1], is_alone), "g c" if table.generic(s.name) else "c"
     if at + 1 < len(every):
         goal, later = f"{function_name(table, s, at + 1)}-requires", function_name(table, s, at + 1)
         each.append(f"pub returns-in_default : goal.returns-in_default\nreturns-in_default {given} = c.{later}.ensures")
@@ -195,12 +196,12 @@ def choice_answers(table, s):
     return layout.antt(about, [], [(home, "goal")], "\n\n".join(members_answers(table, s, s.members)))
 
 
-def members_answers(table, s, members):
-    """An answer a member; the last of a part by itself has no name of its own."""
+def members_answers(table, s, members, is_alone=False):
+    """An answer a member; that of a last part with one member has no name of its own."""
     each, given = [], "g c" if table.generic(s.name) else "c"
     for m in members:
         deref = "deref" if m == members[0] else f"deref-in-{m}"
-        goal = "returns" if members == s.members[-1:] else f"returns-in-{m}"
+        goal = "returns" if is_alone else f"returns-in-{m}"
         called = f"(c.get.ensures, c.{deref}.ensures) at c.print" if m in table.sets else f"c.{deref}.ensures at c.print_{snake(m)}"
         each.append(f"pub {goal} : goal.{goal}\n{goal} {given} = rw c.in-{m}.is (rw {called}.ensures)")
     return each
