@@ -25,9 +25,12 @@ pub fn try_print(p: &mut Printer<'_>, node: Option<&Expression>) -> bool {
             let is_defined = try_print_define_property_call(p, call, Context::FREE);
             is_required || is_defined
         }
-        Some(Expression::AssignmentExpression(node)) => {
-            try_print_exports_computed_target(p, &node.left, Context::FREE)
-        }
+        Some(Expression::AssignmentExpression(node)) => match node.left.get() {
+            Node::AssignmentTarget(target) => {
+                try_print_exports_computed_target(p, target, Context::FREE)
+            }
+            _ => false,
+        },
         Some(Expression::BinaryExpression(node)) => match node.right.get() {
             Node::Expression(operand) => try_print_equality_string(p, node.operator, operand),
             _ => false,
