@@ -55,10 +55,23 @@ function members(node) {
 }
 
 function literal(node) {
-  if (node.regex) return ["regular expression", node.regex.pattern, node.regex.flags];
+  if (node.regex) return ["regular expression", inAscii(node.regex.pattern), node.regex.flags];
   if (node.bigint !== undefined) return ["big integer", BigInt(node.bigint).toString()];
   if (typeof node.value === "number") return ["number", numberOf(node.raw)];
   return [typeof node.value === "string" ? "string" : "literal", node.value];
+}
+
+// A pattern as it is printed in ASCII: each unit past it as an escape, in place of a backslash that escaped the character.
+function inAscii(pattern) {
+  let text = "";
+  let escaped = false;
+  for (let at = 0; at < pattern.length; at++) {
+    const unit = pattern.charCodeAt(at);
+    if (unit > 0x7f && escaped) text = text.slice(0, -1);
+    text += unit > 0x7f ? `\\u${unit.toString(16).toUpperCase().padStart(4, "0")}` : pattern[at];
+    escaped = pattern[at] === "\\" && !escaped;
+  }
+  return text;
 }
 
 // A number by its text: a job's has no dot at its front or its end.
