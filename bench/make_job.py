@@ -1,4 +1,4 @@
-"""Writes a job: `make_job.py SIZE [renamed|nested|sum|logical|choices|list|classes|patterns|deep|ascii|wide|escapes] [minify]`.
+"""Writes a job: `make_job.py SIZE [renamed|nested|sum|logical|choices|list|classes|patterns|deep|templates|pattern|ascii|wide|escapes] [minify]`.
 
 SIZE is in megabytes. By itself the job holds declarations and statements, blocks and `if` of mixed expressions, a third of
 which are literals, unary operations, updates, `new`, and arrays and objects up to six deep, and a fifth of the others
@@ -10,7 +10,8 @@ conditionals, each the alternate of the one before, as often as fill it; with `l
 With `classes` it holds classes of fields, methods, accessors and static blocks, half of whose members have private names, which
 the job's tables rename; with `patterns`, declarations of patterns up to six deep and assignments to such; and with `deep`, in
 text whose indentation has no width, classes 10,000 deep, each in a field of the one round it, as often as fill it: each has a
-private name of its own and uses that of the next one outwards.
+private name of its own and uses that of the next one outwards. With `templates` it is one template of 12,500 pieces a megabyte,
+and with `pattern` one regular expression whose pattern has half the job's bytes.
 With `ascii`, `wide` and `escapes` it is one string as long as the job: of ASCII, of characters of one to four bytes, and
 with a quote or another character that needs an escape at every tenth place.
 """
@@ -29,6 +30,7 @@ DEPTH = 1000
 CLASSES = 10000
 CHAIN = 20000
 NUMBERS = 12500
+PIECES = 12500
 STRINGS = {
     "ascii": ("abcdefghij klmnop,.", None),
     "wide": ("abcde é日本ß\U0001F600xyz", None),
@@ -436,8 +438,30 @@ def string_statement(rows, kind, wanted, draw):
     return rows.statement(rows.add('{"type":"CallExpression","callee":%d,"arguments":[%d]}' % (callee, string)))
 
 
+# One template whose pieces have some eighty characters each, with a name between two of them.
+def template_statement(rows, megabytes):
+    text = "a piece of text, \\\\n $ \\\\` and </script> too, as templates have it here and there "
+    cooked = text.replace("\\\\n", "\\n").replace("\\\\`", "`")
+    count = megabytes * PIECES
+    quasis = [rows.add('{"type":"TemplateElement","raw":"%s","cooked":"%s"}' % (text, cooked)) for _ in range(count)]
+    names = [rows.short_name() for _ in range(count - 1)]
+    fields = ",".join(map(str, quasis)), ",".join(map(str, names))
+    return rows.statement(rows.add('{"type":"TemplateLiteral","quasis":[%s],"expressions":[%s]}' % fields))
+
+
+# One pattern of half so many bytes as a job of this size has.
+def pattern_statement(rows, megabytes):
+    pattern = "[a-z/]\\\\/x*" * (megabytes * 500000 // 12)
+    return rows.statement(rows.add('{"type":"RegExpLiteral","pattern":"%s","flags":"gu"}' % pattern))
+
+
+ALONE = {"templates": template_statement, "pattern": pattern_statement}
+
+
 def body_of(rows, kind, megabytes, draw):
     wanted, body = megabytes * 1000000, []
+    if kind in ALONE:
+        return [ALONE[kind](rows, megabytes)]
     if kind in STRINGS:
         return [string_statement(rows, kind, wanted, draw)]
     if kind == "list":
@@ -456,7 +480,7 @@ def body_of(rows, kind, megabytes, draw):
 
 def main():
     words = sys.argv[2:]
-    kind = next((it for it in words if it in ("renamed", "nested", *CHAINS, "list", *DRAWN, *STRINGS)), "mixed")
+    kind = next((it for it in words if it in ("renamed", "nested", *CHAINS, "list", *DRAWN, *ALONE, *STRINGS)), "mixed")
     rows = Rows(Names() if kind == "renamed" else OwnNames())
     body = body_of(rows, kind, int(sys.argv[1]), random.Random(1))
     rows.add('{"type":"Program","kind":"module","body":[%s]}' % ",".join(map(str, body)))

@@ -245,4 +245,19 @@ let nearest, rest;
 ({ count: census.total, none: census.none = nearest } = census);
 for (const [name, value] of Object.entries(census)) report.push("  " + name + ": " + value);
 report.push(rest + " further lines, " + Census.isOne(census) + ", " + Census.isOne({}));
-console.log(report.join("\n"), planets.length, new Date(0).getTime());
+
+// What is told last, by a generator and by what is waited for.
+function* partsOf(planet, depth = 1) {
+  for (const [name, part] of Object.entries(planet)) {
+    yield `${"  ".repeat(depth)}${name}`;
+    if (typeof part === "object") yield* partsOf(part, depth + 1);
+  }
+}
+
+const tell = async ({ name, ...planet }) => {
+  report.push(`${name} has: ${"$"}{`);
+  for await (const line of partsOf(planet)) report.push(line);
+  report.push(await import("node:path").then(({ sep }) => `\`${sep.length}\` \${} ${String.raw`\u`}`));
+  console.log(report.join("\n"), planets.length, new Date(0).getTime());
+};
+tell(earth);

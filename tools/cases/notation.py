@@ -13,6 +13,7 @@ TABLE = Table(Path(__file__).resolve().parents[1] / "nodes" / "table.txt")
 ASSIGNMENT = {word for word, _ in TABLE.words["AssignmentOperator"].words}
 DECLARING = {word for word, _ in TABLE.words["VariableDeclarationKind"].words}
 LOGICAL = ("&&", "||", "??")
+DECLARED = ("Statement", "Declaration", "ExportDefaultDeclarationKind")     # where a function is a declaration
 SIGN = re.compile(
     r"""\s*(?:
     (?P<string>"(?:[^"\\]|\\.)*")
@@ -277,7 +278,8 @@ class Reader:
         return Child(node_type, **dict(self.several(")", lambda: self.field(fields, in_order))))
 
     def field(self, fields, in_order):
-        """A field's name and what it holds: the field that is named, or else the next one. The span is always named."""
+        """A field's name and what it holds: the field that is named, or else the next one, but a flag where no flag stands here. The
+        span is always named."""
         by_name = {field.name: field for field in fields}
         is_named = self.is_before("=")
         if is_named and self.value == "span":
@@ -289,7 +291,7 @@ class Reader:
             field = by_name[self.take()]
             self.take()
         else:
-            field = next(in_order, None)
+            field = next((it for it in in_order if it.kind != "flag" or self.value in ("true", "false")), None)
         if field is None:
             raise NotProgram(f"there is no field for {self.value!r}")
         return field.name, self.held(field)
@@ -313,7 +315,7 @@ class Reader:
 
     def child(self, field):
         """None where it is left out; else a word alone is a name of the field's kind, and a function is a declaration where a
-        statement may stand, and an expression elsewhere."""
+        statement may stand or what is exported, and an expression elsewhere."""
         if self.is_here("null"):
             self.take()
             return None
@@ -322,7 +324,7 @@ class Reader:
                 return self.binding()
             if field.kind in ("IdentifierName", "LabelIdentifier", "PrivateIdentifier"):
                 return Child(field.kind, name=self.take())
-        is_function = self.is_here("function") and field.kind != "Statement"
+        is_function = self.is_here("function") and field.kind not in DECLARED
         return self.expression() if is_function else self.statement()
 
 

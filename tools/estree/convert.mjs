@@ -91,9 +91,18 @@ class Rows {
 
   program(node, comments, hasSource) {
     const rows = this.comments(comments);
+    const hashbang = this.hashbang(node);
     const { directives, statements } = this.body(node.body);
     if (node.sourceType === "script") this.refuse("a script", node);
-    this.add("Program", node, { source: hasSource ? this.source : null, kind: "module", comments: rows, directives, body: statements });
+    this.add("Program", node, { source: hasSource ? this.source : null, kind: "module", comments: rows, hashbang, directives, body: statements });
+  }
+
+  // The first line of the source, where it begins with `#!`; a tree without a source has it as Babel's do.
+  hashbang(node) {
+    const value = this.source === undefined ? node.interpreter?.value : /^#!(.*)/.exec(this.source)?.[1];
+    if (value === undefined) return null;
+    const end = 2 + value.length;
+    return this.add("Hashbang", this.source === undefined ? node.interpreter : { start: 0, end }, { value }, "value");
   }
 
   // Comments have their spans in any case.
@@ -160,6 +169,12 @@ class Rows {
           handler: this.maybe(node.handler, this.handler),
           finalizer: this.maybe(node.finalizer, this.statement),
         });
+      case "ImportDeclaration":
+        return this.importDeclaration(node);
+      case "ExportNamedDeclaration":
+      case "ExportAllDeclaration":
+      case "ExportDefaultDeclaration":
+        return this.exported(node);
       default:
         return this.loop(node);
     }
@@ -214,6 +229,89 @@ class Rows {
 
   declarator(node) {
     return this.add(node.type, node, { id: this.binding(node.id), init: this.maybe(node.init, this.expression) });
+  }
+
+  // ---- imports and exports
+
+  importDeclaration(node) {
+    const hasBraces = node.specifiers.length === 0 && this.isBraceBetween(node, node.source);
+    return this.add(
+      node.type,
+      node,
+      {
+        import_kind: node.importKind ?? "value",
+        phase: node.phase,
+        specifiers: node.specifiers.length > 0 || hasBraces ? this.several(node.specifiers, this.importSpecifier) : null,
+        source: this.expression(node.source),
+        with_clause: this.withClause(node),
+      },
+      hasBraces ? "specifiers" : undefined,
+    );
+  }
+
+  importSpecifier(node) {
+    const local = this.binding(node.local);
+    if (node.type !== "ImportSpecifier") return this.add(node.type, node, { local });
+    return this.add(node.type, node, { import_kind: node.importKind ?? "value", imported: this.moduleName(node.imported), local });
+  }
+
+  // The attributes of an import or an export. An empty clause is found in the source alone.
+  withClause(node) {
+    const attributes = node.attributes ?? node.assertions ?? [];
+    const isEmpty = attributes.length === 0 && this.isBraceBetween({ start: endOf(node.source) }, { start: endOf(node) });
+    if (attributes.length === 0 && !isEmpty) return null;
+    const keyword = node.extra?.deprecatedAssertSyntax ? "assert" : "with";
+    return this.add("WithClause", null, { keyword, entries: this.several(attributes, this.attribute) });
+  }
+
+  attribute(node) {
+    return this.add(node.type, node, { key: this.moduleName(node.key), value: this.expression(node.value) });
+  }
+
+  // Whether a brace stands in the source from the one start to the other, outside of comments.
+  isBraceBetween(from, to) {
+    if (this.source === undefined || startOf(from) === undefined) return false;
+    return this.source.slice(startOf(from), startOf(to)).replace(/\/\*[^]*?\*\/|\/\/.*/g, "").includes("{");
+  }
+
+  exported(node) {
+    if (node.type === "ExportDefaultDeclaration") return this.add(node.type, node, { declaration: this.defaultExport(node.declaration) });
+    if (node.declaration) return this.add("ExportDeclaration", node, { declaration: this.statement(node.declaration) });
+    const export_kind = node.exportKind ?? "value";
+    if (node.type === "ExportAllDeclaration") {
+      return this.add(node.type, node, { export_kind, exported: this.maybe(node.exported, this.moduleName), ...this.from(node) });
+    }
+    if (node.source) {
+      const specifiers = this.several(node.specifiers, this.specifierFrom);
+      return this.add("ExportFromDeclaration", node, { export_kind, specifiers, ...this.from(node) });
+    }
+    return this.add(node.type, node, { export_kind, specifiers: this.several(node.specifiers, this.specifierOfOwn) });
+  }
+
+  from(node) {
+    return { source: this.expression(node.source), with_clause: this.withClause(node) };
+  }
+
+  defaultExport(node) {
+    return /^(Function|Class)Declaration$/.test(node.type) ? this.statement(node) : this.expression(node);
+  }
+
+  specifierFrom(node) {
+    return this.exportSpecifier(node, this.moduleName(node.local));
+  }
+
+  // Of a module's own names: what is exported is a reference.
+  specifierOfOwn(node) {
+    return this.exportSpecifier(node, this.expression(node.local));
+  }
+
+  exportSpecifier(node, local) {
+    return this.add(node.type, node, { export_kind: node.exportKind ?? "value", local, exported: this.moduleName(node.exported) });
+  }
+
+  // A name of an import, an export or an attribute: as it is written, or a string.
+  moduleName(node) {
+    return node.type === "Identifier" ? this.name(node) : this.expression(node);
   }
 
   // ---- patterns
@@ -332,6 +430,10 @@ class Rows {
         });
       case "UnaryExpression":
         return this.unary(node);
+      case "AwaitExpression":
+        return this.add(node.type, node, { argument: this.expression(node.argument) });
+      case "YieldExpression":
+        return this.add(node.type, node, { delegate: node.delegate, argument: this.maybe(node.argument, this.expression) });
       case "UpdateExpression":
         return this.add(node.type, node, { operator: node.operator, prefix: node.prefix, argument: this.target(node.argument) });
       case "ConditionalExpression":
@@ -356,9 +458,37 @@ class Rows {
         return this.function(node, "expression");
       case "ClassExpression":
         return this.class(node, "expression");
+      case "AwaitExpression":
+        return this.add(node.type, node, { argument: this.expression(node.argument) });
+      case "YieldExpression":
+        return this.add(node.type, node, { delegate: node.delegate, argument: this.maybe(node.argument, this.expression) });
+      case "ImportExpression":
+        return this.add(node.type, node, {
+          phase: node.phase, source: this.expression(node.source), options: this.maybe(node.options, this.expression),
+        });
+      case "TemplateLiteral":
+        return this.template(node);
+      case "TaggedTemplateExpression":
+        return this.add(node.type, node, {
+          tag: this.expression(node.tag), type_arguments: node.typeArguments, quasi: this.template(node.quasi),
+        });
       default:
         return this.refuse(node.type, node);
     }
+  }
+
+  template(node) {
+    return this.add(node.type, node, {
+      quasis: this.several(node.quasis, this.piece), expressions: this.several(node.expressions, this.expression),
+    });
+  }
+
+  // A piece of a template: its text as it is written, with plain line ends, and what that stands for.
+  piece(node) {
+    const { raw, cooked } = node.value;
+    const row = this.add(node.type, node, { raw }, "raw");
+    if (typeof cooked === "string") this.rows[row].cooked = unitsOf(cooked);
+    return row;
   }
 
   literal(node) {

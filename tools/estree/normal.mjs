@@ -41,11 +41,24 @@ function formOf(node) {
       return ["arrow", node.async, normal(node.params), normal(node.body)];
     case "IfStatement":
       return ["if", normal(node.test), normal(unbraced(node.consequent)), normal(node.alternate)];
+    case "ImportSpecifier":
+      return ["imported", textOf(node.imported), normal(node.local)];
+    case "ExportSpecifier":
+      return ["exported", textOf(node.local), textOf(node.exported)];
+    case "ExportAllDeclaration":
+      return ["exported from", node.exported ? textOf(node.exported) : null, normal(node.source), normal(node.attributes ?? [])];
+    case "ImportAttribute":
+      return ["attribute", textOf(node.key), normal(node.value)];
     case "ExpressionStatement":
       return node.directive === undefined ? members(node) : ["directive", withoutParentheses(node.expression).value];
     default:
       return members(node);
   }
+}
+
+// A name of an import, an export or an attribute, be it written as a name or as a string.
+function textOf(node) {
+  return node.name ?? node.value;
 }
 
 // A node by its type and what its fields hold, by their names.

@@ -1,5 +1,5 @@
 // Programs that are made up, of all that jsgen reads by now, each fixed by a number.
-import { isType, wordsOf } from "./reads.mjs";
+import { isField, isType, wordsOf } from "./reads.mjs";
 
 const NAMES = ["a", "b", "total", "$", "_x", "größe", "日本", "of", "async", "get", "undefined"];
 const KEYS = [...NAMES, "if", "class", "__proto__", "constructor"];
@@ -10,13 +10,24 @@ const QUOTED = [...STRINGS, '"default"', `'"'`, `"'\\""`, `'""\\''`];
 const WHOLE = ["0", "1", "7", "42", "1000000", "340282366920938463463374607431768211455"];
 const RAW = ["1.5", "0x1F", "0b101", "0o17", "1e3", "1E-7", "1_000", "1_000.5e-7", ".5", "5.", "340282366920938463463374607431768211456"];
 const PATTERNS = ["/a/", "/[/]\\//g", "/=b/i", "/script>/", "/[</script]/m", "/(?<a>é)\\k<a>/u", "/\\//dgimsuy"];
+const PIECES = ["", "", "a", "\\n", "\\`", "\\${", "\\$", "$", "\\u{1F600}", "\\\n", "é日本", "</script>", "<\\/SCRIPT", "\\u2028", "\\\u2028", '"', "'"];
+const INVALID_PIECES = ["\\u", "\\x1", "\\01", "\\u{110000}"];
+const MODULES = ['"x"', "'./a b.js'", '"é"'];
+const EXPORTED = ["a", "default", "if", "größe", '"a b"', "'é'", '"a"'];
 const DEPTH = 4;
+const NEITHER = { awaits: false, yields: false };
 
 /** A program's text. */
 export function randomProgram(seed) {
   const draw = new Draw(seed);
+  const hashbang = isField("Program", "hashbang") && draw.below(5) === 0 ? ["#!/usr/bin/env node"] : [];
   const directives = draw.below(6) === 0 ? ['"use strict";', "'a\\\nb';"].slice(0, 1 + draw.below(2)) : [];
-  return [...directives, ...draw.several(1, 26, () => draw.item(DEPTH))].join("\n");
+  return [...hashbang, ...directives, ...draw.several(1, 26, () => draw.moduleItem(DEPTH))].join("\n");
+}
+
+// A regular expression at the start behind `await` or `yield` is one that acorn doesn't always read.
+function noPattern(text) {
+  return /^\(*\//.test(text) ? "a" : text;
 }
 
 class Draw {
@@ -26,6 +37,10 @@ class Draw {
     this.loops = 0; // round what is drawn, up to the next function
     this.functions = 0;
     this.privates = []; // private names of the classes round what is drawn
+    this.awaits = isType("AwaitExpression"); // whether `await` may stand there
+    this.yields = false;
+    this.exports = new Set();
+    this.names = []; // those that the module declares and exports
   }
 
   // A whole number below the limit (a congruential generator of 32 bits, from its upper half).
@@ -40,6 +55,67 @@ class Draw {
 
   several(least, most, make) {
     return Array.from({ length: least + this.below(most - least + 1) }, make);
+  }
+
+  // ---- modules
+
+  // What stands at the top of a module.
+  moduleItem(depth) {
+    if (!isType("ExportDeclaration") || this.below(6) > 0) return this.item(depth);
+    return this.of([this.import, this.import, this.exportList, this.exportFrom, this.exportDeclaration, this.exportDefault]).call(this, depth);
+  }
+
+  import() {
+    const own = () => `n${this.declared++}`;
+    const from = this.of(MODULES);
+    const first = this.below(3) === 0 ? [own()] : [];
+    switch (this.below(5)) {
+      case 0:
+        return `import ${from};`;
+      case 1:
+        return `import ${[...first, `* as ${own()}`].join(", ")} from ${from};`;
+      case 2:
+        return `import ${own()} from ${from};`;
+      default:
+        return `import ${[...first, this.braces(this.several(0, 3, () => this.of([own(), `${this.of(EXPORTED)} as ${own()}`])))].join(", ")} from ${from};`;
+    }
+  }
+
+  braces(parts) {
+    return `{ ${parts.join(", ")} }`;
+  }
+
+  // The name, or where the module exports it already another one.
+  exportedName(name) {
+    const text = name.replace(/^(["'])(.*)\1$/, "$2");
+    const chosen = this.exports.has(text) ? `e${this.declared++}` : name;
+    this.exports.add(chosen === name ? text : chosen);
+    return chosen;
+  }
+
+  exportList() {
+    if (this.names.length === 0) return "export {};";
+    return `export ${this.braces(this.several(0, 3, () => `${this.of(this.names)} as ${this.exportedName(this.of(EXPORTED))}`))};`;
+  }
+
+  exportFrom() {
+    const all = () => this.of(["*", `* as ${this.exportedName(this.of(EXPORTED))}`]);
+    const list = () => this.braces(this.several(0, 3, () => `${this.of(EXPORTED)} as ${this.exportedName(this.of(EXPORTED))}`));
+    return `export ${this.below(2) ? all() : list()} from ${this.of(MODULES)};`;
+  }
+
+  exportDeclaration(depth) {
+    const name = this.exportedName(`n${this.declared++}`);
+    this.names.push(name);
+    return `export ${this.of([() => `const ${name} = ${this.assigned(depth)};`, () => this.function(depth, name), () => this.class(depth, name)])()}`;
+  }
+
+  exportDefault(depth) {
+    if (this.exports.has("default")) return this.item(depth);
+    this.exports.add("default");
+    const name = this.below(2) ? `n${this.declared++}` : "";
+    const makers = [() => this.function(depth, name), () => this.class(depth, name), () => this.begun(this.assigned(depth))];
+    return `export default ${this.of(makers)()}`;
   }
 
   // ---- statements
@@ -83,6 +159,9 @@ class Draw {
       when("ForStatement", (depth) => this.round(() => `for (${this.first(depth)}; ${this.part(depth)}; ${this.part(depth)}) ${this.statement(depth)}`)),
       when("ForInStatement", (depth) => this.round(() => `for (${this.left(depth)} in ${this.expression(depth)}) ${this.statement(depth)}`)),
       when("ForOfStatement", (depth) => this.round(() => `for (${this.left(depth)} of ${this.assigned(depth)}) ${this.statement(depth)}`)),
+      this.awaits && isField("ForOfStatement", "is_await")
+        ? (depth) => this.round(() => `for await (${this.leftOfAwait(depth)} of ${noPattern(this.assigned(depth))}) ${this.statement(depth)}`)
+        : null,
       when("LabeledStatement", (depth) => this.labelled(depth)),
       when("SwitchStatement", (depth) => this.round(() => this.cases(depth))),
       when("TryStatement", (depth) => this.attempt(depth)),
@@ -116,6 +195,10 @@ class Draw {
 
   part(depth) {
     return this.below(3) ? this.expression(depth) : "";
+  }
+
+  leftOfAwait(depth) {
+    return this.below(6) ? this.left(depth) : "async";
   }
 
   left(depth) {
@@ -152,10 +235,31 @@ class Draw {
   // ---- functions
 
   function(depth, name) {
-    return `function ${name}${this.parameters(depth)} ${this.functionBody(depth)}`;
+    const { before, star, words } = this.kindOfFunction();
+    return `${before}function${star} ${name}${this.parameters(depth)} ${this.functionBody(depth, words)}`;
   }
 
-  functionBody(depth) {
+  // Whether a function or a method is async, and whether it is a generator: what stands before it, and what may stand in it.
+  kindOfFunction() {
+    const awaits = isField("Function", "is_async") && this.below(4) === 0;
+    const yields = isField("Function", "generator") && this.below(5) === 0;
+    return { before: awaits ? "async " : "", star: yields ? "*" : "", words: { awaits, yields } };
+  }
+
+  // Draws where `await` and `yield` may stand so.
+  with({ awaits, yields }, make) {
+    const outside = { awaits: this.awaits, yields: this.yields };
+    Object.assign(this, { awaits: awaits && isType("AwaitExpression"), yields: yields && isType("YieldExpression") });
+    const text = make();
+    Object.assign(this, outside);
+    return text;
+  }
+
+  functionBody(depth, words = NEITHER) {
+    return this.with(words, () => this.bodyApart(depth));
+  }
+
+  bodyApart(depth) {
     return this.apart(this.functions + 1, () => {
       const directives = this.below(6) === 0 ? ['"use asm";', "'a';"].slice(0, 1 + this.below(2)) : [];
       return `{ ${[...directives, ...this.several(0, 3, () => this.item(depth))].join(" ")} }`;
@@ -181,6 +285,10 @@ class Draw {
   }
 
   parameterList(depth) {
+    return this.with(NEITHER, () => this.parametersApart(depth));
+  }
+
+  parametersApart(depth) {
     const drawn = this.several(0, 3, () => this.of(NAMES)).filter((name, at, all) => all.indexOf(name) === at);
     const names = drawn.map((name) => (this.below(4) ? name : this.binding(depth - 1)));
     const rest = names.length > 0 && this.below(4) === 0 ? [`...${names.pop()}`] : [];
@@ -208,7 +316,8 @@ class Draw {
 
   otherElement(depth) {
     if (isType("StaticBlock") && this.below(6) === 0) {
-      return `static ${this.apart(0, () => `{ ${this.several(0, 2, () => this.item(depth)).join(" ")} }`)}`;
+      const items = () => `{ ${this.several(0, 2, () => this.item(depth)).join(" ")} }`;
+      return `static ${this.with(NEITHER, () => this.apart(0, items))}`;
     }
     return this.classElement(depth, this.below(4) ? this.of(MEMBERS) : `[${this.assigned(depth)}]`);
   }
@@ -217,10 +326,10 @@ class Draw {
   classElement(depth, key) {
     const before = this.below(3) === 0 ? "static " : "";
     const get = () => `${before}get ${key}() ${this.functionBody(depth)}`;
-    const set = () => `${before}set ${key}(${this.binding(depth)}) ${this.functionBody(depth)}`;
+    const set = () => `${before}set ${key}(${this.with(NEITHER, () => this.binding(depth))}) ${this.functionBody(depth)}`;
     switch (this.below(6)) {
       case 0:
-        return `${before}${key}${this.parameters(depth)} ${this.functionBody(depth)}`;
+        return `${before}${this.method(depth, key)}`;
       case 1:
         return get();
       case 2:
@@ -228,8 +337,13 @@ class Draw {
       case 3:
         return `${before}${key};`;
       default:
-        return `${before}${key} = ${this.assigned(depth)};`;
+        return `${before}${key} = ${this.with(NEITHER, () => this.assigned(depth))};`;
     }
+  }
+
+  method(depth, key) {
+    const { before, star, words } = this.kindOfFunction();
+    return `${before}${star}${key}${this.parameters(depth)} ${this.functionBody(depth, words)}`;
   }
 
   // One of the private names that may be used here, or null.
@@ -308,7 +422,7 @@ class Draw {
 
   // What may not begin a statement stands in parentheses, and so does what would be a directive.
   begun(text) {
-    return /^(\{|function\b|class\b|let\b|async\b|["'])/.test(text) ? `(${text});` : `${text};`;
+    return /^(\{|function\b|class\b|let\b|async\b|import\b|\/=|["'])/.test(text) ? `(${text});` : `${text};`;
   }
 
   // ---- expressions, each with what it is made of in parentheses by half
@@ -347,8 +461,28 @@ class Draw {
       when("Class", this.classExpression),
       when("PrivateInExpression", this.privateIn),
       when("ObjectAssignmentTarget", this.destructuring),
+      when("TemplateLiteral", (depth) => this.template(depth, PIECES)),
+      when("TaggedTemplateExpression", (depth) => `${this.inside(depth)}${this.template(depth, [...PIECES, ...INVALID_PIECES])}`),
+      when("ImportExpression", (depth) => `import(${this.assigned(depth)})`),
+      this.awaits ? (depth) => this.halfWrapped(`await ${noPattern(this.inside(depth))}`) : null,
+      this.yields ? (depth) => `(${this.yield(depth)})` : null,
       this.quoted,
     ];
+  }
+
+  // Of two pieces no `$` ends the one before the `{` of another.
+  template(depth, pieces) {
+    const texts = this.several(1, 3, () => this.of(pieces));
+    const parts = texts.map((text, at) => `${at > 0 ? `\${${this.expression(depth - 1)}}` : ""}${text === "$" ? "\\$" : text}`);
+    return `\`${parts.join("")}\``;
+  }
+
+  yield(depth) {
+    return this.of(["yield", `yield ${noPattern(this.assigned(depth))}`, `yield* ${noPattern(this.assigned(depth))}`]);
+  }
+
+  halfWrapped(text) {
+    return this.below(2) ? `(${text})` : text;
   }
 
   // A name of any kind, or that of a constant, which may be one of another block.
@@ -433,11 +567,11 @@ class Draw {
   property(depth) {
     switch (this.below(isType("Function") ? 8 : 6)) {
       case 6:
-        return `${this.key(depth)}${this.parameters(depth)} ${this.functionBody(depth)}`;
+        return this.method(depth, this.key(depth));
       case 7:
         return this.below(2)
           ? `get ${this.key(depth)}() ${this.functionBody(depth)}`
-          : `set ${this.key(depth)}(${this.below(4) ? this.of(NAMES) : this.binding(depth)}) ${this.functionBody(depth)}`;
+          : `set ${this.key(depth)}(${this.below(4) ? this.of(NAMES) : this.with(NEITHER, () => this.binding(depth))}) ${this.functionBody(depth)}`;
       case 0:
         return this.name();
       case 1:
@@ -484,15 +618,17 @@ class Draw {
   arrow(depth) {
     const { names, items, rest } = this.parameterList(depth);
     const isBare = items.length + rest.length === 1 && items[0] === names[0] && !/^[[{]/.test(items[0]) && this.below(2) === 0;
-    return `${isBare ? names[0] : `(${[...items, ...rest].join(", ")})`} => ${this.arrowBody(depth)}`;
+    const awaits = isField("ArrowFunctionExpression", "is_async") && this.below(4) === 0;
+    const body = this.with({ awaits, yields: false }, () => this.arrowBody(depth, { awaits, yields: false }));
+    return `${awaits ? "async " : ""}${isBare ? names[0] : `(${[...items, ...rest].join(", ")})`} => ${body}`;
   }
 
   // Some have an object at their start, which stands in parentheses.
-  arrowBody(depth) {
+  arrowBody(depth, words) {
     switch (this.below(isType("FunctionBody") ? 10 : 8)) {
       case 8:
       case 9:
-        return this.functionBody(depth);
+        return this.functionBody(depth, words);
       case 0:
         return `(${this.expression(depth)})`;
       case 1:

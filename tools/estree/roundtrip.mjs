@@ -1,13 +1,12 @@
 // `node tools/estree/roundtrip.mjs [--random COUNT [--seed NUMBER]] [DIRECTORY ..]`: every JavaScript file below the directories
-// is parsed, cut down to what jsgen reads by now, printed under each set of options, parsed again, and compared by normal form;
-// where its names are printed by tables, with that of the source in which these names alone are renamed.
+// that is a module is printed whole under each set of options, parsed again, and compared by normal form; where its names are
+// printed by tables, with that of the source in which these names alone are renamed.
 // With --random, so many programs that are made up are printed so too. A run that fails is told by its file and line (of a program
 // that is made up, its number stands for the file), its set of options and what differs, the first ten of them.
 import { readFileSync, readdirSync, statSync } from "node:fs";
 import { join } from "node:path";
 import { Refused, printed, run } from "./command.mjs";
-import { jobOf } from "./convert.mjs";
-import { cutWithLines, isRead, lineOf } from "./cut.mjs";
+import { jobOf, NotRead } from "./convert.mjs";
 import { firstDifference, normal } from "./normal.mjs";
 import { parsed } from "./parser.mjs";
 import { randomProgram } from "./random.mjs";
@@ -38,7 +37,7 @@ const SHOWN = 10;
 
 class Tally {
   constructor() {
-    this.programs = this.whole = this.passed = this.runs = this.bad = 0;
+    this.programs = this.passed = this.runs = this.bad = 0;
     this.started = Date.now();
   }
 
@@ -54,8 +53,7 @@ class Tally {
 
   summary() {
     const seconds = ((Date.now() - this.started) / 1000).toFixed(0);
-    return `${this.programs} programs, ${this.whole} of them whole; ${this.passed} files had nothing that is read, or are no modules; `
-      + `${this.runs} runs, ${this.bad} bad; ${seconds} s`;
+    return `${this.programs} programs; ${this.passed} files are no modules, or aren't read; ${this.runs} runs, ${this.bad} bad; ${seconds} s`;
   }
 }
 
@@ -67,16 +65,21 @@ function jobAndSource(source, { options = {}, parentheses = false, negative = fa
   return [job, names ? renamedSource(source, names) : source];
 }
 
-// A program that is tried: its name, its text, and the lines of a text of the same lines in the file.
+// A program that is tried: its name and its text.
 class Tried {
-  constructor(name, text, lineInFile = (line) => line) {
-    Object.assign(this, { name, text, lineInFile });
+  constructor(name, text) {
+    Object.assign(this, { name, text });
   }
 
   // Where the offset of a text with this one's lines stands.
   place(text, offset) {
-    return `${this.name}:${this.lineInFile(lineOf(text, offset))}`;
+    return `${this.name}:${lineOf(text, offset)}`;
   }
+}
+
+// The line of an offset, counted from 1.
+function lineOf(text, offset) {
+  return text.slice(0, offset).split(/\r\n|[\n\r\u2028\u2029]/).length;
 }
 
 // Prints the program under each set, and looks at what comes.
@@ -141,22 +144,19 @@ function excerpt(code, offset) {
 
 function tryFile(tally, path) {
   const source = readFileSync(path, "utf8");
-  let program;
+  if (isModule(source)) tryProgram(tally, new Tried(path, source));
+  else tally.passed++;
+}
+
+// Whether the text is a module, all of which is read.
+function isModule(source) {
   try {
-    program = parsed(source);
+    jobOf(parsed(source), { spans: false });
+    return true;
   } catch (error) {
-    if (!(error instanceof SyntaxError)) throw error;
-    tally.passed++;
-    return;
+    if (error instanceof SyntaxError || error instanceof NotRead) return false;
+    throw error;
   }
-  const isWhole = isRead(program);
-  const { text, lineInSource } = cutWithLines(source, program, parsed);
-  if (text === "" && !isWhole) {
-    tally.passed++;
-    return;
-  }
-  if (isWhole) tally.whole++;
-  tryProgram(tally, new Tried(path, text, lineInSource));
 }
 
 function* filesBelow(path) {

@@ -19,15 +19,16 @@ export const SIGNS = ["é", "日本", "größe", "\u{20BB7}", "ñ", "ℵ", "π\u
  * The tables of a job that print each binding of the program by a new name, which no other binding and no global of it has, and
  * each private name by one that no class round its own has given. `symbols`, `references` and `private` are those of the job;
  * `symbolOf` and `referenceOf` have the numbers of the nodes, and `privateOf` the new names of the private ones; `shorthand` are
- * the references and bindings that are properties too, as in `{ a }`. A binding that is `__proto__` there, in an object that is
- * no pattern, keeps its name, since of such a property the name is more than a name.
+ * the references and bindings that are properties too, as in `{ a }`, and `specifiers` those of imports and exports, as in
+ * `export { a }`, with how they are written out. A binding that is `__proto__` in an object that is no pattern keeps its name,
+ * since of such a property the name is more than a name, and so does what `export` declares.
  */
 export function renaming(program, letters = LETTERS) {
   const scopes = new Scopes(letters);
   scopes.body(program.body, null);
-  const kept = new Set(scopes.protos.map((node) => scopes.symbolBehind(node)));
-  const globals = new Set(scopes.references.filter(({ symbol }) => symbol === null).map(({ name }) => name));
-  const fresh = freshNames(letters, globals);
+  const kept = new Set([...scopes.protos.map((node) => scopes.symbolBehind(node)), ...scopes.exported.map((node) => scopes.symbolOf.get(node))]);
+  const globals = scopes.references.filter(({ symbol }) => symbol === null).map(({ name }) => name);
+  const fresh = freshNames(letters, new Set([...globals, ...[...kept].map((symbol) => scopes.symbols[symbol])]));
   return {
     symbols: scopes.symbols.map((name, symbol) => (kept.has(symbol) ? name : fresh.next().value)),
     references: scopes.references.map(({ symbol }) => symbol),
@@ -36,11 +37,12 @@ export function renaming(program, letters = LETTERS) {
     referenceOf: scopes.referenceOf,
     privateOf: scopes.privateOf,
     shorthand: scopes.shorthand,
+    specifiers: scopes.specifiers,
   };
 }
 
 /** The source with the new names in it: what the job with these tables is to print, in other words. */
-export function renamedSource(source, { symbols, references, symbolOf, referenceOf, privateOf, shorthand }) {
+export function renamedSource(source, { symbols, references, symbolOf, referenceOf, privateOf, shorthand, specifiers }) {
   const bindings = [...symbolOf].map(([node, symbol]) => [node, symbols[symbol]]);
   const looked = [...referenceOf].filter(([, reference]) => references[reference] !== null);
   const uses = looked.map(([node, reference]) => [node, symbols[references[reference]]]);
@@ -49,11 +51,24 @@ export function renamedSource(source, { symbols, references, symbolOf, reference
   let text = "";
   let at = 0;
   for (const [node, name] of edits) {
-    const isWrittenOut = shorthand.has(node) && name !== node.name;
-    text += source.slice(at, node.start) + (isWrittenOut ? `${node.name}: ${name}` : name);
+    text += source.slice(at, node.start) + writtenOut(node, name, shorthand, specifiers);
     at = node.end;
   }
   return text + source.slice(at);
+}
+
+// The new name, beside the old one where that stood for two.
+function writtenOut(node, name, shorthand, specifiers) {
+  if (name === node.name) return name;
+  if (shorthand.has(node)) return `${node.name}: ${name}`;
+  switch (specifiers.get(node)) {
+    case "import":
+      return `${node.name} as ${name}`;
+    case "export":
+      return `${name} as ${node.name}`;
+    default:
+      return name;
+  }
 }
 
 // Names of one letter, of two, and so on.
@@ -75,6 +90,8 @@ class Scopes {
     this.classes = []; // each with where its body begins, and the new names of its private ones
     this.privateOf = new Map();
     this.shorthand = new Set();
+    this.specifiers = new Map(); // names that stand for both names of an import or an export
+    this.exported = []; // what `export` declares
     this.protos = [];
   }
 
@@ -148,6 +165,13 @@ class Scopes {
         return this.cases(node.cases, scope);
       case "CatchClause":
         return this.handler(node, this.caught(node, scope));
+      case "ImportDeclaration":
+        for (const { local, imported } of node.specifiers) if (local.start === imported?.start) this.specifiers.set(local, "import");
+        return null;
+      case "ExportAllDeclaration":
+        return null;
+      case "ExportNamedDeclaration":
+        return this.exports(node, scope);
       case "LabeledStatement":
         return this.visit(node.body, scope);
       case "BreakStatement":
@@ -170,6 +194,20 @@ class Scopes {
       default:
         return this.children(node, scope);
     }
+  }
+
+  // What is exported by its name is a reference, but of another module's.
+  exports({ declaration, specifiers, source }, scope) {
+    if (declaration) {
+      this.exported.push(...declaredBy(declaration), ...(declaration.kind === "var" ? namesOf(declaration) : []));
+      return this.visit(declaration, scope);
+    }
+    if (source) return null;
+    for (const { local, exported } of specifiers) {
+      if (local.start === exported.start) this.specifiers.set(local, "export");
+      this.reference(local, scope);
+    }
+    return null;
   }
 
   children(node, scope) {
@@ -300,10 +338,22 @@ function namesOf({ declarations }) {
   return declarations.flatMap(({ id }) => boundIn(id));
 }
 
-// The names that a statement declares in the block that it stands in.
+// The names that a statement declares in the block that it stands in. A default export may declare none.
 function declaredBy(node) {
-  if (node.type === "FunctionDeclaration" || node.type === "ClassDeclaration") return [node.id];
-  return node.type === "VariableDeclaration" && node.kind !== "var" ? namesOf(node) : [];
+  switch (node?.type) {
+    case "FunctionDeclaration":
+    case "ClassDeclaration":
+      return node.id ? [node.id] : [];
+    case "ImportDeclaration":
+      return node.specifiers.map(({ local }) => local);
+    case "ExportNamedDeclaration":
+    case "ExportDefaultDeclaration":
+      return declaredBy(node.declaration);
+    case "VariableDeclaration":
+      return node.kind === "var" ? [] : namesOf(node);
+    default:
+      return [];
+  }
 }
 
 // The names that it declares by `var`, in whatever block within it, but in no function and no static block.

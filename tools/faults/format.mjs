@@ -6,7 +6,7 @@ import { readFileSync } from "node:fs";
 const TABLE = new URL("../nodes/table.txt", import.meta.url);
 const SCHEMA = new URL("../../docs/job.schema.json", import.meta.url);
 const VALUES = new Set(["text", "units", "digits", "number", "flag"]);
-const FIELD = /^(\w+)(?: as \w+)? (unread )?(\S+?)(!?)(\?\*|\?|\*|)(?: at \w+)?(?: for (\S+))?( = .*)?$/;
+const FIELD = /^(\w+)(?: as \w+)? (unread )?(\S+?)(!?)(\?\*|\*\?|\?|\*|)(?: at \w+)?(?: for (\S+))?( = .*)?$/;
 
 /** The types, each with its fields from number 2 on, and the options, each with what it may hold. */
 export function readFormat() {

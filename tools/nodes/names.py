@@ -70,7 +70,7 @@ def is_data(words):
 
 # The plain data of trees: the names of each module that other definitions take from it.
 TREE = [(f"{SPECS}.Tree", ["Tree", "Trees", "Maybe", "MaybeTrees", "Slots", "Atoms", "node", "no_slots", "one", "maybe", "many",
-                           "maybe_many", "absent", "given", "no_trees", "more", "hole", "no_list", "listed", "optional",
+                           "maybe_many", "absent", "given", "no_trees", "more", "hole", "no_list", "listed", "optional", "optional_list",
                            "trees", "holed", "type_of", "atoms_of", "span_of"])]
 
 

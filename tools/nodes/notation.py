@@ -17,7 +17,7 @@
                      f@L at the level L, with nothing forbidden; f@L% where calls may stand; f@= at the row's own place
     LIST f           children with a comma and a soft space between, each as a child f would stand there
     BODY f           a statement as a body
-    [f: ..]          where the flag f is set, or where there is a child f, which stands once in it
+    [f: ..]          where the flag f is set, a sign; or where there is a child f, which stands once in it
     P[L: ..]         the row in parentheses, where the level of its place is at least L, and within them `in` may stand
     P[L! ..]         the same, but what is forbidden outside stays forbidden within
     LINE[..]         the row, among statements with indentation before it and the end of a statement behind it
@@ -26,7 +26,7 @@
 import re
 
 SIGNS = {";": "semicolon", ",": "comma", ":": "colon", "?": "question", "=": "equal", "=>": "arrow", "...": "ellipsis",
-         "?.": "question_dot"}
+         "?.": "question_dot", "*": "star"}
 BRACKETS = {"(": ("Round", ")"), "[": ("Square", "]"), "{": ("Brace", "}")}
 PLAIN = {"_": "soft_space", "~": "hard_space", "NL": "soft_line", "TAB": "indentation", "END": "statement_end",
          "SEMI": "due_semicolon", "DOT": "member_dot", "BEGIN": "statement_begins"}

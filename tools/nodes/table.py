@@ -24,7 +24,7 @@ class Field:
     name: str
     rust: str
     kind: str           # a value, or the name of words, a set or a type
-    many: str           # "" one, "?" one or none, "*" a list, "?*" a list with holes
+    many: str           # "" one, "?" one or none, "*" a list, "?*" a list with holes, "*?" a list or none
     default: str        # None where it has none
     only_for: str       # the word of `kind` for which it is required; None where it is one for all
     unread: bool
@@ -38,7 +38,7 @@ class Field:
 
     @property
     def is_list(self):
-        return self.many in ("*", "?*")
+        return self.many in ("*", "?*", "*?")
 
     @property
     def required(self):
@@ -177,7 +177,7 @@ class Table:
                     raise SystemExit(f"{n.name}.{f.name}: a child for rows of one kind has no form yet")
                 if f.place and self.places.get(f.place) != f.kind:
                     raise SystemExit(f"{n.name}.{f.name}: no place {f.place} for {f.kind}")
-                if not f.unread and f.many and not self.is_child(f) and f.kind + f.many != "number?":
+                if not f.unread and f.many and not self.is_child(f) and f.kind + f.many not in ("number?", "units?"):
                     raise SystemExit(f"{n.name}.{f.name}: a value {f.kind}{f.many} has no form yet")
         for w in self.words.values():
             once(w.name, [word for word, _ in w.words])
@@ -217,7 +217,7 @@ class Table:
         """The types in a set, those of the sets in it among them; of a type, itself."""
         if name in self.nodes:
             return [name]
-        return [t for m in self.sets[name].members for t in self.types_in(m)]
+        return list(dict.fromkeys(t for m in self.sets[name].members for t in self.types_in(m)))
 
     def child_sets(self):
         """The sets and types that children are of, in the order of their first use."""

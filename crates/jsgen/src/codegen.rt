@@ -350,13 +350,14 @@ impl<'a> Codegen<'a> {
     }
 }
 
-// What the context of a call forbids.
+// What the context of a call says.
 fn place_context(context: Context) -> jsgen_place::Context
     ensures { result ≡ context_at context }
 {
     jsgen_place::Context {
         forbids_in: context.forbid_in(),
         forbids_call: context.forbid_call(),
+        is_tagged: context.tagged_template(),
     }
 }
 

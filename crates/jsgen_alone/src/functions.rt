@@ -1,6 +1,6 @@
 // Generated from tools/nodes/table.txt; edit that and run tools/nodes/generate.
 // What is printed by itself, or at a level.
-ghost use Rattle.jsgen_tree.specs.Rows.{formal_parameter_row, formal_parameter_rest_row, formal_parameters_row, function_row, function_body_row, arrow_function_expression_row};
+ghost use Rattle.jsgen_tree.specs.Rows.{formal_parameter_row, formal_parameter_rest_row, formal_parameters_row, function_row, function_body_row, arrow_function_expression_row, await_expression_row, yield_expression_row};
 ghost use Rattle.jsgen_syntax.specs.declared.precedence.Precedence.TheVariants.{Lowest};
 ghost use Rattle.jsgen_place.specs.Place.{at_level};
 ghost use Rattle.jsgen_model.specs.Spell.{spell};
@@ -12,11 +12,14 @@ use jsgen_nodes::functions::{
 use jsgen_nodes::{Inside, PrintNode};
 use jsgen_place::{Context, Place};
 use jsgen_printer::Printer;
-use jsgen_spelled::{print_formal_parameter, print_formal_parameter_rest};
+use jsgen_spelled::{
+    print_await_expression, print_formal_parameter, print_formal_parameter_rest,
+    print_yield_expression,
+};
 use jsgen_syntax::Precedence;
 use jsgen_tree::{
-    ArrowFunctionExpression, FormalParameter, FormalParameterRest, FormalParameters, Function,
-    FunctionBody,
+    ArrowFunctionExpression, AwaitExpression, FormalParameter, FormalParameterRest,
+    FormalParameters, Function, FunctionBody, YieldExpression,
 };
 
 impl<N: PrintNode> PrintAlone for FormalParameter<N> {
@@ -68,5 +71,21 @@ impl<N: PrintNode> PrintAtLevel for ArrowFunctionExpression<N> {
 
     fn print_at(&self, p: &mut Printer<'_>, place: Place) {
         print_arrow_function_expression(self, p, place);
+    }
+}
+
+impl<N: PrintNode> PrintAtLevel for AwaitExpression<N> {
+    ghost plain = { await_expression_row N.plain };
+
+    fn print_at(&self, p: &mut Printer<'_>, place: Place) {
+        print_await_expression::<_, Inside>(self, p, place);
+    }
+}
+
+impl<N: PrintNode> PrintAtLevel for YieldExpression<N> {
+    ghost plain = { yield_expression_row N.plain };
+
+    fn print_at(&self, p: &mut Printer<'_>, place: Place) {
+        print_yield_expression::<_, Inside>(self, p, place);
     }
 }

@@ -8,11 +8,13 @@ mod collections;
 mod expressions;
 mod functions;
 mod loops;
+mod modules;
 mod operations;
 mod patterns;
 mod sets;
 mod statements;
 mod targets;
+mod templates;
 
 use jsgen_place::{Context, Place};
 use jsgen_printer::Printer;

@@ -1,16 +1,18 @@
 // Generated from tools/nodes/table.txt; edit that and run tools/nodes/generate.
 // What is printed by itself, or at a level.
 ghost use Rattle.jsgen_tree.specs.Tree.{type_of};
-ghost use Rattle.jsgen_tree.specs.Rows.{in_argument, in_array_expression_element, in_simple_assignment_target, in_assignment_target_pattern, in_assignment_target_maybe_default, in_assignment_target_property, in_for_statement_init, in_for_statement_left, in_object_property_kind, in_property_key, expression_plain, assignment_target_plain, statement_plain, binding_pattern_plain, class_element_plain};
+ghost use Rattle.jsgen_tree.specs.Rows.{in_argument, in_array_expression_element, in_simple_assignment_target, in_assignment_target_pattern, in_assignment_target_maybe_default, in_assignment_target_property, in_for_statement_init, in_for_statement_left, in_object_property_kind, in_property_key, in_module_export_name, in_export_default_declaration_kind, expression_plain, assignment_target_plain, statement_plain, binding_pattern_plain, class_element_plain};
 ghost use Rattle.jsgen_syntax.specs.declared.precedence.Precedence.TheVariants.{Lowest, Comma};
-ghost use Rattle.jsgen_place.specs.Place.{at_level, in_brackets, among_statements, loop_head};
+ghost use Rattle.jsgen_place.specs.Place.{at_level, in_brackets, among_statements, within_statement, loop_head, plainly};
 ghost use Rattle.jsgen_model.specs.Items.{◌⊕◌};
-ghost use Rattle.jsgen_model.specs.Spell.{spell, key_text, left_place, element_end};
+ghost use Rattle.jsgen_model.specs.Spell.{spell, key_text, left_place, element_end, default_items, is_declared};
 
 use crate::{PrintAlone, PrintAtLevel};
+use jsgen_modules::print_module_export_name;
 use jsgen_nodes::classes::print_ended_element;
 use jsgen_nodes::collections::{print_key_text, print_object_property};
 use jsgen_nodes::loops::print_left;
+use jsgen_nodes::modules::print_export_default_declaration_kind;
 use jsgen_nodes::sets::{
     print_assignment_target, print_binding_pattern, print_expression,
     print_simple_assignment_target, print_statement,
@@ -27,9 +29,9 @@ use jsgen_syntax::Precedence;
 use jsgen_targets::print_assignment_target_with_default;
 use jsgen_tree::{
     Argument, ArrayExpressionElement, AssignmentTarget, AssignmentTargetMaybeDefault,
-    AssignmentTargetPattern, AssignmentTargetProperty, BindingPattern, ClassElement, Expression,
-    ForStatementInit, ForStatementLeft, ObjectPropertyKind, PropertyKey, SimpleAssignmentTarget,
-    Statement,
+    AssignmentTargetPattern, AssignmentTargetProperty, BindingPattern, ClassElement,
+    ExportDefaultDeclarationKind, Expression, ForStatementInit, ForStatementLeft, ModuleExportName,
+    ObjectPropertyKind, PropertyKey, SimpleAssignmentTarget, Statement,
 };
 
 impl<N: PrintNode> PrintAtLevel for Expression<N> {
@@ -200,5 +202,23 @@ impl<N: PrintNode> PrintAlone for ClassElement<N> {
     fn print_alone(&self, p: &mut Printer<'_>, context: Context) {
         let _ = context;
         print_ended_element(self, p, Place::at_level(Precedence::Lowest, context));
+    }
+}
+
+impl PrintAlone for ModuleExportName {
+    ghost alone = { λ n context. spell (in_module_export_name n) plainly };
+
+    fn print_alone(&self, p: &mut Printer<'_>, context: Context) {
+        let _ = context;
+        print_module_export_name(self, p);
+    }
+}
+
+impl<N: PrintNode> PrintAlone for ExportDefaultDeclarationKind<N> {
+    ghost alone = { λ n context. default_items (is_declared (in_export_default_declaration_kind N.plain n)) (spell (in_export_default_declaration_kind N.plain n) within_statement) (spell (in_export_default_declaration_kind N.plain n) (in_brackets Comma)) };
+
+    fn print_alone(&self, p: &mut Printer<'_>, context: Context) {
+        let _ = context;
+        print_export_default_declaration_kind(self, p);
     }
 }

@@ -6,12 +6,12 @@ use Rattle.jsgen_tree.specs.declared.types.NodeSet.TheVariants as sets
 use Rattle.jsgen_tree.specs.Options.{Options}
 use Rattle.jsgen_tree.specs.Job.{Tables}
 use Rattle.jsgen_tree.specs.Tree.{Tree, span_of}
-use Rattle.jsgen_model.specs.Valid.{breaches, set_faults, fault_if, passes_levels, indent_faults, height, expression_breaches, Judges}
+use Rattle.jsgen_model.specs.Valid as valid
+use Rattle.jsgen_model.specs.Valid.{at_top, breaches, set_faults, fault_if, passes_levels, indent_faults, height, expression_breaches, Judges}
 use Rattle.jsgen_model.specs.declared.fault.TreeFault.{TreeFault}
 use Rattle.jsgen_model.specs.declared.fault.TreeFault.TheVariants as faults
 use Rattle.jsgen_rules.specs.Verdict.{verdict}
-use Rattle.jsgen_check.specs.declared.surroundings.Surroundings.{Surroundings}
-use Rattle.jsgen_check.specs.Verdict.{surroundings_plain, capped, measured, topped, child_verdict, height_faults}
+use Rattle.jsgen_check.specs.Verdict.{capped, measured, topped, child_verdict, height_faults}
 
 -- of a height that is counted up to what 64 bits hold, either nothing is cut off, or it passes 32 bits and so does the height
 passes : (options : Options) (n : ℕ) → (capped n ≡ n) ⊎ (nat_lt 4294967295 (options.initial_indent + capped n) ≡ true) × (nat_lt 4294967295 (options.initial_indent + n) ≡ true)
@@ -35,10 +35,10 @@ unfolding verdict
 judged [] = refl
 judged (f ∷ a) = (0, omega arith, refl)
 
-pub of_expression : {r : Result (Unit {0}) TreeFault} {q : Result ℕ TreeFault} (around : Surroundings) (options : Options) (handed : Tables) (s : Span) (t : Tree) → surroundings_plain around ≡ record { options = options; tables = handed; source = []; is_mapped = false; in_function = false } → s ≡ span_of t → r ≡ topped options s q → q ≡ child_verdict around sets.Expression t → Judges (expression_breaches options handed t) r
+pub of_expression : {r : Result (Unit {0}) TreeFault} {q : Result ℕ TreeFault} (here : valid.Surroundings) (options : Options) (handed : Tables) (s : Span) (t : Tree) → here ≡ at_top options handed [] false → s ≡ span_of t → r ≡ topped options s q → q ≡ child_verdict here 0 sets.Expression t → Judges (expression_breaches options handed t) r
 unfolding child_verdict
-of_expression {r} {q} around options handed s t same is top below =
-    let rules = set_faults sets.Expression t ++ breaches (surroundings_plain around) t in
+of_expression {r} {q} here options handed s t same is top below =
+    let rules = set_faults sets.Expression t ++ breaches here 0 t in
     let first = top ∙ (ap (topped options s) below ∙ (ap (λ x. topped options x (measured (height t) rules)) is ∙ of_topped options (span_of t) (height t) rules)) in
     let judges : Judges (rules ++ indent_faults options t) r = rw first (judged (rules ++ indent_faults options t)) in
     rw same at judges

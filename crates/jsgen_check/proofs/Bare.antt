@@ -1,15 +1,20 @@
 -- Declarators of patterns without a value.
-use Rattle.std.proofs.Common.{◌≡◌, ℕ, ◌+◌, ◌<◌, ◌≤◌, Bool, true, false, not, ◌&&◌, ◌||◌, List, ◌∷◌, map, drop, length, Option, Some, None, refl, sym, ap, ◌∙◌}
+use Rattle.std.proofs.Common.{◌≡◌, ℕ, ◌+◌, ◌<◌, ◌≤◌, Bool, true, false, not, ◌&&◌, ◌||◌, List, ◌∷◌, map, drop, length, Option, Some, None, is_some, refl, sym, ap, ◌∙◌}
 use Rattle.std.proofs.Math.ListN.{get_or}
 use Rattle.std.proofs.lemmas.List.{at_drop_all, at_drop_more}
 use Rattle.jsgen_tree.specs.Nodes as tree
-use Rattle.jsgen_tree.specs.Rows.{variable_declarator_row}
+use Rattle.std.proofs.lemmas.Option.{same_Some}
+use Rattle.jsgen_tree.specs.Rows.{variable_declarator_row, binding_identifier_row, function_row}
+use Rattle.jsgen_tree.specs.Plain.{node_plain}
+use Rattle.jsgen_tree.specs.declared.nodes.Node.{Node}
+use Rattle.jsgen_tree.specs.declared.functions.Function.{Function}
+use Rattle.jsgen_tree.proofs.Bound.{name_given}
 use Rattle.jsgen_tree.specs.Tree.{Tree, trees}
-use Rattle.jsgen_tree.specs.Inside.{function_in, class_kind_in}
+use Rattle.jsgen_tree.specs.Inside.{function_in, class_head_in}
 use Rattle.jsgen_tree.specs.declared.classes.ClassKind.{ClassKind}
 use Rattle.jsgen_tree.specs.declared.types.NodeSet.{NodeSet}
 use Rattle.jsgen_tree.specs.declared.statements.VariableDeclarator.{VariableDeclarator}
-use Rattle.jsgen_model.specs.Valid.{lacks_value, any_lacks_value, binds_nothing, is_among_statements, fits_kind, same_kind, as_function_kind, stands_among}
+use Rattle.jsgen_model.specs.Valid.{lacks_value, any_lacks_value, binds_nothing, is_among_statements, fits_kind, fits_place, as_function_kind}
 
 abbrev pub any_of : {N : Type 0} → (N → Tree) → List (VariableDeclarator N) → Bool
 any_of plain xs = any_lacks_value (trees (map (variable_declarator_row plain) xs))
@@ -33,12 +38,17 @@ none_bound : (b : Bool) → not (b && false) ≡ true
 none_bound true = refl
 none_bound false = refl
 
-pub bound_there : (set : NodeSet) (t : Tree) → function_in t ≡ None → class_kind_in t ≡ None → not (is_among_statements set && binds_nothing t) ≡ fits_kind set t
+pub bound_there : (set : NodeSet) (t : Tree) → function_in t ≡ None → class_head_in t ≡ None → not (is_among_statements set && binds_nothing t) ≡ fits_kind set t
 bound_there set (tree.function a id params body) e none = absurd (cc)
 bound_there set (tree.class a id heritage body) e none = absurd (cc)
 bound_there set (tree.variable_declaration a declarations) e none = refl
 bound_there set t e none = none_bound (is_among_statements set)
 
-pub class_there : (set : NodeSet) (t : Tree) (kind : ClassKind) → class_kind_in t ≡ Some kind → same_kind (as_function_kind kind) (stands_among set) ≡ fits_kind set t
-class_there set (tree.class a id heritage body) kind e = cc
-class_there set t kind e = absurd (cc)
+pub class_there : (set : NodeSet) (t : Tree) (kind : ClassKind) (named : Bool) → class_head_in t ≡ Some (kind, named) → fits_place set (as_function_kind kind) named ≡ fits_kind set t
+class_there set (tree.class a id heritage body) kind named e = sym (ap (λ (q : ClassKind × Bool). fits_place set (as_function_kind q.0) q.1) (same_Some _ _ e))
+class_there set t kind named e = absurd (cc)
+
+-- a function fits by its kind, and by whether it has a name
+pub function_there : (set : NodeSet) (t : Tree) (f : Function Node) → Some (function_row node_plain f) ≡ function_in t → fits_place set f.kind (is_some f.id) ≡ fits_kind set t
+function_there set (tree.function a id params body) f e = ap (fits_place set f.kind) (sym (name_given (λ b. binding_identifier_row b.value) f.id)) ∙ ap (fits_kind set) (same_Some _ _ e)
+function_there set t f e = absurd (cc)

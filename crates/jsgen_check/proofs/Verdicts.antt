@@ -1,15 +1,15 @@
 -- The verdict on a tree, from those on its parts.
-use Rattle.std.proofs.Common.{◌≡◌, ℕ, suc, max, List, [], ◌∷◌, ◌++◌, map, Result, Ok, refl, sym, ap, ◌∙◌, arith}
+use Rattle.std.proofs.Common.{◌≡◌, ℕ, suc, max, List, [], ◌∷◌, ◌++◌, Result, Ok, refl, sym, ap, ◌∙◌, arith}
 use Rattle.std.proofs.lemmas.List.{append_assoc}
 use Rattle.jsgen_tree.specs.declared.types.NodeSet.{NodeSet}
 use Rattle.jsgen_tree.specs.declared.types.NodeType.{NodeType}
 use Rattle.jsgen_tree.specs.Tree.{Tree, node, Atoms, Slots, no_slots, one, maybe, many, maybe_many, Maybe, absent, given, Trees, no_trees, more, hole, MaybeTrees, no_list, listed}
-use Rattle.jsgen_model.specs.Valid as valid
-use Rattle.jsgen_model.specs.Valid.{ChildPlace, asked_sets, around_children, breaches, span_faults, own_faults, set_faults, in_slots, in_maybe, in_trees, in_maybe_trees, height, height_of_slots, height_if_given, height_if_listed, greatest_height}
+use Rattle.jsgen_model.specs.Resolved.{after, after_slots, after_maybe, after_trees, after_maybe_trees}
+use Rattle.jsgen_model.specs.Valid.{Surroundings, ChildPlace, child_places, first_number, breaches, span_faults, own_faults, set_faults, in_slots, in_maybe, in_trees, in_maybe_trees, height, height_of_slots, height_if_given, height_if_listed, greatest_height}
 use Rattle.jsgen_model.specs.declared.fault.TreeFault.{TreeFault}
 use Rattle.jsgen_rules.specs.Verdict.{verdict}
-use Rattle.jsgen_check.specs.declared.surroundings.Surroundings.{Surroundings}
-use Rattle.jsgen_check.specs.Verdict.{surroundings_plain, capped, measured, tree_verdict, child_verdict, maybe_verdict, children_verdict, both, higher, raised}
+use Rattle.jsgen_check.specs.Verdict.{capped, measured, tree_verdict, child_verdict, maybe_verdict, children_verdict, maybe_children_verdict, both, higher, raised, SameNumber}
+use Rattle.jsgen_check.proofs.Counts.{Shares, in_slots_same, in_trees_same}
 
 -- ---- lists of faults
 
@@ -46,88 +46,92 @@ of_both (f ∷ a) b = refl
 
 -- ---- children
 
-abbrev pub maybe_children_verdict : Surroundings → NodeSet → MaybeTrees → Result ℕ TreeFault
-maybe_children_verdict around set no_list = Ok 0
-maybe_children_verdict around set (listed ts) = children_verdict around set ts
+-- of children at these places, in a node that the first surrounds
+abbrev pub slots_verdict : Surroundings → List ChildPlace → ℕ → Slots → Result ℕ TreeFault
+slots_verdict around ps next no_slots = Ok 0
+slots_verdict around (p ∷ ps) next (one t slots) = higher (child_verdict p.around next p.set t) (slots_verdict around ps (after t next) slots)
+slots_verdict around (p ∷ ps) next (maybe m slots) = higher (maybe_verdict p.around next p.set m) (slots_verdict around ps (after_maybe m next) slots)
+slots_verdict around (p ∷ ps) next (many ts slots) = higher (children_verdict p.around next p.set ts) (slots_verdict around ps (after_trees ts next) slots)
+slots_verdict around (p ∷ ps) next (maybe_many ts slots) = higher (maybe_children_verdict p.around next p.set ts) (slots_verdict around ps (after_maybe_trees ts next) slots)
+slots_verdict around [] next slots = measured (height_of_slots slots) (in_slots around [] next slots)
 
--- of children that this surrounds, in a node that the first surrounds
-abbrev pub slots_verdict : valid.Surroundings → Surroundings → List NodeSet → Slots → Result ℕ TreeFault
-slots_verdict a around sets no_slots = Ok 0
-slots_verdict a around (s ∷ sets) (one t slots) = higher (child_verdict around s t) (slots_verdict a around sets slots)
-slots_verdict a around (s ∷ sets) (maybe m slots) = higher (maybe_verdict around s m) (slots_verdict a around sets slots)
-slots_verdict a around (s ∷ sets) (many ts slots) = higher (children_verdict around s ts) (slots_verdict a around sets slots)
-slots_verdict a around (s ∷ sets) (maybe_many ts slots) = higher (maybe_children_verdict around s ts) (slots_verdict a around sets slots)
-slots_verdict a around [] slots = measured (height_of_slots slots) (in_slots a [] slots)
-
-abbrev pub place : valid.Surroundings → NodeSet → ChildPlace
+abbrev pub place : Surroundings → NodeSet → ChildPlace
 place around set = record { set = set; around = around }
 
 -- neither the places behind the first nor what surrounds the node matter to a list
-first_place : (a b : valid.Surroundings) (p : ChildPlace) (ps : List ChildPlace) (ts : Trees) → in_trees a (p ∷ ps) ts ≡ in_trees b (p ∷ []) ts
-first_place a b p ps no_trees = refl
-first_place a b p ps (more t ts) = ap (λ fs. set_faults p.set t ++ breaches p.around t ++ fs) (first_place a b p ps ts)
-first_place a b p ps (hole ts) = first_place a b p ps ts
+first_place : (around : Surroundings) (p : ChildPlace) (ps : List ChildPlace) (next : ℕ) (ts : Trees) → in_trees around (p ∷ ps) next ts ≡ in_trees p.around (place p.around p.set ∷ []) next ts
+first_place around p ps next no_trees = refl
+first_place around p ps next (more t ts) = ap (λ fs. set_faults p.set t ++ breaches p.around next t ++ fs) (first_place around p ps (after t next) ts)
+first_place around p ps next (hole ts) = first_place around p ps next ts
 
-of_list : (a : valid.Surroundings) (around : Surroundings) (s : NodeSet) (ps : List ChildPlace) (ts : Trees) → measured (greatest_height ts) (in_trees a (place (surroundings_plain around) s ∷ ps) ts) ≡ children_verdict around s ts
+of_list : (around : Surroundings) (p : ChildPlace) (ps : List ChildPlace) (next : ℕ) (ts : Trees) → measured (greatest_height ts) (in_trees around (p ∷ ps) next ts) ≡ children_verdict p.around next p.set ts
 unfolding children_verdict
-of_list a around s ps ts = ap (measured (greatest_height ts)) (first_place a (surroundings_plain around) (place (surroundings_plain around) s) ps ts)
+of_list around p ps next ts = ap (measured (greatest_height ts)) (first_place around p ps next ts)
 
-of_child : (around : Surroundings) (s : NodeSet) (t : Tree) → measured (height t) (set_faults s t ++ breaches (surroundings_plain around) t) ≡ child_verdict around s t
+of_child : (around : Surroundings) (next : ℕ) (s : NodeSet) (t : Tree) → measured (height t) (set_faults s t ++ breaches around next t) ≡ child_verdict around next s t
 unfolding child_verdict
-of_child around s t = refl
+of_child around next s t = refl
 
-of_maybe : (a : valid.Surroundings) (around : Surroundings) (s : NodeSet) (ps : List ChildPlace) (m : Maybe) → measured (height_if_given m) (in_maybe a (place (surroundings_plain around) s ∷ ps) m) ≡ maybe_verdict around s m
-of_maybe a around s ps absent = no_height
-of_maybe a around s ps (given t) = of_child around s t
+of_maybe : (around : Surroundings) (p : ChildPlace) (ps : List ChildPlace) (next : ℕ) (m : Maybe) → measured (height_if_given m) (in_maybe around (p ∷ ps) next m) ≡ maybe_verdict p.around next p.set m
+of_maybe around p ps next absent = no_height
+of_maybe around p ps next (given t) = of_child p.around next p.set t
 
-of_maybe_list : (a : valid.Surroundings) (around : Surroundings) (s : NodeSet) (ps : List ChildPlace) (ts : MaybeTrees) → measured (height_if_listed ts) (in_maybe_trees a (place (surroundings_plain around) s ∷ ps) ts) ≡ maybe_children_verdict around s ts
-of_maybe_list a around s ps no_list = no_height
-of_maybe_list a around s ps (listed ts) = of_list a around s ps ts
+of_maybe_list : (around : Surroundings) (p : ChildPlace) (ps : List ChildPlace) (next : ℕ) (ts : MaybeTrees) → measured (height_if_listed ts) (in_maybe_trees around (p ∷ ps) next ts) ≡ maybe_children_verdict p.around next p.set ts
+of_maybe_list around p ps next no_list = no_height
+of_maybe_list around p ps next (listed ts) = of_list around p ps next ts
 
 pub higher_same : {a b c d : Result ℕ TreeFault} → a ≡ b → c ≡ d → higher a c ≡ higher b d
 higher_same {a} {b} {c} {d} p q = ap (λ r. higher r c) p ∙ ap (higher b) q
 
-pub of_slots : (a : valid.Surroundings) (around : Surroundings) (sets : List NodeSet) (slots : Slots) → measured (height_of_slots slots) (in_slots a (map (place (surroundings_plain around)) sets) slots) ≡ slots_verdict a around sets slots
-of_slots a around sets no_slots = no_height
-of_slots a around (s ∷ sets) (one t slots) = of_two (height t) (height_of_slots slots) (set_faults s t ++ breaches (surroundings_plain around) t) _ ∙ higher_same (of_child around s t) (of_slots a around sets slots)
-of_slots a around (s ∷ sets) (maybe m slots) = of_two (height_if_given m) (height_of_slots slots) (in_maybe a (map (place (surroundings_plain around)) (s ∷ sets)) m) _ ∙ higher_same (of_maybe a around s (map (place (surroundings_plain around)) sets) m) (of_slots a around sets slots)
-of_slots a around (s ∷ sets) (many ts slots) = of_two (greatest_height ts) (height_of_slots slots) (in_trees a (map (place (surroundings_plain around)) (s ∷ sets)) ts) _ ∙ higher_same (of_list a around s (map (place (surroundings_plain around)) sets) ts) (of_slots a around sets slots)
-of_slots a around (s ∷ sets) (maybe_many ts slots) = of_two (height_if_listed ts) (height_of_slots slots) (in_maybe_trees a (map (place (surroundings_plain around)) (s ∷ sets)) ts) _ ∙ higher_same (of_maybe_list a around s (map (place (surroundings_plain around)) sets) ts) (of_slots a around sets slots)
-of_slots a around [] slots = refl
+pub of_slots : (around : Surroundings) (ps : List ChildPlace) (next : ℕ) (slots : Slots) → measured (height_of_slots slots) (in_slots around ps next slots) ≡ slots_verdict around ps next slots
+of_slots around ps next no_slots = no_height
+of_slots around (p ∷ ps) next (one t slots) = of_two (height t) (height_of_slots slots) (set_faults p.set t ++ breaches p.around next t) _ ∙ higher_same (of_child p.around next p.set t) (of_slots around ps (after t next) slots)
+of_slots around (p ∷ ps) next (maybe m slots) = of_two (height_if_given m) (height_of_slots slots) (in_maybe around (p ∷ ps) next m) _ ∙ higher_same (of_maybe around p ps next m) (of_slots around ps (after_maybe m next) slots)
+of_slots around (p ∷ ps) next (many ts slots) = of_two (greatest_height ts) (height_of_slots slots) (in_trees around (p ∷ ps) next ts) _ ∙ higher_same (of_list around p ps next ts) (of_slots around ps (after_trees ts next) slots)
+of_slots around (p ∷ ps) next (maybe_many ts slots) = of_two (height_if_listed ts) (height_of_slots slots) (in_maybe_trees around (p ∷ ps) next ts) _ ∙ higher_same (of_maybe_list around p ps next ts) (of_slots around ps (after_maybe_trees ts next) slots)
+of_slots around [] next slots = refl
+
+-- the numbers that are the same
+pub slots_same : (around : Surroundings) (ps : List ChildPlace) (m n : ℕ) (slots : Slots) → Shares around.tables ps → SameNumber around m n → slots_verdict around ps m slots ≡ slots_verdict around ps n slots
+slots_same around ps m n slots h same = sym (of_slots around ps m slots) ∙ (ap (measured (height_of_slots slots)) (in_slots_same around ps h m n same slots) ∙ of_slots around ps n slots)
+
+pub children_same : (around : Surroundings) (m n : ℕ) (s : NodeSet) (ts : Trees) → SameNumber around m n → children_verdict around m s ts ≡ children_verdict around n s ts
+unfolding children_verdict
+children_same around m n s ts same = ap (measured (greatest_height ts)) (in_trees_same around (place around s ∷ []) (refl, tt) m n same ts)
 
 -- ---- nodes
 
 -- a node, from what is found within it
-pub of_node : (within around : Surroundings) (type : NodeType) (a : Atoms) (slots : Slots) → surroundings_plain within ≡ around_children (surroundings_plain around) type → tree_verdict around (node type a slots) ≡ both (verdict (span_faults (surroundings_plain around) a.span)) (both (verdict (own_faults (surroundings_plain around) (node type a slots))) (raised (slots_verdict (surroundings_plain around) within (asked_sets type) slots)))
+pub of_node : (around : Surroundings) (next : ℕ) (type : NodeType) (a : Atoms) (slots : Slots) → tree_verdict around next (node type a slots) ≡ both (verdict (span_faults around a.span)) (both (verdict (own_faults around (node type a slots))) (raised (slots_verdict around (child_places around next (node type a slots)) (first_number (node type a slots) next) slots)))
 unfolding tree_verdict
-of_node within around type a slots same =
-    let here = surroundings_plain around in
-    let span = span_faults here a.span in
-    let own = own_faults here (node type a slots) in
-    let found = λ (x : valid.Surroundings). in_slots here (map (place x) (asked_sets type)) slots in
-    let below = found (surroundings_plain within) in
+of_node around next type a slots =
+    let span = span_faults around a.span in
+    let own = own_faults around (node type a slots) in
+    let ps = child_places around next (node type a slots) in
+    let first = first_number (node type a slots) next in
+    let below = in_slots around ps first slots in
     let height = height_of_slots slots in
-    ap (λ x. measured (suc height) (span ++ own ++ found x)) (sym same) ∙ (ap (measured (suc height)) (append_assoc span own below) ∙ of_rules (suc height) span (own ++ below) ∙ ap (both (verdict span)) (of_rules (suc height) own below ∙ ap (both (verdict own)) (of_next height below ∙ ap raised (of_slots here within (asked_sets type) slots))))
+    ap (measured (suc height)) (append_assoc span own below) ∙ of_rules (suc height) span (own ++ below) ∙ ap (both (verdict span)) (of_rules (suc height) own below ∙ ap (both (verdict own)) (of_next height below ∙ ap raised (of_slots around ps first slots)))
 
 -- a child, from its set and its own rules
-pub of_placed : (around : Surroundings) (s : NodeSet) (t : Tree) → child_verdict around s t ≡ both (verdict (set_faults s t)) (tree_verdict around t)
+pub of_placed : (around : Surroundings) (next : ℕ) (s : NodeSet) (t : Tree) → child_verdict around next s t ≡ both (verdict (set_faults s t)) (tree_verdict around next t)
 unfolding child_verdict tree_verdict
-of_placed around s t = of_rules (height t) (set_faults s t) (breaches (surroundings_plain around) t)
+of_placed around next s t = of_rules (height t) (set_faults s t) (breaches around next t)
 
-pub of_right_set : (around : Surroundings) (s : NodeSet) (t : Tree) → set_faults s t ≡ [] → child_verdict around s t ≡ tree_verdict around t
+pub of_right_set : (around : Surroundings) (next : ℕ) (s : NodeSet) (t : Tree) → set_faults s t ≡ [] → child_verdict around next s t ≡ tree_verdict around next t
 unfolding child_verdict tree_verdict
-of_right_set around s t h = rw h
+of_right_set around next s t h = rw h
 
 -- ---- lists
 
-pub of_no_children : (around : Surroundings) (s : NodeSet) → children_verdict around s no_trees ≡ Ok 0
+pub of_no_children : (around : Surroundings) (next : ℕ) (s : NodeSet) → children_verdict around next s no_trees ≡ Ok 0
 unfolding children_verdict
-of_no_children around s = no_height
+of_no_children around next s = no_height
 
-pub of_first : (around : Surroundings) (s : NodeSet) (t : Tree) (ts : Trees) → children_verdict around s (more t ts) ≡ higher (child_verdict around s t) (children_verdict around s ts)
+pub of_first : (around : Surroundings) (next : ℕ) (s : NodeSet) (t : Tree) (ts : Trees) → children_verdict around next s (more t ts) ≡ higher (child_verdict around next s t) (children_verdict around (after t next) s ts)
 unfolding child_verdict children_verdict
-of_first around s t ts = of_two (height t) (greatest_height ts) (set_faults s t ++ breaches (surroundings_plain around) t) (in_trees (surroundings_plain around) (place (surroundings_plain around) s ∷ []) ts)
+of_first around next s t ts = of_two (height t) (greatest_height ts) (set_faults s t ++ breaches around next t) (in_trees around (place around s ∷ []) (after t next) ts)
 
-pub of_hole : (around : Surroundings) (s : NodeSet) (ts : Trees) → children_verdict around s (hole ts) ≡ children_verdict around s ts
+pub of_hole : (around : Surroundings) (next : ℕ) (s : NodeSet) (ts : Trees) → children_verdict around next s (hole ts) ≡ children_verdict around next s ts
 unfolding children_verdict
-of_hole around s ts = refl
+of_hole around next s ts = refl

@@ -1,21 +1,28 @@
 // Generated from tools/nodes/table.txt; edit that and run tools/nodes/generate.
 // Lists, children that may be absent, and sets that don't nest.
 ghost use Rattle.std.specs.Prelude.{◌≡◌, map, option_map};
-ghost use Rattle.jsgen_tree.specs.Tree.{optional, trees, holed};
-ghost use Rattle.jsgen_tree.specs.Rows.{in_expression, in_argument, in_array_expression_element, in_chain_element, in_simple_assignment_target, in_assignment_target_maybe_default, in_assignment_target_property, in_arrow_function_body, in_for_statement_init, in_for_statement_left, in_object_property_kind, in_property_key, in_statement, in_binding_pattern, in_class_element, comment_row, directive_row, variable_declarator_row, binding_identifier_row, block_statement_row, formal_parameter_row, formal_parameter_rest_row, function_body_row, label_identifier_row, switch_case_row, catch_clause_row, binding_property_row, binding_rest_element_row, assignment_target_rest_row};
-ghost use Rattle.jsgen_check.specs.Verdict.{child_verdict, maybe_verdict, children_verdict};
+ghost use Rattle.jsgen_tree.specs.Tree.{optional, optional_list, trees, holed};
+ghost use Rattle.jsgen_tree.specs.Rows.{in_expression, in_argument, in_array_expression_element, in_chain_element, in_simple_assignment_target, in_assignment_target_maybe_default, in_assignment_target_property, in_arrow_function_body, in_for_statement_init, in_for_statement_left, in_object_property_kind, in_property_key, in_statement, in_binding_pattern, in_class_element, in_module_export_name, in_import_declaration_specifier, in_import_attribute_key, in_export_default_declaration_kind, comment_row, directive_row, variable_declarator_row, binding_identifier_row, block_statement_row, formal_parameter_row, formal_parameter_rest_row, function_body_row, template_element_row, label_identifier_row, switch_case_row, catch_clause_row, binding_property_row, binding_rest_element_row, assignment_target_rest_row, hashbang_row, with_clause_row, import_attribute_row, export_specifier_row};
+ghost use Rattle.jsgen_model.specs.Resolved.{after, after_maybe, after_trees, after_maybe_trees};
+ghost use Rattle.jsgen_check.specs.Verdict.{surroundings_plain, child_verdict, maybe_verdict, children_verdict, maybe_children_verdict, SameNumber};
 ghost use Rattle.jsgen_tree.specs.declared.types.NodeSet.TheVariants as sets;
 
 use crate::choices::{check_catch_clause, check_switch_case};
-use crate::classes::{check_private_field_expression, check_private_identifier};
+use crate::classes::{check_class, check_private_field_expression, check_private_identifier};
 use crate::collections::{check_object_property, check_spread_element};
 use crate::expressions::{
     check_call_expression, check_computed_member_expression, check_identifier_name,
-    check_identifier_reference, check_static_member_expression,
+    check_identifier_reference, check_static_member_expression, check_string_literal,
 };
-use crate::functions::{check_formal_parameter, check_formal_parameter_rest, check_function_body};
+use crate::functions::{
+    check_formal_parameter, check_formal_parameter_rest, check_function, check_function_body,
+};
 use crate::heights::higher;
 use crate::loops::check_label_identifier;
+use crate::modules::{
+    check_export_specifier, check_hashbang, check_import_attribute, check_import_default_specifier,
+    check_import_namespace_specifier, check_import_specifier, check_with_clause,
+};
 use crate::patterns::{check_binding_property, check_binding_rest_element};
 use crate::statements::{
     check_binding_identifier, check_block_statement, check_comment, check_directive,
@@ -25,49 +32,68 @@ use crate::targets::{
     check_assignment_target_property_identifier, check_assignment_target_property_property,
     check_assignment_target_rest, check_assignment_target_with_default,
 };
+use crate::templates::check_template_element;
 use crate::{CheckNode, Surroundings, check_child};
 use jsgen_model::TreeFault;
+use jsgen_rules::Classes;
 use jsgen_tree::{
     Argument, ArrayExpressionElement, ArrowFunctionBody, AssignmentTargetMaybeDefault,
     AssignmentTargetProperty, AssignmentTargetRest, BindingIdentifier, BindingPatternNode,
     BindingProperty, BindingRestElement, BlockStatement, CatchClause, ChainElement,
-    ClassElementNode, Comment, Directive, ExpressionNode, ForStatementInit, ForStatementLeft,
-    FormalParameter, FormalParameterRest, FunctionBody, LabelIdentifier, NodeSet,
-    ObjectPropertyKind, PropertyKey, SimpleAssignmentTarget, StatementNode, SwitchCase,
-    VariableDeclarator,
+    ClassElementNode, Comment, Directive, ExportDefaultDeclarationKind, ExportSpecifier,
+    ExpressionNode, ForStatementInit, ForStatementLeft, FormalParameter, FormalParameterRest,
+    FunctionBody, Hashbang, ImportAttribute, ImportAttributeKey, ImportDeclarationSpecifier,
+    LabelIdentifier, ModuleExportName, NodeSet, ObjectPropertyKind, PropertyKey,
+    SimpleAssignmentTarget, StatementNode, SwitchCase, TemplateElement, VariableDeclarator,
+    WithClause,
 };
 
-pub fn check_comments(nodes: &[Comment], around: &Surroundings<'_>) -> Result<u64, TreeFault>
-    ensures { result ≡ children_verdict around.now sets.Comment (trees (map comment_row nodes.now)) }
+pub fn check_comments(
+    nodes: &[Comment],
+    around: &Surroundings<'_>,
+    classes: Option<&Classes<'_>>,
+    next: &mut usize,
+) -> Result<u64, TreeFault>
+    ensures found { result ≡ children_verdict (surroundings_plain around.now classes.entry) next.old sets.Comment (trees (map comment_row nodes.now)) }
+    ensures number { SameNumber (surroundings_plain around.now classes.entry) next.new (after_trees (trees (map comment_row nodes.now)) next.old) }
 {
     let mut below = Ok(0);
     for node in nodes {
-        let found = check_comment(node, around);
+        let found = check_comment(node, around, classes, next);
         below = higher(below, found);
     }
     below
 }
 
-pub fn check_directives(nodes: &[Directive], around: &Surroundings<'_>) -> Result<u64, TreeFault>
-    ensures { result ≡ children_verdict around.now sets.Directive (trees (map directive_row nodes.now)) }
+pub fn check_directives(
+    nodes: &[Directive],
+    around: &Surroundings<'_>,
+    classes: Option<&Classes<'_>>,
+    next: &mut usize,
+) -> Result<u64, TreeFault>
+    ensures found { result ≡ children_verdict (surroundings_plain around.now classes.entry) next.old sets.Directive (trees (map directive_row nodes.now)) }
+    ensures number { SameNumber (surroundings_plain around.now classes.entry) next.new (after_trees (trees (map directive_row nodes.now)) next.old) }
 {
     let mut below = Ok(0);
     for node in nodes {
-        let found = check_directive(node, around);
+        let found = check_directive(node, around, classes, next);
         below = higher(below, found);
     }
     below
 }
 
-pub fn check_statements<N: CheckNode>(
+pub fn check_module_items<N: CheckNode>(
     nodes: &[StatementNode<N>],
     around: &Surroundings<'_>,
+    classes: Option<&Classes<'_>>,
+    next: &mut usize,
 ) -> Result<u64, TreeFault>
-    ensures { result ≡ children_verdict around.now sets.Statement (trees (map (in_statement N.plain) nodes.now)) }
+    ensures found { result ≡ children_verdict (surroundings_plain around.now classes.entry) next.old sets.ModuleItem (trees (map (in_statement N.plain) nodes.now)) }
+    ensures number { SameNumber (surroundings_plain around.now classes.entry) next.new (after_trees (trees (map (in_statement N.plain) nodes.now)) next.old) }
 {
     let mut below = Ok(0);
     for node in nodes {
-        let found = check_child(node.get(), NodeSet::Statement, around);
+        let found = check_child(node.get(), NodeSet::ModuleItem, around, classes, next);
         below = higher(below, found);
     }
     below
@@ -76,12 +102,32 @@ pub fn check_statements<N: CheckNode>(
 pub fn check_variable_declarators<N: CheckNode>(
     nodes: &[VariableDeclarator<N>],
     around: &Surroundings<'_>,
+    classes: Option<&Classes<'_>>,
+    next: &mut usize,
 ) -> Result<u64, TreeFault>
-    ensures { result ≡ children_verdict around.now sets.VariableDeclarator (trees (map (variable_declarator_row N.plain) nodes.now)) }
+    ensures found { result ≡ children_verdict (surroundings_plain around.now classes.entry) next.old sets.VariableDeclarator (trees (map (variable_declarator_row N.plain) nodes.now)) }
+    ensures number { SameNumber (surroundings_plain around.now classes.entry) next.new (after_trees (trees (map (variable_declarator_row N.plain) nodes.now)) next.old) }
 {
     let mut below = Ok(0);
     for node in nodes {
-        let found = check_variable_declarator(node, around);
+        let found = check_variable_declarator(node, around, classes, next);
+        below = higher(below, found);
+    }
+    below
+}
+
+pub fn check_statements<N: CheckNode>(
+    nodes: &[StatementNode<N>],
+    around: &Surroundings<'_>,
+    classes: Option<&Classes<'_>>,
+    next: &mut usize,
+) -> Result<u64, TreeFault>
+    ensures found { result ≡ children_verdict (surroundings_plain around.now classes.entry) next.old sets.Statement (trees (map (in_statement N.plain) nodes.now)) }
+    ensures number { SameNumber (surroundings_plain around.now classes.entry) next.new (after_trees (trees (map (in_statement N.plain) nodes.now)) next.old) }
+{
+    let mut below = Ok(0);
+    for node in nodes {
+        let found = check_child(node.get(), NodeSet::Statement, around, classes, next);
         below = higher(below, found);
     }
     below
@@ -90,12 +136,15 @@ pub fn check_variable_declarators<N: CheckNode>(
 pub fn check_arguments<N: CheckNode>(
     nodes: &[Argument<N>],
     around: &Surroundings<'_>,
+    classes: Option<&Classes<'_>>,
+    next: &mut usize,
 ) -> Result<u64, TreeFault>
-    ensures { result ≡ children_verdict around.now sets.Argument (trees (map (in_argument N.plain) nodes.now)) }
+    ensures found { result ≡ children_verdict (surroundings_plain around.now classes.entry) next.old sets.Argument (trees (map (in_argument N.plain) nodes.now)) }
+    ensures number { SameNumber (surroundings_plain around.now classes.entry) next.new (after_trees (trees (map (in_argument N.plain) nodes.now)) next.old) }
 {
     let mut below = Ok(0);
     for node in nodes {
-        let found = check_argument(node, around);
+        let found = check_argument(node, around, classes, next);
         below = higher(below, found);
     }
     below
@@ -104,12 +153,15 @@ pub fn check_arguments<N: CheckNode>(
 pub fn check_object_property_kinds<N: CheckNode>(
     nodes: &[ObjectPropertyKind<N>],
     around: &Surroundings<'_>,
+    classes: Option<&Classes<'_>>,
+    next: &mut usize,
 ) -> Result<u64, TreeFault>
-    ensures { result ≡ children_verdict around.now sets.ObjectPropertyKind (trees (map (in_object_property_kind N.plain) nodes.now)) }
+    ensures found { result ≡ children_verdict (surroundings_plain around.now classes.entry) next.old sets.ObjectPropertyKind (trees (map (in_object_property_kind N.plain) nodes.now)) }
+    ensures number { SameNumber (surroundings_plain around.now classes.entry) next.new (after_trees (trees (map (in_object_property_kind N.plain) nodes.now)) next.old) }
 {
     let mut below = Ok(0);
     for node in nodes {
-        let found = check_object_property_kind(node, around);
+        let found = check_object_property_kind(node, around, classes, next);
         below = higher(below, found);
     }
     below
@@ -118,12 +170,15 @@ pub fn check_object_property_kinds<N: CheckNode>(
 pub fn check_expressions<N: CheckNode>(
     nodes: &[ExpressionNode<N>],
     around: &Surroundings<'_>,
+    classes: Option<&Classes<'_>>,
+    next: &mut usize,
 ) -> Result<u64, TreeFault>
-    ensures { result ≡ children_verdict around.now sets.Expression (trees (map (in_expression N.plain) nodes.now)) }
+    ensures found { result ≡ children_verdict (surroundings_plain around.now classes.entry) next.old sets.Expression (trees (map (in_expression N.plain) nodes.now)) }
+    ensures number { SameNumber (surroundings_plain around.now classes.entry) next.new (after_trees (trees (map (in_expression N.plain) nodes.now)) next.old) }
 {
     let mut below = Ok(0);
     for node in nodes {
-        let found = check_child(node.get(), NodeSet::Expression, around);
+        let found = check_child(node.get(), NodeSet::Expression, around, classes, next);
         below = higher(below, found);
     }
     below
@@ -132,12 +187,32 @@ pub fn check_expressions<N: CheckNode>(
 pub fn check_each_formal_parameter<N: CheckNode>(
     nodes: &[FormalParameter<N>],
     around: &Surroundings<'_>,
+    classes: Option<&Classes<'_>>,
+    next: &mut usize,
 ) -> Result<u64, TreeFault>
-    ensures { result ≡ children_verdict around.now sets.FormalParameter (trees (map (formal_parameter_row N.plain) nodes.now)) }
+    ensures found { result ≡ children_verdict (surroundings_plain around.now classes.entry) next.old sets.FormalParameter (trees (map (formal_parameter_row N.plain) nodes.now)) }
+    ensures number { SameNumber (surroundings_plain around.now classes.entry) next.new (after_trees (trees (map (formal_parameter_row N.plain) nodes.now)) next.old) }
 {
     let mut below = Ok(0);
     for node in nodes {
-        let found = check_formal_parameter(node, around);
+        let found = check_formal_parameter(node, around, classes, next);
+        below = higher(below, found);
+    }
+    below
+}
+
+pub fn check_template_elements(
+    nodes: &[TemplateElement],
+    around: &Surroundings<'_>,
+    classes: Option<&Classes<'_>>,
+    next: &mut usize,
+) -> Result<u64, TreeFault>
+    ensures found { result ≡ children_verdict (surroundings_plain around.now classes.entry) next.old sets.TemplateElement (trees (map template_element_row nodes.now)) }
+    ensures number { SameNumber (surroundings_plain around.now classes.entry) next.new (after_trees (trees (map template_element_row nodes.now)) next.old) }
+{
+    let mut below = Ok(0);
+    for node in nodes {
+        let found = check_template_element(node, around, classes, next);
         below = higher(below, found);
     }
     below
@@ -146,12 +221,15 @@ pub fn check_each_formal_parameter<N: CheckNode>(
 pub fn check_switch_cases<N: CheckNode>(
     nodes: &[SwitchCase<N>],
     around: &Surroundings<'_>,
+    classes: Option<&Classes<'_>>,
+    next: &mut usize,
 ) -> Result<u64, TreeFault>
-    ensures { result ≡ children_verdict around.now sets.SwitchCase (trees (map (switch_case_row N.plain) nodes.now)) }
+    ensures found { result ≡ children_verdict (surroundings_plain around.now classes.entry) next.old sets.SwitchCase (trees (map (switch_case_row N.plain) nodes.now)) }
+    ensures number { SameNumber (surroundings_plain around.now classes.entry) next.new (after_trees (trees (map (switch_case_row N.plain) nodes.now)) next.old) }
 {
     let mut below = Ok(0);
     for node in nodes {
-        let found = check_switch_case(node, around);
+        let found = check_switch_case(node, around, classes, next);
         below = higher(below, found);
     }
     below
@@ -160,12 +238,15 @@ pub fn check_switch_cases<N: CheckNode>(
 pub fn check_binding_properties<N: CheckNode>(
     nodes: &[BindingProperty<N>],
     around: &Surroundings<'_>,
+    classes: Option<&Classes<'_>>,
+    next: &mut usize,
 ) -> Result<u64, TreeFault>
-    ensures { result ≡ children_verdict around.now sets.BindingProperty (trees (map (binding_property_row N.plain) nodes.now)) }
+    ensures found { result ≡ children_verdict (surroundings_plain around.now classes.entry) next.old sets.BindingProperty (trees (map (binding_property_row N.plain) nodes.now)) }
+    ensures number { SameNumber (surroundings_plain around.now classes.entry) next.new (after_trees (trees (map (binding_property_row N.plain) nodes.now)) next.old) }
 {
     let mut below = Ok(0);
     for node in nodes {
-        let found = check_binding_property(node, around);
+        let found = check_binding_property(node, around, classes, next);
         below = higher(below, found);
     }
     below
@@ -174,12 +255,15 @@ pub fn check_binding_properties<N: CheckNode>(
 pub fn check_assignment_target_properties<N: CheckNode>(
     nodes: &[AssignmentTargetProperty<N>],
     around: &Surroundings<'_>,
+    classes: Option<&Classes<'_>>,
+    next: &mut usize,
 ) -> Result<u64, TreeFault>
-    ensures { result ≡ children_verdict around.now sets.AssignmentTargetProperty (trees (map (in_assignment_target_property N.plain) nodes.now)) }
+    ensures found { result ≡ children_verdict (surroundings_plain around.now classes.entry) next.old sets.AssignmentTargetProperty (trees (map (in_assignment_target_property N.plain) nodes.now)) }
+    ensures number { SameNumber (surroundings_plain around.now classes.entry) next.new (after_trees (trees (map (in_assignment_target_property N.plain) nodes.now)) next.old) }
 {
     let mut below = Ok(0);
     for node in nodes {
-        let found = check_assignment_target_property(node, around);
+        let found = check_assignment_target_property(node, around, classes, next);
         below = higher(below, found);
     }
     below
@@ -188,12 +272,66 @@ pub fn check_assignment_target_properties<N: CheckNode>(
 pub fn check_class_elements<N: CheckNode>(
     nodes: &[ClassElementNode<N>],
     around: &Surroundings<'_>,
+    classes: Option<&Classes<'_>>,
+    next: &mut usize,
 ) -> Result<u64, TreeFault>
-    ensures { result ≡ children_verdict around.now sets.ClassElement (trees (map (in_class_element N.plain) nodes.now)) }
+    ensures found { result ≡ children_verdict (surroundings_plain around.now classes.entry) next.old sets.ClassElement (trees (map (in_class_element N.plain) nodes.now)) }
+    ensures number { SameNumber (surroundings_plain around.now classes.entry) next.new (after_trees (trees (map (in_class_element N.plain) nodes.now)) next.old) }
 {
     let mut below = Ok(0);
     for node in nodes {
-        let found = check_child(node.get(), NodeSet::ClassElement, around);
+        let found = check_child(node.get(), NodeSet::ClassElement, around, classes, next);
+        below = higher(below, found);
+    }
+    below
+}
+
+pub fn check_import_attributes(
+    nodes: &[ImportAttribute],
+    around: &Surroundings<'_>,
+    classes: Option<&Classes<'_>>,
+    next: &mut usize,
+) -> Result<u64, TreeFault>
+    ensures found { result ≡ children_verdict (surroundings_plain around.now classes.entry) next.old sets.ImportAttribute (trees (map import_attribute_row nodes.now)) }
+    ensures number { SameNumber (surroundings_plain around.now classes.entry) next.new (after_trees (trees (map import_attribute_row nodes.now)) next.old) }
+{
+    let mut below = Ok(0);
+    for node in nodes {
+        let found = check_import_attribute(node, around, classes, next);
+        below = higher(below, found);
+    }
+    below
+}
+
+pub fn check_export_specifiers(
+    nodes: &[ExportSpecifier],
+    around: &Surroundings<'_>,
+    classes: Option<&Classes<'_>>,
+    next: &mut usize,
+) -> Result<u64, TreeFault>
+    ensures found { result ≡ children_verdict (surroundings_plain around.now classes.entry) next.old sets.ExportSpecifier (trees (map export_specifier_row nodes.now)) }
+    ensures number { SameNumber (surroundings_plain around.now classes.entry) next.new (after_trees (trees (map export_specifier_row nodes.now)) next.old) }
+{
+    let mut below = Ok(0);
+    for node in nodes {
+        let found = check_export_specifier(node, around, classes, next);
+        below = higher(below, found);
+    }
+    below
+}
+
+pub fn check_import_declaration_specifiers(
+    nodes: &[ImportDeclarationSpecifier],
+    around: &Surroundings<'_>,
+    classes: Option<&Classes<'_>>,
+    next: &mut usize,
+) -> Result<u64, TreeFault>
+    ensures found { result ≡ children_verdict (surroundings_plain around.now classes.entry) next.old sets.ImportDeclarationSpecifier (trees (map in_import_declaration_specifier nodes.now)) }
+    ensures number { SameNumber (surroundings_plain around.now classes.entry) next.new (after_trees (trees (map in_import_declaration_specifier nodes.now)) next.old) }
+{
+    let mut below = Ok(0);
+    for node in nodes {
+        let found = check_import_declaration_specifier(node, around, classes, next);
         below = higher(below, found);
     }
     below
@@ -202,12 +340,15 @@ pub fn check_class_elements<N: CheckNode>(
 pub fn check_array_expression_elements_or_holes<N: CheckNode>(
     nodes: &[Option<ArrayExpressionElement<N>>],
     around: &Surroundings<'_>,
+    classes: Option<&Classes<'_>>,
+    next: &mut usize,
 ) -> Result<u64, TreeFault>
-    ensures { result ≡ children_verdict around.now sets.ArrayExpressionElement (holed (map (option_map (in_array_expression_element N.plain)) nodes.now)) }
+    ensures found { result ≡ children_verdict (surroundings_plain around.now classes.entry) next.old sets.ArrayExpressionElement (holed (map (option_map (in_array_expression_element N.plain)) nodes.now)) }
+    ensures number { SameNumber (surroundings_plain around.now classes.entry) next.new (after_trees (holed (map (option_map (in_array_expression_element N.plain)) nodes.now)) next.old) }
 {
     let mut below = Ok(0);
     for node in nodes {
-        let found = check_optional_array_expression_element(node, around);
+        let found = check_optional_array_expression_element(node, around, classes, next);
         below = higher(below, found);
     }
     below
@@ -216,12 +357,15 @@ pub fn check_array_expression_elements_or_holes<N: CheckNode>(
 pub fn check_binding_elements_or_holes<N: CheckNode>(
     nodes: &[Option<BindingPatternNode<N>>],
     around: &Surroundings<'_>,
+    classes: Option<&Classes<'_>>,
+    next: &mut usize,
 ) -> Result<u64, TreeFault>
-    ensures { result ≡ children_verdict around.now sets.BindingElement (holed (map (option_map (in_binding_pattern N.plain)) nodes.now)) }
+    ensures found { result ≡ children_verdict (surroundings_plain around.now classes.entry) next.old sets.BindingElement (holed (map (option_map (in_binding_pattern N.plain)) nodes.now)) }
+    ensures number { SameNumber (surroundings_plain around.now classes.entry) next.new (after_trees (holed (map (option_map (in_binding_pattern N.plain)) nodes.now)) next.old) }
 {
     let mut below = Ok(0);
     for node in nodes {
-        let found = check_optional_binding_element(node, around);
+        let found = check_optional_binding_element(node, around, classes, next);
         below = higher(below, found);
     }
     below
@@ -230,25 +374,46 @@ pub fn check_binding_elements_or_holes<N: CheckNode>(
 pub fn check_assignment_target_maybe_defaults_or_holes<N: CheckNode>(
     nodes: &[Option<AssignmentTargetMaybeDefault<N>>],
     around: &Surroundings<'_>,
+    classes: Option<&Classes<'_>>,
+    next: &mut usize,
 ) -> Result<u64, TreeFault>
-    ensures { result ≡ children_verdict around.now sets.AssignmentTargetMaybeDefault (holed (map (option_map (in_assignment_target_maybe_default N.plain)) nodes.now)) }
+    ensures found { result ≡ children_verdict (surroundings_plain around.now classes.entry) next.old sets.AssignmentTargetMaybeDefault (holed (map (option_map (in_assignment_target_maybe_default N.plain)) nodes.now)) }
+    ensures number { SameNumber (surroundings_plain around.now classes.entry) next.new (after_trees (holed (map (option_map (in_assignment_target_maybe_default N.plain)) nodes.now)) next.old) }
 {
     let mut below = Ok(0);
     for node in nodes {
-        let found = check_optional_assignment_target_maybe_default(node, around);
+        let found = check_optional_assignment_target_maybe_default(node, around, classes, next);
         below = higher(below, found);
     }
     below
 }
 
+pub fn check_optional_hashbang(
+    node: &Option<Box<Hashbang>>,
+    around: &Surroundings<'_>,
+    classes: Option<&Classes<'_>>,
+    next: &mut usize,
+) -> Result<u64, TreeFault>
+    ensures found { result ≡ maybe_verdict (surroundings_plain around.now classes.entry) next.old sets.Hashbang (optional (option_map (λ b. hashbang_row b.value) node.now)) }
+    ensures number { SameNumber (surroundings_plain around.now classes.entry) next.new (after_maybe (optional (option_map (λ b. hashbang_row b.value) node.now)) next.old) }
+{
+    match node {
+        Some(node) => check_hashbang(node, around, classes, next),
+        None => Ok(0),
+    }
+}
+
 pub fn check_optional_expression<N: CheckNode>(
     node: &Option<ExpressionNode<N>>,
     around: &Surroundings<'_>,
+    classes: Option<&Classes<'_>>,
+    next: &mut usize,
 ) -> Result<u64, TreeFault>
-    ensures { result ≡ maybe_verdict around.now sets.Expression (optional (option_map (in_expression N.plain) node.now)) }
+    ensures found { result ≡ maybe_verdict (surroundings_plain around.now classes.entry) next.old sets.Expression (optional (option_map (in_expression N.plain) node.now)) }
+    ensures number { SameNumber (surroundings_plain around.now classes.entry) next.new (after_maybe (optional (option_map (in_expression N.plain) node.now)) next.old) }
 {
     match node {
-        Some(node) => check_child(node.get(), NodeSet::Expression, around),
+        Some(node) => check_child(node.get(), NodeSet::Expression, around, classes, next),
         None => Ok(0),
     }
 }
@@ -256,11 +421,14 @@ pub fn check_optional_expression<N: CheckNode>(
 pub fn check_optional_statement<N: CheckNode>(
     node: &Option<StatementNode<N>>,
     around: &Surroundings<'_>,
+    classes: Option<&Classes<'_>>,
+    next: &mut usize,
 ) -> Result<u64, TreeFault>
-    ensures { result ≡ maybe_verdict around.now sets.Statement (optional (option_map (in_statement N.plain) node.now)) }
+    ensures found { result ≡ maybe_verdict (surroundings_plain around.now classes.entry) next.old sets.Statement (optional (option_map (in_statement N.plain) node.now)) }
+    ensures number { SameNumber (surroundings_plain around.now classes.entry) next.new (after_maybe (optional (option_map (in_statement N.plain) node.now)) next.old) }
 {
     match node {
-        Some(node) => check_child(node.get(), NodeSet::Statement, around),
+        Some(node) => check_child(node.get(), NodeSet::Statement, around, classes, next),
         None => Ok(0),
     }
 }
@@ -268,11 +436,14 @@ pub fn check_optional_statement<N: CheckNode>(
 pub fn check_optional_formal_parameter_rest<N: CheckNode>(
     node: &Option<Box<FormalParameterRest<N>>>,
     around: &Surroundings<'_>,
+    classes: Option<&Classes<'_>>,
+    next: &mut usize,
 ) -> Result<u64, TreeFault>
-    ensures { result ≡ maybe_verdict around.now sets.FormalParameterRest (optional (option_map (λ b. formal_parameter_rest_row N.plain b.value) node.now)) }
+    ensures found { result ≡ maybe_verdict (surroundings_plain around.now classes.entry) next.old sets.FormalParameterRest (optional (option_map (λ b. formal_parameter_rest_row N.plain b.value) node.now)) }
+    ensures number { SameNumber (surroundings_plain around.now classes.entry) next.new (after_maybe (optional (option_map (λ b. formal_parameter_rest_row N.plain b.value) node.now)) next.old) }
 {
     match node {
-        Some(node) => check_formal_parameter_rest(node, around),
+        Some(node) => check_formal_parameter_rest(node, around, classes, next),
         None => Ok(0),
     }
 }
@@ -280,11 +451,14 @@ pub fn check_optional_formal_parameter_rest<N: CheckNode>(
 pub fn check_optional_binding_identifier(
     node: &Option<Box<BindingIdentifier>>,
     around: &Surroundings<'_>,
+    classes: Option<&Classes<'_>>,
+    next: &mut usize,
 ) -> Result<u64, TreeFault>
-    ensures { result ≡ maybe_verdict around.now sets.BindingIdentifier (optional (option_map (λ b. binding_identifier_row b.value) node.now)) }
+    ensures found { result ≡ maybe_verdict (surroundings_plain around.now classes.entry) next.old sets.BindingIdentifier (optional (option_map (λ b. binding_identifier_row b.value) node.now)) }
+    ensures number { SameNumber (surroundings_plain around.now classes.entry) next.new (after_maybe (optional (option_map (λ b. binding_identifier_row b.value) node.now)) next.old) }
 {
     match node {
-        Some(node) => check_binding_identifier(node, around),
+        Some(node) => check_binding_identifier(node, around, classes, next),
         None => Ok(0),
     }
 }
@@ -292,11 +466,14 @@ pub fn check_optional_binding_identifier(
 pub fn check_optional_function_body<N: CheckNode>(
     node: &Option<Box<FunctionBody<N>>>,
     around: &Surroundings<'_>,
+    classes: Option<&Classes<'_>>,
+    next: &mut usize,
 ) -> Result<u64, TreeFault>
-    ensures { result ≡ maybe_verdict around.now sets.FunctionBody (optional (option_map (λ b. function_body_row N.plain b.value) node.now)) }
+    ensures found { result ≡ maybe_verdict (surroundings_plain around.now classes.entry) next.old sets.FunctionBody (optional (option_map (λ b. function_body_row N.plain b.value) node.now)) }
+    ensures number { SameNumber (surroundings_plain around.now classes.entry) next.new (after_maybe (optional (option_map (λ b. function_body_row N.plain b.value) node.now)) next.old) }
 {
     match node {
-        Some(node) => check_function_body(node, around),
+        Some(node) => check_function_body(node, around, classes, next),
         None => Ok(0),
     }
 }
@@ -304,11 +481,14 @@ pub fn check_optional_function_body<N: CheckNode>(
 pub fn check_optional_for_statement_init<N: CheckNode>(
     node: &Option<ForStatementInit<N>>,
     around: &Surroundings<'_>,
+    classes: Option<&Classes<'_>>,
+    next: &mut usize,
 ) -> Result<u64, TreeFault>
-    ensures { result ≡ maybe_verdict around.now sets.ForStatementInit (optional (option_map (in_for_statement_init N.plain) node.now)) }
+    ensures found { result ≡ maybe_verdict (surroundings_plain around.now classes.entry) next.old sets.ForStatementInit (optional (option_map (in_for_statement_init N.plain) node.now)) }
+    ensures number { SameNumber (surroundings_plain around.now classes.entry) next.new (after_maybe (optional (option_map (in_for_statement_init N.plain) node.now)) next.old) }
 {
     match node {
-        Some(node) => check_for_statement_init(node, around),
+        Some(node) => check_for_statement_init(node, around, classes, next),
         None => Ok(0),
     }
 }
@@ -316,11 +496,14 @@ pub fn check_optional_for_statement_init<N: CheckNode>(
 pub fn check_optional_label_identifier(
     node: &Option<Box<LabelIdentifier>>,
     around: &Surroundings<'_>,
+    classes: Option<&Classes<'_>>,
+    next: &mut usize,
 ) -> Result<u64, TreeFault>
-    ensures { result ≡ maybe_verdict around.now sets.LabelIdentifier (optional (option_map (λ b. label_identifier_row b.value) node.now)) }
+    ensures found { result ≡ maybe_verdict (surroundings_plain around.now classes.entry) next.old sets.LabelIdentifier (optional (option_map (λ b. label_identifier_row b.value) node.now)) }
+    ensures number { SameNumber (surroundings_plain around.now classes.entry) next.new (after_maybe (optional (option_map (λ b. label_identifier_row b.value) node.now)) next.old) }
 {
     match node {
-        Some(node) => check_label_identifier(node, around),
+        Some(node) => check_label_identifier(node, around, classes, next),
         None => Ok(0),
     }
 }
@@ -328,11 +511,14 @@ pub fn check_optional_label_identifier(
 pub fn check_optional_catch_clause<N: CheckNode>(
     node: &Option<Box<CatchClause<N>>>,
     around: &Surroundings<'_>,
+    classes: Option<&Classes<'_>>,
+    next: &mut usize,
 ) -> Result<u64, TreeFault>
-    ensures { result ≡ maybe_verdict around.now sets.CatchClause (optional (option_map (λ b. catch_clause_row N.plain b.value) node.now)) }
+    ensures found { result ≡ maybe_verdict (surroundings_plain around.now classes.entry) next.old sets.CatchClause (optional (option_map (λ b. catch_clause_row N.plain b.value) node.now)) }
+    ensures number { SameNumber (surroundings_plain around.now classes.entry) next.new (after_maybe (optional (option_map (λ b. catch_clause_row N.plain b.value) node.now)) next.old) }
 {
     match node {
-        Some(node) => check_catch_clause(node, around),
+        Some(node) => check_catch_clause(node, around, classes, next),
         None => Ok(0),
     }
 }
@@ -340,11 +526,14 @@ pub fn check_optional_catch_clause<N: CheckNode>(
 pub fn check_optional_block_statement<N: CheckNode>(
     node: &Option<Box<BlockStatement<N>>>,
     around: &Surroundings<'_>,
+    classes: Option<&Classes<'_>>,
+    next: &mut usize,
 ) -> Result<u64, TreeFault>
-    ensures { result ≡ maybe_verdict around.now sets.BlockStatement (optional (option_map (λ b. block_statement_row N.plain b.value) node.now)) }
+    ensures found { result ≡ maybe_verdict (surroundings_plain around.now classes.entry) next.old sets.BlockStatement (optional (option_map (λ b. block_statement_row N.plain b.value) node.now)) }
+    ensures number { SameNumber (surroundings_plain around.now classes.entry) next.new (after_maybe (optional (option_map (λ b. block_statement_row N.plain b.value) node.now)) next.old) }
 {
     match node {
-        Some(node) => check_block_statement(node, around),
+        Some(node) => check_block_statement(node, around, classes, next),
         None => Ok(0),
     }
 }
@@ -352,11 +541,14 @@ pub fn check_optional_block_statement<N: CheckNode>(
 pub fn check_optional_binding_pattern<N: CheckNode>(
     node: &Option<BindingPatternNode<N>>,
     around: &Surroundings<'_>,
+    classes: Option<&Classes<'_>>,
+    next: &mut usize,
 ) -> Result<u64, TreeFault>
-    ensures { result ≡ maybe_verdict around.now sets.BindingPattern (optional (option_map (in_binding_pattern N.plain) node.now)) }
+    ensures found { result ≡ maybe_verdict (surroundings_plain around.now classes.entry) next.old sets.BindingPattern (optional (option_map (in_binding_pattern N.plain) node.now)) }
+    ensures number { SameNumber (surroundings_plain around.now classes.entry) next.new (after_maybe (optional (option_map (in_binding_pattern N.plain) node.now)) next.old) }
 {
     match node {
-        Some(node) => check_child(node.get(), NodeSet::BindingPattern, around),
+        Some(node) => check_child(node.get(), NodeSet::BindingPattern, around, classes, next),
         None => Ok(0),
     }
 }
@@ -364,11 +556,14 @@ pub fn check_optional_binding_pattern<N: CheckNode>(
 pub fn check_optional_binding_rest_element<N: CheckNode>(
     node: &Option<Box<BindingRestElement<N>>>,
     around: &Surroundings<'_>,
+    classes: Option<&Classes<'_>>,
+    next: &mut usize,
 ) -> Result<u64, TreeFault>
-    ensures { result ≡ maybe_verdict around.now sets.BindingRestElement (optional (option_map (λ b. binding_rest_element_row N.plain b.value) node.now)) }
+    ensures found { result ≡ maybe_verdict (surroundings_plain around.now classes.entry) next.old sets.BindingRestElement (optional (option_map (λ b. binding_rest_element_row N.plain b.value) node.now)) }
+    ensures number { SameNumber (surroundings_plain around.now classes.entry) next.new (after_maybe (optional (option_map (λ b. binding_rest_element_row N.plain b.value) node.now)) next.old) }
 {
     match node {
-        Some(node) => check_binding_rest_element(node, around),
+        Some(node) => check_binding_rest_element(node, around, classes, next),
         None => Ok(0),
     }
 }
@@ -376,11 +571,44 @@ pub fn check_optional_binding_rest_element<N: CheckNode>(
 pub fn check_optional_assignment_target_rest<N: CheckNode>(
     node: &Option<Box<AssignmentTargetRest<N>>>,
     around: &Surroundings<'_>,
+    classes: Option<&Classes<'_>>,
+    next: &mut usize,
 ) -> Result<u64, TreeFault>
-    ensures { result ≡ maybe_verdict around.now sets.AssignmentTargetRest (optional (option_map (λ b. assignment_target_rest_row N.plain b.value) node.now)) }
+    ensures found { result ≡ maybe_verdict (surroundings_plain around.now classes.entry) next.old sets.AssignmentTargetRest (optional (option_map (λ b. assignment_target_rest_row N.plain b.value) node.now)) }
+    ensures number { SameNumber (surroundings_plain around.now classes.entry) next.new (after_maybe (optional (option_map (λ b. assignment_target_rest_row N.plain b.value) node.now)) next.old) }
 {
     match node {
-        Some(node) => check_assignment_target_rest(node, around),
+        Some(node) => check_assignment_target_rest(node, around, classes, next),
+        None => Ok(0),
+    }
+}
+
+pub fn check_optional_with_clause(
+    node: &Option<Box<WithClause>>,
+    around: &Surroundings<'_>,
+    classes: Option<&Classes<'_>>,
+    next: &mut usize,
+) -> Result<u64, TreeFault>
+    ensures found { result ≡ maybe_verdict (surroundings_plain around.now classes.entry) next.old sets.WithClause (optional (option_map (λ b. with_clause_row b.value) node.now)) }
+    ensures number { SameNumber (surroundings_plain around.now classes.entry) next.new (after_maybe (optional (option_map (λ b. with_clause_row b.value) node.now)) next.old) }
+{
+    match node {
+        Some(node) => check_with_clause(node, around, classes, next),
+        None => Ok(0),
+    }
+}
+
+pub fn check_optional_module_export_name(
+    node: &Option<ModuleExportName>,
+    around: &Surroundings<'_>,
+    classes: Option<&Classes<'_>>,
+    next: &mut usize,
+) -> Result<u64, TreeFault>
+    ensures found { result ≡ maybe_verdict (surroundings_plain around.now classes.entry) next.old sets.ModuleExportName (optional (option_map in_module_export_name node.now)) }
+    ensures number { SameNumber (surroundings_plain around.now classes.entry) next.new (after_maybe (optional (option_map in_module_export_name node.now)) next.old) }
+{
+    match node {
+        Some(node) => check_module_export_name(node, around, classes, next),
         None => Ok(0),
     }
 }
@@ -388,11 +616,14 @@ pub fn check_optional_assignment_target_rest<N: CheckNode>(
 pub fn check_optional_array_expression_element<N: CheckNode>(
     node: &Option<ArrayExpressionElement<N>>,
     around: &Surroundings<'_>,
+    classes: Option<&Classes<'_>>,
+    next: &mut usize,
 ) -> Result<u64, TreeFault>
-    ensures { result ≡ maybe_verdict around.now sets.ArrayExpressionElement (optional (option_map (in_array_expression_element N.plain) node.now)) }
+    ensures found { result ≡ maybe_verdict (surroundings_plain around.now classes.entry) next.old sets.ArrayExpressionElement (optional (option_map (in_array_expression_element N.plain) node.now)) }
+    ensures number { SameNumber (surroundings_plain around.now classes.entry) next.new (after_maybe (optional (option_map (in_array_expression_element N.plain) node.now)) next.old) }
 {
     match node {
-        Some(node) => check_array_expression_element(node, around),
+        Some(node) => check_array_expression_element(node, around, classes, next),
         None => Ok(0),
     }
 }
@@ -400,11 +631,14 @@ pub fn check_optional_array_expression_element<N: CheckNode>(
 pub fn check_optional_binding_element<N: CheckNode>(
     node: &Option<BindingPatternNode<N>>,
     around: &Surroundings<'_>,
+    classes: Option<&Classes<'_>>,
+    next: &mut usize,
 ) -> Result<u64, TreeFault>
-    ensures { result ≡ maybe_verdict around.now sets.BindingElement (optional (option_map (in_binding_pattern N.plain) node.now)) }
+    ensures found { result ≡ maybe_verdict (surroundings_plain around.now classes.entry) next.old sets.BindingElement (optional (option_map (in_binding_pattern N.plain) node.now)) }
+    ensures number { SameNumber (surroundings_plain around.now classes.entry) next.new (after_maybe (optional (option_map (in_binding_pattern N.plain) node.now)) next.old) }
 {
     match node {
-        Some(node) => check_child(node.get(), NodeSet::BindingElement, around),
+        Some(node) => check_child(node.get(), NodeSet::BindingElement, around, classes, next),
         None => Ok(0),
     }
 }
@@ -412,11 +646,29 @@ pub fn check_optional_binding_element<N: CheckNode>(
 pub fn check_optional_assignment_target_maybe_default<N: CheckNode>(
     node: &Option<AssignmentTargetMaybeDefault<N>>,
     around: &Surroundings<'_>,
+    classes: Option<&Classes<'_>>,
+    next: &mut usize,
 ) -> Result<u64, TreeFault>
-    ensures { result ≡ maybe_verdict around.now sets.AssignmentTargetMaybeDefault (optional (option_map (in_assignment_target_maybe_default N.plain) node.now)) }
+    ensures found { result ≡ maybe_verdict (surroundings_plain around.now classes.entry) next.old sets.AssignmentTargetMaybeDefault (optional (option_map (in_assignment_target_maybe_default N.plain) node.now)) }
+    ensures number { SameNumber (surroundings_plain around.now classes.entry) next.new (after_maybe (optional (option_map (in_assignment_target_maybe_default N.plain) node.now)) next.old) }
 {
     match node {
-        Some(node) => check_assignment_target_maybe_default(node, around),
+        Some(node) => check_assignment_target_maybe_default(node, around, classes, next),
+        None => Ok(0),
+    }
+}
+
+pub fn check_optional_import_declaration_specifiers(
+    nodes: &Option<Vec<ImportDeclarationSpecifier>>,
+    around: &Surroundings<'_>,
+    classes: Option<&Classes<'_>>,
+    next: &mut usize,
+) -> Result<u64, TreeFault>
+    ensures found { result ≡ maybe_children_verdict (surroundings_plain around.now classes.entry) next.old sets.ImportDeclarationSpecifier (optional_list (option_map (λ v. map in_import_declaration_specifier v.items) nodes.now)) }
+    ensures number { SameNumber (surroundings_plain around.now classes.entry) next.new (after_maybe_trees (optional_list (option_map (λ v. map in_import_declaration_specifier v.items) nodes.now)) next.old) }
+{
+    match nodes {
+        Some(nodes) => check_import_declaration_specifiers(nodes, around, classes, next),
         None => Ok(0),
     }
 }
@@ -424,27 +676,43 @@ pub fn check_optional_assignment_target_maybe_default<N: CheckNode>(
 pub fn check_argument<N: CheckNode>(
     node: &Argument<N>,
     around: &Surroundings<'_>,
+    classes: Option<&Classes<'_>>,
+    next: &mut usize,
 ) -> Result<u64, TreeFault>
-    ensures { result ≡ child_verdict around.now sets.Argument (in_argument N.plain node.now) }
+    ensures found { result ≡ child_verdict (surroundings_plain around.now classes.entry) next.old sets.Argument (in_argument N.plain node.now) }
+    ensures number { SameNumber (surroundings_plain around.now classes.entry) next.new (after (in_argument N.plain node.now) next.old) }
 {
     match node {
-        Argument::SpreadElement(node) => check_spread_element(node, around),
-        Argument::Expression(node) => check_child(node.get(), NodeSet::Argument, around),
+        Argument::SpreadElement(node) => check_spread_element(node, around, classes, next),
+        Argument::Expression(node) => check_child(
+            node.get(),
+            NodeSet::Argument,
+            around,
+            classes,
+            next,
+        ),
     }
 }
 
 pub fn check_array_expression_element<N: CheckNode>(
     node: &ArrayExpressionElement<N>,
     around: &Surroundings<'_>,
+    classes: Option<&Classes<'_>>,
+    next: &mut usize,
 ) -> Result<u64, TreeFault>
-    ensures { result ≡ child_verdict around.now sets.ArrayExpressionElement (in_array_expression_element N.plain node.now) }
+    ensures found { result ≡ child_verdict (surroundings_plain around.now classes.entry) next.old sets.ArrayExpressionElement (in_array_expression_element N.plain node.now) }
+    ensures number { SameNumber (surroundings_plain around.now classes.entry) next.new (after (in_array_expression_element N.plain node.now) next.old) }
 {
     match node {
-        ArrayExpressionElement::SpreadElement(node) => check_spread_element(node, around),
+        ArrayExpressionElement::SpreadElement(node) => check_spread_element(
+            node, around, classes, next,
+        ),
         ArrayExpressionElement::Expression(node) => check_child(
             node.get(),
             NodeSet::ArrayExpressionElement,
             around,
+            classes,
+            next,
         ),
     }
 }
@@ -452,37 +720,47 @@ pub fn check_array_expression_element<N: CheckNode>(
 pub fn check_chain_element<N: CheckNode>(
     node: &ChainElement<N>,
     around: &Surroundings<'_>,
+    classes: Option<&Classes<'_>>,
+    next: &mut usize,
 ) -> Result<u64, TreeFault>
-    ensures { result ≡ child_verdict around.now sets.ChainElement (in_chain_element N.plain node.now) }
+    ensures found { result ≡ child_verdict (surroundings_plain around.now classes.entry) next.old sets.ChainElement (in_chain_element N.plain node.now) }
+    ensures number { SameNumber (surroundings_plain around.now classes.entry) next.new (after (in_chain_element N.plain node.now) next.old) }
 {
     match node {
-        ChainElement::StaticMemberExpression(node) => check_static_member_expression(node, around),
-        ChainElement::ComputedMemberExpression(node) => check_computed_member_expression(
-            node, around,
+        ChainElement::StaticMemberExpression(node) => check_static_member_expression(
+            node, around, classes, next,
         ),
-        ChainElement::PrivateFieldExpression(node) => check_private_field_expression(node, around),
-        ChainElement::CallExpression(node) => check_call_expression(node, around),
+        ChainElement::ComputedMemberExpression(node) => check_computed_member_expression(
+            node, around, classes, next,
+        ),
+        ChainElement::PrivateFieldExpression(node) => check_private_field_expression(
+            node, around, classes, next,
+        ),
+        ChainElement::CallExpression(node) => check_call_expression(node, around, classes, next),
     }
 }
 
 pub fn check_simple_assignment_target<N: CheckNode>(
     node: &SimpleAssignmentTarget<N>,
     around: &Surroundings<'_>,
+    classes: Option<&Classes<'_>>,
+    next: &mut usize,
 ) -> Result<u64, TreeFault>
-    ensures { result ≡ child_verdict around.now sets.SimpleAssignmentTarget (in_simple_assignment_target N.plain node.now) }
+    ensures found { result ≡ child_verdict (surroundings_plain around.now classes.entry) next.old sets.SimpleAssignmentTarget (in_simple_assignment_target N.plain node.now) }
+    ensures number { SameNumber (surroundings_plain around.now classes.entry) next.new (after (in_simple_assignment_target N.plain node.now) next.old) }
 {
     match node {
         SimpleAssignmentTarget::IdentifierReference(node) => check_identifier_reference(
-            node, around,
+            node, around, classes, next,
         ),
         SimpleAssignmentTarget::StaticMemberExpression(node) => check_static_member_expression(
-            node, around,
+            node, around, classes, next,
         ),
         SimpleAssignmentTarget::ComputedMemberExpression(node) => check_computed_member_expression(
-            node, around,
+            node, around, classes, next,
         ),
         SimpleAssignmentTarget::PrivateFieldExpression(node) => check_private_field_expression(
-            node, around,
+            node, around, classes, next,
         ),
     }
 }
@@ -490,46 +768,59 @@ pub fn check_simple_assignment_target<N: CheckNode>(
 pub fn check_assignment_target_maybe_default<N: CheckNode>(
     node: &AssignmentTargetMaybeDefault<N>,
     around: &Surroundings<'_>,
+    classes: Option<&Classes<'_>>,
+    next: &mut usize,
 ) -> Result<u64, TreeFault>
-    ensures { result ≡ child_verdict around.now sets.AssignmentTargetMaybeDefault (in_assignment_target_maybe_default N.plain node.now) }
+    ensures found { result ≡ child_verdict (surroundings_plain around.now classes.entry) next.old sets.AssignmentTargetMaybeDefault (in_assignment_target_maybe_default N.plain node.now) }
+    ensures number { SameNumber (surroundings_plain around.now classes.entry) next.new (after (in_assignment_target_maybe_default N.plain node.now) next.old) }
 {
     match node {
         AssignmentTargetMaybeDefault::AssignmentTarget(node) => check_child(
             node.get(),
             NodeSet::AssignmentTargetMaybeDefault,
             around,
+            classes,
+            next,
         ),
         AssignmentTargetMaybeDefault::AssignmentTargetWithDefault(node) =>
-            check_assignment_target_with_default(node, around),
+            check_assignment_target_with_default(node, around, classes, next),
     }
 }
 
 pub fn check_assignment_target_property<N: CheckNode>(
     node: &AssignmentTargetProperty<N>,
     around: &Surroundings<'_>,
+    classes: Option<&Classes<'_>>,
+    next: &mut usize,
 ) -> Result<u64, TreeFault>
-    ensures { result ≡ child_verdict around.now sets.AssignmentTargetProperty (in_assignment_target_property N.plain node.now) }
+    ensures found { result ≡ child_verdict (surroundings_plain around.now classes.entry) next.old sets.AssignmentTargetProperty (in_assignment_target_property N.plain node.now) }
+    ensures number { SameNumber (surroundings_plain around.now classes.entry) next.new (after (in_assignment_target_property N.plain node.now) next.old) }
 {
     match node {
         AssignmentTargetProperty::AssignmentTargetPropertyIdentifier(node) =>
-            check_assignment_target_property_identifier(node, around),
+            check_assignment_target_property_identifier(node, around, classes, next),
         AssignmentTargetProperty::AssignmentTargetPropertyProperty(node) =>
-            check_assignment_target_property_property(node, around),
+            check_assignment_target_property_property(node, around, classes, next),
     }
 }
 
 pub fn check_arrow_function_body<N: CheckNode>(
     node: &ArrowFunctionBody<N>,
     around: &Surroundings<'_>,
+    classes: Option<&Classes<'_>>,
+    next: &mut usize,
 ) -> Result<u64, TreeFault>
-    ensures { result ≡ child_verdict around.now sets.ArrowFunctionBody (in_arrow_function_body N.plain node.now) }
+    ensures found { result ≡ child_verdict (surroundings_plain around.now classes.entry) next.old sets.ArrowFunctionBody (in_arrow_function_body N.plain node.now) }
+    ensures number { SameNumber (surroundings_plain around.now classes.entry) next.new (after (in_arrow_function_body N.plain node.now) next.old) }
 {
     match node {
-        ArrowFunctionBody::FunctionBody(node) => check_function_body(node, around),
+        ArrowFunctionBody::FunctionBody(node) => check_function_body(node, around, classes, next),
         ArrowFunctionBody::Expression(node) => check_child(
             node.get(),
             NodeSet::ArrowFunctionBody,
             around,
+            classes,
+            next,
         ),
     }
 }
@@ -537,15 +828,22 @@ pub fn check_arrow_function_body<N: CheckNode>(
 pub fn check_for_statement_init<N: CheckNode>(
     node: &ForStatementInit<N>,
     around: &Surroundings<'_>,
+    classes: Option<&Classes<'_>>,
+    next: &mut usize,
 ) -> Result<u64, TreeFault>
-    ensures { result ≡ child_verdict around.now sets.ForStatementInit (in_for_statement_init N.plain node.now) }
+    ensures found { result ≡ child_verdict (surroundings_plain around.now classes.entry) next.old sets.ForStatementInit (in_for_statement_init N.plain node.now) }
+    ensures number { SameNumber (surroundings_plain around.now classes.entry) next.new (after (in_for_statement_init N.plain node.now) next.old) }
 {
     match node {
-        ForStatementInit::VariableDeclaration(node) => check_variable_declaration(node, around),
+        ForStatementInit::VariableDeclaration(node) => check_variable_declaration(
+            node, around, classes, next,
+        ),
         ForStatementInit::Expression(node) => check_child(
             node.get(),
             NodeSet::ForStatementInit,
             around,
+            classes,
+            next,
         ),
     }
 }
@@ -553,15 +851,22 @@ pub fn check_for_statement_init<N: CheckNode>(
 pub fn check_for_statement_left<N: CheckNode>(
     node: &ForStatementLeft<N>,
     around: &Surroundings<'_>,
+    classes: Option<&Classes<'_>>,
+    next: &mut usize,
 ) -> Result<u64, TreeFault>
-    ensures { result ≡ child_verdict around.now sets.ForStatementLeft (in_for_statement_left N.plain node.now) }
+    ensures found { result ≡ child_verdict (surroundings_plain around.now classes.entry) next.old sets.ForStatementLeft (in_for_statement_left N.plain node.now) }
+    ensures number { SameNumber (surroundings_plain around.now classes.entry) next.new (after (in_for_statement_left N.plain node.now) next.old) }
 {
     match node {
-        ForStatementLeft::VariableDeclaration(node) => check_variable_declaration(node, around),
+        ForStatementLeft::VariableDeclaration(node) => check_variable_declaration(
+            node, around, classes, next,
+        ),
         ForStatementLeft::AssignmentTarget(node) => check_child(
             node.get(),
             NodeSet::ForStatementLeft,
             around,
+            classes,
+            next,
         ),
     }
 }
@@ -569,24 +874,124 @@ pub fn check_for_statement_left<N: CheckNode>(
 pub fn check_object_property_kind<N: CheckNode>(
     node: &ObjectPropertyKind<N>,
     around: &Surroundings<'_>,
+    classes: Option<&Classes<'_>>,
+    next: &mut usize,
 ) -> Result<u64, TreeFault>
-    ensures { result ≡ child_verdict around.now sets.ObjectPropertyKind (in_object_property_kind N.plain node.now) }
+    ensures found { result ≡ child_verdict (surroundings_plain around.now classes.entry) next.old sets.ObjectPropertyKind (in_object_property_kind N.plain node.now) }
+    ensures number { SameNumber (surroundings_plain around.now classes.entry) next.new (after (in_object_property_kind N.plain node.now) next.old) }
 {
     match node {
-        ObjectPropertyKind::ObjectProperty(node) => check_object_property(node, around),
-        ObjectPropertyKind::SpreadElement(node) => check_spread_element(node, around),
+        ObjectPropertyKind::ObjectProperty(node) => check_object_property(
+            node, around, classes, next,
+        ),
+        ObjectPropertyKind::SpreadElement(node) => check_spread_element(
+            node, around, classes, next,
+        ),
     }
 }
 
 pub fn check_property_key<N: CheckNode>(
     node: &PropertyKey<N>,
     around: &Surroundings<'_>,
+    classes: Option<&Classes<'_>>,
+    next: &mut usize,
 ) -> Result<u64, TreeFault>
-    ensures { result ≡ child_verdict around.now sets.PropertyKey (in_property_key N.plain node.now) }
+    ensures found { result ≡ child_verdict (surroundings_plain around.now classes.entry) next.old sets.PropertyKey (in_property_key N.plain node.now) }
+    ensures number { SameNumber (surroundings_plain around.now classes.entry) next.new (after (in_property_key N.plain node.now) next.old) }
 {
     match node {
-        PropertyKey::IdentifierName(node) => check_identifier_name(node, around),
-        PropertyKey::PrivateIdentifier(node) => check_private_identifier(node, around),
-        PropertyKey::Expression(node) => check_child(node.get(), NodeSet::PropertyKey, around),
+        PropertyKey::IdentifierName(node) => check_identifier_name(node, around, classes, next),
+        PropertyKey::PrivateIdentifier(node) => check_private_identifier(
+            node, around, classes, next,
+        ),
+        PropertyKey::Expression(node) => check_child(
+            node.get(),
+            NodeSet::PropertyKey,
+            around,
+            classes,
+            next,
+        ),
+    }
+}
+
+pub fn check_module_export_name(
+    node: &ModuleExportName,
+    around: &Surroundings<'_>,
+    classes: Option<&Classes<'_>>,
+    next: &mut usize,
+) -> Result<u64, TreeFault>
+    ensures found { result ≡ child_verdict (surroundings_plain around.now classes.entry) next.old sets.ModuleExportName (in_module_export_name node.now) }
+    ensures number { SameNumber (surroundings_plain around.now classes.entry) next.new (after (in_module_export_name node.now) next.old) }
+{
+    match node {
+        ModuleExportName::IdentifierName(node) => check_identifier_name(
+            node, around, classes, next,
+        ),
+        ModuleExportName::IdentifierReference(node) => check_identifier_reference(
+            node, around, classes, next,
+        ),
+        ModuleExportName::StringLiteral(node) => check_string_literal(node, around, classes, next),
+    }
+}
+
+pub fn check_import_declaration_specifier(
+    node: &ImportDeclarationSpecifier,
+    around: &Surroundings<'_>,
+    classes: Option<&Classes<'_>>,
+    next: &mut usize,
+) -> Result<u64, TreeFault>
+    ensures found { result ≡ child_verdict (surroundings_plain around.now classes.entry) next.old sets.ImportDeclarationSpecifier (in_import_declaration_specifier node.now) }
+    ensures number { SameNumber (surroundings_plain around.now classes.entry) next.new (after (in_import_declaration_specifier node.now) next.old) }
+{
+    match node {
+        ImportDeclarationSpecifier::ImportDefaultSpecifier(node) => check_import_default_specifier(
+            node, around, classes, next,
+        ),
+        ImportDeclarationSpecifier::ImportNamespaceSpecifier(node) =>
+            check_import_namespace_specifier(node, around, classes, next),
+        ImportDeclarationSpecifier::ImportSpecifier(node) => check_import_specifier(
+            node, around, classes, next,
+        ),
+    }
+}
+
+pub fn check_import_attribute_key(
+    node: &ImportAttributeKey,
+    around: &Surroundings<'_>,
+    classes: Option<&Classes<'_>>,
+    next: &mut usize,
+) -> Result<u64, TreeFault>
+    ensures found { result ≡ child_verdict (surroundings_plain around.now classes.entry) next.old sets.ImportAttributeKey (in_import_attribute_key node.now) }
+    ensures number { SameNumber (surroundings_plain around.now classes.entry) next.new (after (in_import_attribute_key node.now) next.old) }
+{
+    match node {
+        ImportAttributeKey::IdentifierName(node) => check_identifier_name(
+            node, around, classes, next,
+        ),
+        ImportAttributeKey::StringLiteral(node) => check_string_literal(
+            node, around, classes, next,
+        ),
+    }
+}
+
+pub fn check_export_default_declaration_kind<N: CheckNode>(
+    node: &ExportDefaultDeclarationKind<N>,
+    around: &Surroundings<'_>,
+    classes: Option<&Classes<'_>>,
+    next: &mut usize,
+) -> Result<u64, TreeFault>
+    ensures found { result ≡ child_verdict (surroundings_plain around.now classes.entry) next.old sets.ExportDefaultDeclarationKind (in_export_default_declaration_kind N.plain node.now) }
+    ensures number { SameNumber (surroundings_plain around.now classes.entry) next.new (after (in_export_default_declaration_kind N.plain node.now) next.old) }
+{
+    match node {
+        ExportDefaultDeclarationKind::Function(node) => check_function(node, around, classes, next),
+        ExportDefaultDeclarationKind::Class(node) => check_class(node, around, classes, next),
+        ExportDefaultDeclarationKind::Expression(node) => check_child(
+            node.get(),
+            NodeSet::ExportDefaultDeclarationKind,
+            around,
+            classes,
+            next,
+        ),
     }
 }

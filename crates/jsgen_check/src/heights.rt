@@ -1,6 +1,6 @@
 // What is found of a node: the first fault, else its height, which is how many nodes stand on the longest way down,
 // counted up to what 64 bits hold. A row asks all its children, also behind a fault: its proof is then one line.
-ghost use Rattle.std.specs.Prelude.{◌≡◌};
+ghost use Rattle.std.specs.Prelude.{◌≡◌, None};
 ghost use Rattle.jsgen_tree.specs.Options.{options_plain};
 ghost use Rattle.jsgen_model.specs.Valid.{span_faults, passes_levels};
 ghost use Rattle.jsgen_rules.specs.Verdict.{verdict};
@@ -8,7 +8,7 @@ ghost use Rattle.jsgen_check.specs.Verdict.{surroundings_plain, both, higher, ra
 
 use crate::Surroundings;
 use jsgen_model::TreeFault;
-use jsgen_rules::check_span;
+use jsgen_rules::{Classes, check_span};
 use jsgen_syntax::Span;
 use jsgen_tree::CodegenOptions;
 
@@ -25,16 +25,27 @@ pub fn higher(
     Ok(first.max(second))
 }
 
+/// The first fault of two checks, of which the second found a height.
+#[tactic(auto, unfolding(crate::specs::Verdict::both))]
+pub fn both(first: Result<(), TreeFault>, second: Result<u64, TreeFault>) -> Result<u64, TreeFault>
+    ensures { result ≡ both first second }
+{
+    first?;
+    second
+}
+
 /// The first fault of a node's span, of its own rules and of its children, else its height.
 #[tactic(auto, unfolding(crate::specs::Verdict::surroundings_plain, crate::specs::Verdict::both, crate::specs::Verdict::raised, jsgen_rules::specs::Verdict::verdict))]
 pub fn check_node(
     around: &Surroundings<'_>,
+    classes: Option<&Classes<'_>>,
     span: Span,
     rules: Result<(), TreeFault>,
     below: Result<u64, TreeFault>,
 ) -> Result<u64, TreeFault>
-    ensures { result ≡ both (verdict (span_faults (surroundings_plain around.now) span)) (both rules (raised below)) }
+    ensures { result ≡ both (verdict (span_faults (surroundings_plain around.now classes.entry) span)) (both rules (raised below)) }
 {
+    let _ = classes;
     check_span(around.is_mapped, around.source, span)?;
     rules?;
     let below = below?;
@@ -68,7 +79,7 @@ pub fn check_program_parts(
     source: Result<(), TreeFault>,
     below: Result<u64, TreeFault>,
 ) -> Result<(), TreeFault>
-    ensures { result ≡ both (verdict (span_faults (surroundings_plain around.now) span)) (both source (ended (options_plain around.now.options.now) span below)) }
+    ensures { result ≡ both (verdict (span_faults (surroundings_plain around.now None) span)) (both source (ended (options_plain around.now.options.now) span below)) }
 {
     check_span(around.is_mapped, around.source, span)?;
     source?;

@@ -2,17 +2,19 @@
 //! memory.
 #![tactic(auto)]
 
-ghost use Rattle.std.specs.Prelude.{◌≡◌, not, ◌&&◌};
+ghost use Rattle.std.specs.Prelude.{◌≡◌, ◌++◌, None, not, ◌&&◌};
 ghost use Rattle.jsgen_tree.specs.Tree.{Tree, type_of, span_of};
 ghost use Rattle.jsgen_tree.specs.Plain.{node_plain, program_plain};
 ghost use Rattle.jsgen_tree.specs.Options.{options_plain};
 ghost use Rattle.jsgen_tree.specs.Rows.{expression_plain};
 ghost use Rattle.jsgen_tree.specs.declared.types.NodeSet.TheVariants as sets;
-ghost use Rattle.jsgen_model.specs.Valid.{job_breaches, expression_breaches, set_faults, link_faults, is_among_statements, binds_nothing, Judges};
+ghost use Rattle.jsgen_model.specs.Valid.{job_breaches, expression_breaches, set_faults, link_faults, uncooked_faults, is_among_statements, binds_nothing, Judges};
 ghost use Rattle.jsgen_rules.specs.Verdict.{verdict};
-ghost use Rattle.jsgen_check.specs.Verdict.{tables_of, tree_verdict, child_verdict, told};
+ghost use Rattle.jsgen_model.specs.Resolved.{after};
+ghost use Rattle.jsgen_check.specs.Verdict.{tables_of, surroundings_plain, tree_verdict, child_verdict, SameNumber, told};
 
 mod assignments;
+mod bodies;
 mod children;
 mod choices;
 mod classes;
@@ -24,19 +26,23 @@ mod heights;
 mod kinds;
 mod links;
 mod loops;
+mod modules;
 mod operations;
 mod patterns;
+mod pieces;
 mod program;
 mod rules;
 mod sets;
 mod statements;
 mod surroundings;
 mod targets;
+mod templates;
 
 use crate::heads::misfits_left;
-use crate::heights::check_top;
+use crate::heights::{both, check_top};
 use crate::kinds::{expression_fits_kind, method_fits};
 use crate::links::{expression_has_optional_link, has_optional_link};
+use crate::pieces::{expression_has_uncooked, has_uncooked};
 use crate::program::check_program_row;
 use crate::rules::binds_nothing;
 use crate::sets::{
@@ -46,8 +52,8 @@ use crate::sets::{
 pub use crate::surroundings::Surroundings;
 use jsgen_model::TreeFault;
 use jsgen_rules::{
-    check_no_optional_link, check_set, class_fits, function_fits, is_among_statements,
-    is_declaration, takes_optional_link,
+    Classes, check_no_optional_link, check_no_uncooked, check_set, class_fits, function_fits,
+    is_among_statements, is_declaration, takes_optional_link, takes_uncooked,
 };
 use jsgen_tree::{
     CodegenOptions, Expression, GetSpan, IdentifierReference, Node, NodeSet, NodeType,
@@ -60,7 +66,7 @@ pub trait CheckNode {
     ghost use Rattle.std.specs.Str.{chars};
     ghost use Rattle.jsgen_tree.specs.Tree.{Tree};
     ghost use Rattle.jsgen_tree.specs.Inside.{without_parentheses, has_optional_link, looked_up_in, named_by, written_name_in, is_negative};
-    ghost use Rattle.jsgen_model.specs.Valid.{is_declaration, fits_kind, fits_method, binds_nothing};
+    ghost use Rattle.jsgen_model.specs.Valid.{is_declaration, fits_kind, fits_method, binds_nothing, has_uncooked};
     ghost use Rattle.jsgen_check.specs.Heads.{misfits_left};
 
     ghost plain: { Self → Tree };
@@ -99,6 +105,10 @@ pub trait CheckNode {
     fn has_optional_link(&self) -> bool
         ensures { result ≡ has_optional_link (plain self.now) };
 
+    /// Whether it is a template of which a piece stands for nothing.
+    fn has_uncooked(&self) -> bool
+        ensures { result ≡ has_uncooked (plain self.now) };
+
     /// Whether a loop may not give its values to it: a declaration but of one name without a value, or what has an optional link.
     fn misfits_left(&self) -> bool
         ensures { result ≡ misfits_left (plain self.now) };
@@ -107,9 +117,16 @@ pub trait CheckNode {
     fn binds_nothing(&self) -> bool
         ensures { result ≡ binds_nothing (plain self.now) };
 
-    /// Where no rule is broken, how many nodes stand on the longest way down, counted up to what 64 bits hold.
-    fn check(&self, around: &Surroundings<'_>) -> Result<u64, TreeFault>
-        ensures { result ≡ tree_verdict around.now (plain self.now) };
+    /// Where no rule is broken, how many nodes stand on the longest way down, counted up to what 64 bits hold. The next class has the
+    /// number that is handed, and the next one behind it the number that is left there.
+    fn check(
+        &self,
+        around: &Surroundings<'_>,
+        classes: Option<&Classes<'_>>,
+        next: &mut usize,
+    ) -> Result<u64, TreeFault>
+        ensures found { result ≡ tree_verdict (surroundings_plain around.now classes.entry) next.old (plain self.now) }
+        ensures number { SameNumber (surroundings_plain around.now classes.entry) next.new (after (plain self.now) next.old) };
 }
 
 /// Says Ok exactly where a program that is printed under these options and by these tables keeps each rule, and otherwise a rule
@@ -131,6 +148,8 @@ pub fn check_program(
         source: program.source.as_str(),
         is_mapped: options.source_map_path.is_some(),
         in_function: false,
+        may_yield: false,
+        may_await: true,
     };
     check_program_row(program, &around)
 }
@@ -151,6 +170,8 @@ pub fn check_expression(
         source: "",
         is_mapped: false,
         in_function: false,
+        may_yield: false,
+        may_await: true,
     };
     let found = check_alone(expression, &around);
     check_top(options, expression.span(), found)
@@ -158,13 +179,14 @@ pub fn check_expression(
 
 // An expression that nothing stands round.
 fn check_alone(expression: &Expression, around: &Surroundings<'_>) -> Result<u64, TreeFault>
-    ensures { result ≡ child_verdict around.now sets.Expression (expression_plain node_plain expression.now) }
+    ensures { result ≡ child_verdict (surroundings_plain around.now None) 0 sets.Expression (expression_plain node_plain expression.now) }
 {
     check_place_alone(expression)?;
-    check_expression_set(expression, around)
+    let mut next = 0;
+    check_expression_set(expression, around, None, &mut next)
 }
 
-// Neither `super` nor a declaration nor an optional link outside a chain stands there by itself.
+// Neither `super` nor a declaration nor an optional link outside a chain nor a piece that stands for nothing stands there by itself.
 fn check_place_alone(expression: &Expression) -> Result<(), TreeFault>
     ensures { result ≡ verdict (set_faults sets.Expression (expression_plain node_plain expression.now)) }
 {
@@ -176,18 +198,24 @@ fn check_place_alone(expression: &Expression) -> Result<(), TreeFault>
         fits_kind,
         start,
     )?;
-    check_no_optional_link(expression_has_optional_link(expression), start)
+    check_no_optional_link(expression_has_optional_link(expression), start)?;
+    check_no_uncooked(expression_has_uncooked(expression), start)
 }
 
+// Also a child that may not stand there is checked, since its classes count.
 fn check_child<N: CheckNode>(
     child: &N,
     set: NodeSet,
     around: &Surroundings<'_>,
+    classes: Option<&Classes<'_>>,
+    next: &mut usize,
 ) -> Result<u64, TreeFault>
-    ensures { result ≡ child_verdict around.now set (N.plain child.now) }
+    ensures found { result ≡ child_verdict (surroundings_plain around.now classes.entry) next.old set (N.plain child.now) }
+    ensures number { SameNumber (surroundings_plain around.now classes.entry) next.new (after (N.plain child.now) next.old) }
 {
-    check_place(child, set)?;
-    child.check(around)
+    let place = check_place(child, set);
+    let found = child.check(around, classes, next);
+    both(place, found)
 }
 
 // A child may stand at a place that asks for this set.
@@ -195,7 +223,14 @@ fn check_place<N: CheckNode>(child: &N, set: NodeSet) -> Result<(), TreeFault>
     ensures { result ≡ verdict (set_faults set (N.plain child.now)) }
 {
     check_set(child.node_type(), set, child.fits_kind(set), child.start())?;
-    check_links(child, set)
+    check_links_and_pieces(child, set)
+}
+
+fn check_links_and_pieces<N: CheckNode>(child: &N, set: NodeSet) -> Result<(), TreeFault>
+    ensures { result ≡ verdict (link_faults set (N.plain child.now) ++ uncooked_faults set (N.plain child.now)) }
+{
+    check_links(child, set)?;
+    check_pieces(child, set)
 }
 
 // A declaration among statements gives each pattern a value.
@@ -219,6 +254,16 @@ fn check_links<N: CheckNode>(child: &N, set: NodeSet) -> Result<(), TreeFault>
     check_no_optional_link(child.has_optional_link(), child.start())
 }
 
+// A piece that stands for nothing stands behind a tag alone.
+fn check_pieces<N: CheckNode>(child: &N, set: NodeSet) -> Result<(), TreeFault>
+    ensures { result ≡ verdict (uncooked_faults set (N.plain child.now)) }
+{
+    if takes_uncooked(set) {
+        return Ok(());
+    }
+    check_no_uncooked(child.has_uncooked(), child.start())
+}
+
 /// The knot: the one recursion.
 impl CheckNode for Node {
     ghost plain = { λ n. node_plain n };
@@ -234,15 +279,15 @@ impl CheckNode for Node {
     fn is_declaration(&self) -> bool {
         is_declaration(
             self.declared_kind(),
-            self.as_function().is_some() || self.class_kind().is_some(),
+            self.as_function().is_some() || self.class_head().is_some(),
         )
     }
 
     fn fits_kind(&self, set: NodeSet) -> bool {
         match self.as_function() {
-            Some(function) => function_fits(function.kind, set),
-            None => match self.class_kind() {
-                Some(kind) => class_fits(kind, set),
+            Some(function) => function_fits(function.kind, function.id.is_some(), set),
+            None => match self.class_head() {
+                Some((kind, has_name)) => class_fits(kind, has_name, set),
                 None => is_bound(self, set),
             },
         }
@@ -271,6 +316,10 @@ impl CheckNode for Node {
         has_optional_link(self)
     }
 
+    fn has_uncooked(&self) -> bool {
+        has_uncooked(self)
+    }
+
     fn misfits_left(&self) -> bool {
         misfits_left(self)
     }
@@ -280,14 +329,28 @@ impl CheckNode for Node {
     }
 
     #[cycle(node)]
-    fn check(&self, around: &Surroundings<'_>) -> Result<u64, TreeFault> {
+    fn check(
+        &self,
+        around: &Surroundings<'_>,
+        classes: Option<&Classes<'_>>,
+        next: &mut usize,
+    ) -> Result<u64, TreeFault> {
         match self {
-            Node::Expression(expression) => check_expression_set(expression, around),
-            Node::AssignmentTarget(target) => check_assignment_target_set(target, around),
-            Node::Statement(statement) => check_statement_set(statement, around),
-            Node::Declaration(declaration) => check_declaration_set(declaration, around),
-            Node::BindingPattern(pattern) => check_binding_pattern_set(pattern, around),
-            Node::ClassElement(element) => check_class_element_set(element, around),
+            Node::Expression(expression) => check_expression_set(expression, around, classes, next),
+            Node::AssignmentTarget(target) => check_assignment_target_set(
+                target, around, classes, next,
+            ),
+            Node::Statement(statement) => check_statement_set(statement, around, classes, next),
+            Node::Declaration(declaration) => check_declaration_set(
+                declaration,
+                around,
+                classes,
+                next,
+            ),
+            Node::BindingPattern(pattern) => check_binding_pattern_set(
+                pattern, around, classes, next,
+            ),
+            Node::ClassElement(element) => check_class_element_set(element, around, classes, next),
         }
     }
 }

@@ -1,11 +1,13 @@
 // Programs, whose height is judged behind their children.
-ghost use Rattle.std.specs.Prelude.{◌≡◌};
+ghost use Rattle.std.specs.Prelude.{◌≡◌, None};
 ghost use Rattle.jsgen_tree.specs.Rows.{program_row};
 ghost use Rattle.jsgen_model.specs.Valid.{breaches, Judges};
 ghost use Rattle.jsgen_rules.specs.Verdict.{verdict};
 ghost use Rattle.jsgen_check.specs.Verdict.{surroundings_plain, told_in};
 
-use crate::children::{check_comments, check_directives, check_statements};
+use crate::children::{
+    check_comments, check_directives, check_module_items, check_optional_hashbang,
+};
 use crate::heights::{check_program_parts, higher};
 use crate::{CheckNode, Surroundings};
 use jsgen_model::TreeFault;
@@ -16,13 +18,15 @@ pub fn check_program_row<N: CheckNode>(
     node: &Program<N>,
     around: &Surroundings<'_>,
 ) -> Result<(), TreeFault>
-    ensures judges { Judges (breaches (surroundings_plain around.now) (program_row N.plain node.now)) result }
-    ensures told { result ≡ verdict (told_in (surroundings_plain around.now) (program_row N.plain node.now)) }
+    ensures judges { Judges (breaches (surroundings_plain around.now None) 0 (program_row N.plain node.now)) result }
+    ensures told { result ≡ verdict (told_in (surroundings_plain around.now None) (program_row N.plain node.now)) }
 {
     let source = check_source(around.source, node.span);
-    let comments = check_comments(&node.comments, around);
-    let directives = check_directives(&node.directives, around);
-    let body = check_statements(&node.body, around);
-    let below = higher(comments, higher(directives, body));
+    let mut next = 0;
+    let comments = check_comments(&node.comments, around, None, &mut next);
+    let hashbang = check_optional_hashbang(&node.hashbang, around, None, &mut next);
+    let directives = check_directives(&node.directives, around, None, &mut next);
+    let body = check_module_items(&node.body, around, None, &mut next);
+    let below = higher(comments, higher(hashbang, higher(directives, body)));
     check_program_parts(around, node.span, source, below)
 }

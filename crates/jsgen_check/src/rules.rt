@@ -12,20 +12,24 @@ mod classes;
 mod functions;
 mod keys;
 mod links;
+mod modules;
 mod patterns;
 mod statements;
 mod targets;
+mod templates;
 
 use crate::{CheckNode, Surroundings};
 pub use classes::{
-    check_class_rules, check_method_definition_rules, check_private_identifier_rules,
-    check_property_definition_rules,
+    check_method_definition_rules, check_private_identifier_rules, check_property_definition_rules,
 };
-pub use functions::{check_function_rules, check_return_statement_rules};
+pub use functions::{
+    check_await_expression_rules, check_function_rules, check_return_statement_rules,
+    check_yield_expression_rules,
+};
 use jsgen_model::TreeFault;
 use jsgen_rules::{
-    check_big_integer, check_binding, check_comment, check_label, check_raw, check_raw_number,
-    check_reference, check_regular_expression, check_written_name,
+    Classes, check_big_integer, check_binding, check_comment, check_label, check_raw,
+    check_raw_number, check_reference, check_regular_expression, check_written_name,
 };
 use jsgen_syntax::Span;
 use jsgen_tree::{
@@ -39,6 +43,10 @@ pub use links::{
     check_computed_member_expression_rules, check_private_field_expression_rules,
     check_static_member_expression_rules, check_update_expression_rules,
 };
+pub use modules::{
+    check_export_from_declaration_rules, check_export_named_declaration_rules,
+    check_hashbang_rules, check_import_declaration_rules,
+};
 pub use patterns::{binds_nothing, check_binding_property_rules, check_object_pattern_rules};
 pub use statements::{
     check_do_while_statement_rules, check_for_in_statement_rules, check_for_of_statement_rules,
@@ -50,18 +58,29 @@ pub use targets::{
     check_assignment_target_property_property_rules, check_assignment_target_rest_rules,
     check_assignment_target_with_default_rules, check_object_assignment_target_rules,
 };
+pub use templates::{check_template_element_rules, check_template_literal_rules};
 
 #[tactic(auto, unfolding(crate::specs::Verdict::surroundings_plain))]
-pub fn check_comment_rules(node: &Comment, around: &Surroundings<'_>) -> Result<(), TreeFault>
-    ensures { result ≡ verdict (own_faults (surroundings_plain around.now) (comment_row node.now)) }
+pub fn check_comment_rules(
+    node: &Comment,
+    around: &Surroundings<'_>,
+    classes: Option<&Classes<'_>>,
+) -> Result<(), TreeFault>
+    ensures { result ≡ verdict (own_faults (surroundings_plain around.now classes.entry) (comment_row node.now)) }
 {
+    let _ = classes;
     check_comment(around.source, node.span, node.kind)
 }
 
 #[tactic(auto)]
-pub fn check_directive_rules(node: &Directive, around: &Surroundings<'_>) -> Result<(), TreeFault>
-    ensures { result ≡ verdict (own_faults (surroundings_plain around.now) (directive_row node.now)) }
+pub fn check_directive_rules(
+    node: &Directive,
+    around: &Surroundings<'_>,
+    classes: Option<&Classes<'_>>,
+) -> Result<(), TreeFault>
+    ensures { result ≡ verdict (own_faults (surroundings_plain around.now classes.entry) (directive_row node.now)) }
 {
+    let _ = classes;
     let _ = around;
     check_raw(&node.directive, node.span)
 }
@@ -83,9 +102,11 @@ fn check_count<N: CheckNode>(
 pub fn check_variable_declaration_rules<N: CheckNode>(
     node: &VariableDeclaration<N>,
     around: &Surroundings<'_>,
+    classes: Option<&Classes<'_>>,
 ) -> Result<(), TreeFault>
-    ensures { result ≡ verdict (own_faults (surroundings_plain around.now) (variable_declaration_row N.plain node.now)) }
+    ensures { result ≡ verdict (own_faults (surroundings_plain around.now classes.entry) (variable_declaration_row N.plain node.now)) }
 {
+    let _ = classes;
     let _ = around;
     check_count(&node.declarations, node.span)
 }
@@ -104,9 +125,11 @@ fn check_parts<N: CheckNode>(parts: &[ExpressionNode<N>], span: Span) -> Result<
 pub fn check_sequence_expression_rules<N: CheckNode>(
     node: &SequenceExpression<N>,
     around: &Surroundings<'_>,
+    classes: Option<&Classes<'_>>,
 ) -> Result<(), TreeFault>
-    ensures { result ≡ verdict (own_faults (surroundings_plain around.now) (sequence_expression_row N.plain node.now)) }
+    ensures { result ≡ verdict (own_faults (surroundings_plain around.now classes.entry) (sequence_expression_row N.plain node.now)) }
 {
+    let _ = classes;
     let _ = around;
     check_parts(&node.expressions, node.span)
 }
@@ -115,9 +138,11 @@ pub fn check_sequence_expression_rules<N: CheckNode>(
 pub fn check_binding_identifier_rules(
     node: &BindingIdentifier,
     around: &Surroundings<'_>,
+    classes: Option<&Classes<'_>>,
 ) -> Result<(), TreeFault>
-    ensures { result ≡ verdict (own_faults (surroundings_plain around.now) (binding_identifier_row node.now)) }
+    ensures { result ≡ verdict (own_faults (surroundings_plain around.now classes.entry) (binding_identifier_row node.now)) }
 {
+    let _ = classes;
     check_binding(around.tables, node.symbol, &node.name, node.span)
 }
 
@@ -125,9 +150,11 @@ pub fn check_binding_identifier_rules(
 pub fn check_identifier_reference_rules(
     node: &IdentifierReference,
     around: &Surroundings<'_>,
+    classes: Option<&Classes<'_>>,
 ) -> Result<(), TreeFault>
-    ensures { result ≡ verdict (own_faults (surroundings_plain around.now) (identifier_reference_row node.now)) }
+    ensures { result ≡ verdict (own_faults (surroundings_plain around.now classes.entry) (identifier_reference_row node.now)) }
 {
+    let _ = classes;
     check_reference(around.tables, node.reference, &node.name, node.span)
 }
 
@@ -135,9 +162,11 @@ pub fn check_identifier_reference_rules(
 pub fn check_numeric_literal_rules(
     node: &NumericLiteral,
     around: &Surroundings<'_>,
+    classes: Option<&Classes<'_>>,
 ) -> Result<(), TreeFault>
-    ensures { result ≡ verdict (own_faults (surroundings_plain around.now) (numeric_literal_row node.now)) }
+    ensures { result ≡ verdict (own_faults (surroundings_plain around.now classes.entry) (numeric_literal_row node.now)) }
 {
+    let _ = classes;
     let _ = around;
     match &node.value {
         NumericValue::Whole { .. } => Ok(()),
@@ -149,9 +178,11 @@ pub fn check_numeric_literal_rules(
 pub fn check_reg_exp_literal_rules(
     node: &RegExpLiteral,
     around: &Surroundings<'_>,
+    classes: Option<&Classes<'_>>,
 ) -> Result<(), TreeFault>
-    ensures { result ≡ verdict (own_faults (surroundings_plain around.now) (reg_exp_literal_row node.now)) }
+    ensures { result ≡ verdict (own_faults (surroundings_plain around.now classes.entry) (reg_exp_literal_row node.now)) }
 {
+    let _ = classes;
     let _ = around;
     check_regular_expression(&node.pattern, &node.flags, node.span)
 }
@@ -160,9 +191,11 @@ pub fn check_reg_exp_literal_rules(
 pub fn check_big_int_literal_rules(
     node: &BigIntLiteral,
     around: &Surroundings<'_>,
+    classes: Option<&Classes<'_>>,
 ) -> Result<(), TreeFault>
-    ensures { result ≡ verdict (own_faults (surroundings_plain around.now) (big_int_literal_row node.now)) }
+    ensures { result ≡ verdict (own_faults (surroundings_plain around.now classes.entry) (big_int_literal_row node.now)) }
 {
+    let _ = classes;
     let _ = around;
     check_big_integer(&node.value, node.span)
 }
@@ -171,9 +204,11 @@ pub fn check_big_int_literal_rules(
 pub fn check_identifier_name_rules(
     node: &IdentifierName,
     around: &Surroundings<'_>,
+    classes: Option<&Classes<'_>>,
 ) -> Result<(), TreeFault>
-    ensures { result ≡ verdict (own_faults (surroundings_plain around.now) (identifier_name_row node.now)) }
+    ensures { result ≡ verdict (own_faults (surroundings_plain around.now classes.entry) (identifier_name_row node.now)) }
 {
+    let _ = classes;
     let _ = around;
     check_written_name(&node.name, node.span)
 }
@@ -182,9 +217,11 @@ pub fn check_identifier_name_rules(
 pub fn check_label_identifier_rules(
     node: &LabelIdentifier,
     around: &Surroundings<'_>,
+    classes: Option<&Classes<'_>>,
 ) -> Result<(), TreeFault>
-    ensures { result ≡ verdict (own_faults (surroundings_plain around.now) (label_identifier_row node.now)) }
+    ensures { result ≡ verdict (own_faults (surroundings_plain around.now classes.entry) (label_identifier_row node.now)) }
 {
+    let _ = classes;
     let _ = around;
     check_label(&node.name, node.span)
 }

@@ -1,7 +1,8 @@
 // What surrounds a node.
-ghost use Rattle.std.specs.Prelude.{◌≡◌};
-ghost use Rattle.jsgen_tree.specs.declared.types.NodeType.TheVariants as types;
-ghost use Rattle.jsgen_model.specs.Valid.{around_children};
+ghost use Rattle.std.specs.Prelude.{◌≡◌, Option};
+ghost use Rattle.std.specs.Borrow.{Bor};
+ghost use Rattle.jsgen_model.specs.Valid.{within_nothing, within_function, within_arrow, within_braces};
+ghost use Rattle.jsgen_rules.specs.declared.private.Classes.{Classes};
 ghost use Rattle.jsgen_check.specs.Verdict.{surroundings_plain};
 
 use jsgen_tree::{CodegenOptions, Tables};
@@ -17,29 +18,58 @@ pub struct Surroundings<'a> {
     pub source: &'a str,
     /// Whether spans have to be of that source.
     pub is_mapped: bool,
-    /// Whether a function's body is round it.
+    /// Whether `return` may stand there.
     pub in_function: bool,
+    /// Whether `yield` may stand there.
+    pub may_yield: bool,
+    /// Whether `await` may stand there.
+    pub may_await: bool,
 }
 
+#[tactic(auto, unfolding(crate::specs::Verdict::surroundings_plain))]
 impl<'a> Surroundings<'a> {
-    /// What surrounds the children of a function's body that this surrounds.
-    #[tactic(auto, unfolding(crate::specs::Verdict::surroundings_plain))]
-    pub fn within_body(&self) -> Surroundings<'a>
-        ensures { surroundings_plain result ≡ around_children (surroundings_plain self.now) types.FunctionBody }
+    /// What surrounds a part of it that is in no function: parameters, the value of a field, and the statements of a static block.
+    pub fn within_nothing(&self) -> Surroundings<'a>
+        ensures { (classes : Option (Bor Classes)) → surroundings_plain result classes ≡ within_nothing (surroundings_plain self.now classes) }
     {
         Surroundings {
-            in_function: true,
+            in_function: false,
+            may_yield: false,
+            may_await: false,
             ..*self
         }
     }
 
-    /// What surrounds the statements of a static block that this surrounds.
-    #[tactic(auto, unfolding(crate::specs::Verdict::surroundings_plain))]
-    pub fn within_static_block(&self) -> Surroundings<'a>
-        ensures { surroundings_plain result ≡ around_children (surroundings_plain self.now) types.StaticBlock }
+    /// What surrounds the body of a function with these flags.
+    pub fn within_function(&self, is_async: bool, generator: bool) -> Surroundings<'a>
+        ensures { (classes : Option (Bor Classes)) → surroundings_plain result classes ≡ within_function is_async generator (surroundings_plain self.now classes) }
+    {
+        Surroundings {
+            in_function: true,
+            may_yield: generator,
+            may_await: is_async,
+            ..*self
+        }
+    }
+
+    /// What surrounds the body of an arrow function with this flag.
+    pub fn within_arrow(&self, is_async: bool) -> Surroundings<'a>
+        ensures { (classes : Option (Bor Classes)) → surroundings_plain result classes ≡ within_arrow is_async (surroundings_plain self.now classes) }
     {
         Surroundings {
             in_function: false,
+            may_yield: false,
+            may_await: is_async,
+            ..*self
+        }
+    }
+
+    /// What surrounds the statements of a body in braces.
+    pub fn within_braces(&self) -> Surroundings<'a>
+        ensures { (classes : Option (Bor Classes)) → surroundings_plain result classes ≡ within_braces (surroundings_plain self.now classes) }
+    {
+        Surroundings {
+            in_function: true,
             ..*self
         }
     }

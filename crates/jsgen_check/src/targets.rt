@@ -2,7 +2,8 @@
 // Patterns that are given values (ECMA-262, 13.15.5).
 ghost use Rattle.std.specs.Prelude.{◌≡◌};
 ghost use Rattle.jsgen_tree.specs.Rows.{array_assignment_target_row, object_assignment_target_row, assignment_target_with_default_row, assignment_target_property_identifier_row, assignment_target_property_property_row, assignment_target_rest_row};
-ghost use Rattle.jsgen_check.specs.Verdict.{tree_verdict};
+ghost use Rattle.jsgen_model.specs.Resolved.{after};
+ghost use Rattle.jsgen_check.specs.Verdict.{surroundings_plain, tree_verdict, SameNumber};
 
 use crate::children::{
     check_assignment_target_maybe_default, check_assignment_target_maybe_defaults_or_holes,
@@ -18,6 +19,7 @@ use crate::rules::{
 };
 use crate::{CheckNode, Surroundings, check_child};
 use jsgen_model::TreeFault;
+use jsgen_rules::Classes;
 use jsgen_tree::{
     ArrayAssignmentTarget, AssignmentTargetPropertyIdentifier, AssignmentTargetPropertyProperty,
     AssignmentTargetRest, AssignmentTargetWithDefault, NodeSet, ObjectAssignmentTarget,
@@ -27,74 +29,109 @@ use jsgen_tree::{
 pub fn check_array_assignment_target<N: CheckNode>(
     node: &ArrayAssignmentTarget<N>,
     around: &Surroundings<'_>,
+    classes: Option<&Classes<'_>>,
+    next: &mut usize,
 ) -> Result<u64, TreeFault>
-    ensures { result ≡ tree_verdict around.now (array_assignment_target_row N.plain node.now) }
+    ensures found { result ≡ tree_verdict (surroundings_plain around.now classes.entry) next.old (array_assignment_target_row N.plain node.now) }
+    ensures number { SameNumber (surroundings_plain around.now classes.entry) next.new (after (array_assignment_target_row N.plain node.now) next.old) }
 {
-    let elements = check_assignment_target_maybe_defaults_or_holes(&node.elements, around);
-    let rest = check_optional_assignment_target_rest(&node.rest, around);
-    check_node(around, node.span, Ok(()), higher(elements, rest))
+    let elements = check_assignment_target_maybe_defaults_or_holes(
+        &node.elements,
+        around,
+        classes,
+        next,
+    );
+    let rest = check_optional_assignment_target_rest(&node.rest, around, classes, next);
+    check_node(around, classes, node.span, Ok(()), higher(elements, rest))
 }
 
 #[inline(never)]
 pub fn check_object_assignment_target<N: CheckNode>(
     node: &ObjectAssignmentTarget<N>,
     around: &Surroundings<'_>,
+    classes: Option<&Classes<'_>>,
+    next: &mut usize,
 ) -> Result<u64, TreeFault>
-    ensures { result ≡ tree_verdict around.now (object_assignment_target_row N.plain node.now) }
+    ensures found { result ≡ tree_verdict (surroundings_plain around.now classes.entry) next.old (object_assignment_target_row N.plain node.now) }
+    ensures number { SameNumber (surroundings_plain around.now classes.entry) next.new (after (object_assignment_target_row N.plain node.now) next.old) }
 {
-    let rules = check_object_assignment_target_rules(node, around);
-    let properties = check_assignment_target_properties(&node.properties, around);
-    let rest = check_optional_assignment_target_rest(&node.rest, around);
-    check_node(around, node.span, rules, higher(properties, rest))
+    let rules = check_object_assignment_target_rules(node, around, classes);
+    let properties = check_assignment_target_properties(&node.properties, around, classes, next);
+    let rest = check_optional_assignment_target_rest(&node.rest, around, classes, next);
+    check_node(around, classes, node.span, rules, higher(properties, rest))
 }
 
 #[inline(never)]
 pub fn check_assignment_target_with_default<N: CheckNode>(
     node: &AssignmentTargetWithDefault<N>,
     around: &Surroundings<'_>,
+    classes: Option<&Classes<'_>>,
+    next: &mut usize,
 ) -> Result<u64, TreeFault>
-    ensures { result ≡ tree_verdict around.now (assignment_target_with_default_row N.plain node.now) }
+    ensures found { result ≡ tree_verdict (surroundings_plain around.now classes.entry) next.old (assignment_target_with_default_row N.plain node.now) }
+    ensures number { SameNumber (surroundings_plain around.now classes.entry) next.new (after (assignment_target_with_default_row N.plain node.now) next.old) }
 {
-    let rules = check_assignment_target_with_default_rules(node, around);
-    let binding = check_child(node.binding.get(), NodeSet::AssignmentTarget, around);
-    let init = check_child(node.init.get(), NodeSet::Expression, around);
-    check_node(around, node.span, rules, higher(binding, init))
+    let rules = check_assignment_target_with_default_rules(node, around, classes);
+    let binding = check_child(
+        node.binding.get(),
+        NodeSet::AssignmentTarget,
+        around,
+        classes,
+        next,
+    );
+    let init = check_child(node.init.get(), NodeSet::Expression, around, classes, next);
+    check_node(around, classes, node.span, rules, higher(binding, init))
 }
 
 #[inline(never)]
 pub fn check_assignment_target_property_identifier<N: CheckNode>(
     node: &AssignmentTargetPropertyIdentifier<N>,
     around: &Surroundings<'_>,
+    classes: Option<&Classes<'_>>,
+    next: &mut usize,
 ) -> Result<u64, TreeFault>
-    ensures { result ≡ tree_verdict around.now (assignment_target_property_identifier_row N.plain node.now) }
+    ensures found { result ≡ tree_verdict (surroundings_plain around.now classes.entry) next.old (assignment_target_property_identifier_row N.plain node.now) }
+    ensures number { SameNumber (surroundings_plain around.now classes.entry) next.new (after (assignment_target_property_identifier_row N.plain node.now) next.old) }
 {
-    let rules = check_assignment_target_property_identifier_rules(node, around);
-    let binding = check_identifier_reference(&node.binding, around);
-    let init = check_optional_expression(&node.init, around);
-    check_node(around, node.span, rules, higher(binding, init))
+    let rules = check_assignment_target_property_identifier_rules(node, around, classes);
+    let binding = check_identifier_reference(&node.binding, around, classes, next);
+    let init = check_optional_expression(&node.init, around, classes, next);
+    check_node(around, classes, node.span, rules, higher(binding, init))
 }
 
 #[inline(never)]
 pub fn check_assignment_target_property_property<N: CheckNode>(
     node: &AssignmentTargetPropertyProperty<N>,
     around: &Surroundings<'_>,
+    classes: Option<&Classes<'_>>,
+    next: &mut usize,
 ) -> Result<u64, TreeFault>
-    ensures { result ≡ tree_verdict around.now (assignment_target_property_property_row N.plain node.now) }
+    ensures found { result ≡ tree_verdict (surroundings_plain around.now classes.entry) next.old (assignment_target_property_property_row N.plain node.now) }
+    ensures number { SameNumber (surroundings_plain around.now classes.entry) next.new (after (assignment_target_property_property_row N.plain node.now) next.old) }
 {
-    let rules = check_assignment_target_property_property_rules(node, around);
-    let name = check_property_key(&node.name, around);
-    let binding = check_assignment_target_maybe_default(&node.binding, around);
-    check_node(around, node.span, rules, higher(name, binding))
+    let rules = check_assignment_target_property_property_rules(node, around, classes);
+    let name = check_property_key(&node.name, around, classes, next);
+    let binding = check_assignment_target_maybe_default(&node.binding, around, classes, next);
+    check_node(around, classes, node.span, rules, higher(name, binding))
 }
 
 #[inline(never)]
 pub fn check_assignment_target_rest<N: CheckNode>(
     node: &AssignmentTargetRest<N>,
     around: &Surroundings<'_>,
+    classes: Option<&Classes<'_>>,
+    next: &mut usize,
 ) -> Result<u64, TreeFault>
-    ensures { result ≡ tree_verdict around.now (assignment_target_rest_row N.plain node.now) }
+    ensures found { result ≡ tree_verdict (surroundings_plain around.now classes.entry) next.old (assignment_target_rest_row N.plain node.now) }
+    ensures number { SameNumber (surroundings_plain around.now classes.entry) next.new (after (assignment_target_rest_row N.plain node.now) next.old) }
 {
-    let rules = check_assignment_target_rest_rules(node, around);
-    let target = check_child(node.target.get(), NodeSet::AssignmentTarget, around);
-    check_node(around, node.span, rules, target)
+    let rules = check_assignment_target_rest_rules(node, around, classes);
+    let target = check_child(
+        node.target.get(),
+        NodeSet::AssignmentTarget,
+        around,
+        classes,
+        next,
+    );
+    check_node(around, classes, node.span, rules, target)
 }

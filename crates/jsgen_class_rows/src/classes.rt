@@ -1,11 +1,11 @@
 // Generated from tools/nodes/table.txt; edit that and run tools/nodes/generate.
 // Rows of a job: classes and private names (ECMA-262, 15.7).
-ghost use Rattle.std.specs.Prelude.{◌≡◌, false};
+ghost use Rattle.std.specs.Prelude.{◌≡◌, true};
 ghost use Rattle.serde_json.specs.View.{view};
 ghost use Rattle.jsgen_tree.specs.RowFields.{private_identifier_fields, private_field_expression_fields, private_in_expression_fields, class_fields, class_body_fields, static_block_fields, method_definition_fields, property_definition_fields};
 ghost use Rattle.jsgen_fields.specs.Reads.{Gives, read_node, read_typed};
 ghost use Rattle.jsgen_pool.specs.Pool.{entries};
-ghost use Rattle.jsgen_fields.specs.Parts.{is_in_statements, is_in_expressions, is_in_collections, is_in_operations, is_in_assignments, is_in_functions, is_in_loops, is_in_choices, is_in_patterns, is_in_targets};
+ghost use Rattle.jsgen_fields.specs.Parts.{is_in_classes};
 ghost use Rattle.jsgen_tree.specs.declared.types.NodeType.TheVariants as types;
 
 use jsgen_fields::InputFault;
@@ -18,11 +18,11 @@ use jsgen_fields::kept::{
     row_of_class, row_of_class_body, row_of_class_element, row_of_expression,
     row_of_private_field_expression, row_of_private_identifier,
 };
+use jsgen_fields::list_fields::{class_element_list, statement_list};
 use jsgen_fields::others::OtherExpression;
 use jsgen_fields::set_fields::{
-    class_element_list, needed_class_body, needed_expression, needed_function,
-    needed_private_identifier, needed_property_key, optional_binding_identifier,
-    optional_expression, statement_list,
+    needed_class_body, needed_expression, needed_function, needed_private_identifier,
+    needed_property_key, optional_binding_identifier, optional_expression,
 };
 use jsgen_fields::values::{field_not_given, needed_text, neither_given, optional_flag};
 use jsgen_fields::words::{needed_class_form, needed_kind_of_method};
@@ -358,16 +358,7 @@ pub fn read_in_classes<N: ReadNode + Drop, R: RowOf<N> + Drop>(
     span: Span,
     row: &Value,
 ) -> Result<R, InputFault>
-    requires not_in_statements { is_in_statements node_type ≡ false }
-    requires not_in_expressions { is_in_expressions node_type ≡ false }
-    requires not_in_collections { is_in_collections node_type ≡ false }
-    requires not_in_operations { is_in_operations node_type ≡ false }
-    requires not_in_assignments { is_in_assignments node_type ≡ false }
-    requires not_in_functions { is_in_functions node_type ≡ false }
-    requires not_in_loops { is_in_loops node_type ≡ false }
-    requires not_in_choices { is_in_choices node_type ≡ false }
-    requires not_in_patterns { is_in_patterns node_type ≡ false }
-    requires not_in_targets { is_in_targets node_type ≡ false }
+    requires { is_in_classes node_type ≡ true }
     ensures { Gives R.plain result (entries R.plain kept.new.items)
         (read_typed number node_type span (view row.now) (entries R.plain kept.old.items)) }
 {

@@ -37,6 +37,7 @@ pub fn print_method_definition<N, M: PrintInClass<N>>(
     p.print_mark(node.span);
     print_static_if(node.is_static, p);
     print_method_kind(node.kind, p);
+    M::print_method_words(&node.value, p);
     M::print_key(&node.key, node.computed, p);
     M::print_method(&node.value, p, place);
     p.print_soft_line_if(place.in_list);

@@ -12,11 +12,9 @@ use jsgen_fields::InputFault;
 use jsgen_fields::asked::{HoldsExpression, PlainNode, ReadNode, RowOf};
 use jsgen_fields::fields::boxed;
 use jsgen_fields::kept::{row_of_expression, row_of_object_property, row_of_spread_element};
+use jsgen_fields::list_fields::{array_expression_element_or_hole_list, object_property_kind_list};
 use jsgen_fields::others::OtherExpression;
-use jsgen_fields::set_fields::{
-    array_expression_element_or_hole_list, needed_expression, needed_property_key,
-    object_property_kind_list,
-};
+use jsgen_fields::set_fields::{needed_expression, needed_property_key};
 use jsgen_fields::values::optional_flag;
 use jsgen_fields::words::needed_property_kind;
 use jsgen_pool::Kept;

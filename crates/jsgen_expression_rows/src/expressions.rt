@@ -16,10 +16,9 @@ use jsgen_fields::kept::{
     row_of_computed_member_expression, row_of_expression, row_of_identifier_name,
     row_of_identifier_reference, row_of_static_member_expression,
 };
+use jsgen_fields::list_fields::argument_list;
 use jsgen_fields::others::OtherExpression;
-use jsgen_fields::set_fields::{
-    argument_list, needed_chain_element, needed_expression, needed_identifier_name,
-};
+use jsgen_fields::set_fields::{needed_chain_element, needed_expression, needed_identifier_name};
 use jsgen_fields::strings::needed_units;
 use jsgen_fields::values::{
     field_not_given, needed_flag, needed_text, optional_flag, optional_number,

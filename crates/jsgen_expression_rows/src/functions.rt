@@ -2,7 +2,7 @@
 // Rows of a job: functions and their parameters (ECMA-262, clause 15).
 ghost use Rattle.std.specs.Prelude.{◌≡◌, true};
 ghost use Rattle.serde_json.specs.View.{view};
-ghost use Rattle.jsgen_tree.specs.RowFields.{formal_parameter_fields, formal_parameter_rest_fields, formal_parameters_fields, function_fields, function_body_fields, arrow_function_expression_fields};
+ghost use Rattle.jsgen_tree.specs.RowFields.{formal_parameter_fields, formal_parameter_rest_fields, formal_parameters_fields, function_fields, function_body_fields, arrow_function_expression_fields, await_expression_fields, yield_expression_fields};
 ghost use Rattle.jsgen_fields.specs.Reads.{Gives, read_node, read_typed};
 ghost use Rattle.jsgen_pool.specs.Pool.{entries};
 ghost use Rattle.jsgen_fields.specs.Parts.{is_in_functions};
@@ -18,19 +18,20 @@ use jsgen_fields::kept::{
     row_of_expression, row_of_formal_parameter, row_of_formal_parameter_rest,
     row_of_formal_parameters, row_of_function, row_of_function_body,
 };
+use jsgen_fields::list_fields::{directive_list, formal_parameter_list, statement_list};
 use jsgen_fields::others::OtherExpression;
 use jsgen_fields::set_fields::{
-    directive_list, formal_parameter_list, needed_arrow_function_body, needed_binding_pattern,
+    needed_arrow_function_body, needed_binding_pattern, needed_expression,
     needed_formal_parameters, optional_binding_identifier, optional_expression,
-    optional_formal_parameter_rest, optional_function_body, statement_list,
+    optional_formal_parameter_rest, optional_function_body,
 };
 use jsgen_fields::values::{field_not_given, neither_given, optional_flag};
 use jsgen_fields::words::needed_kind_of_function;
 use jsgen_pool::Kept;
 use jsgen_syntax::Span;
 use jsgen_tree::{
-    ArrowFunctionExpression, Expression, FormalParameter, FormalParameterRest, FormalParameters,
-    Function, FunctionBody, NodeType,
+    ArrowFunctionExpression, AwaitExpression, Expression, FormalParameter, FormalParameterRest,
+    FormalParameters, Function, FunctionBody, NodeType, YieldExpression,
 };
 use serde_json::Value;
 use std::alloc::Global;
@@ -159,10 +160,14 @@ fn read_function<N: PlainNode + Drop, R: RowOf<N> + Drop>(
         Ok(id) => id,
         Err(fault) => return Err(fault),
     };
-    match neither_given(number, 4, row, "is_async", "generator") {
-        Ok(()) => {}
+    let is_async = match optional_flag(number, 4, row, "is_async") {
+        Ok(is_async) => is_async,
         Err(fault) => return Err(fault),
-    }
+    };
+    let generator = match optional_flag(number, 5, row, "generator") {
+        Ok(generator) => generator,
+        Err(fault) => return Err(fault),
+    };
     match field_not_given(number, 6, row, "declare") {
         Ok(()) => {}
         Err(fault) => return Err(fault),
@@ -195,6 +200,8 @@ fn read_function<N: PlainNode + Drop, R: RowOf<N> + Drop>(
         span,
         kind,
         id,
+        is_async,
+        generator,
         pure,
         pife,
         params,
@@ -247,10 +254,10 @@ fn read_arrow_function_expression<N: HoldsExpression + Drop, R: RowOf<N> + Drop>
     ensures { Gives R.plain result (entries R.plain kept.new.items)
         (read_node number types.ArrowFunctionExpression arrow_function_expression_fields span (view row.now) (entries R.plain kept.old.items)) }
 {
-    match field_not_given(number, 2, row, "is_async") {
-        Ok(()) => {}
+    let is_async = match optional_flag(number, 2, row, "is_async") {
+        Ok(is_async) => is_async,
         Err(fault) => return Err(fault),
-    }
+    };
     let pure = match optional_flag(number, 3, row, "pure") {
         Ok(pure) => pure,
         Err(fault) => return Err(fault),
@@ -277,6 +284,7 @@ fn read_arrow_function_expression<N: HoldsExpression + Drop, R: RowOf<N> + Drop>
     };
     let node = ArrowFunctionExpression {
         span,
+        is_async,
         pure,
         pife,
         params,
@@ -287,6 +295,68 @@ fn read_arrow_function_expression<N: HoldsExpression + Drop, R: RowOf<N> + Drop>
             alloc,
             OtherExpression {
                 expression: Expression::ArrowFunctionExpression(node),
+            },
+        ),
+        Err(fault) => Err(fault),
+    }
+}
+
+#[tactic(auto, unfolding(jsgen_fields::specs::Reads::read_node))]
+fn read_await_expression<N: HoldsExpression + Drop, R: RowOf<N> + Drop>(
+    alloc: Global,
+    kept: &mut Vec<Kept<R>>,
+    number: usize,
+    span: Span,
+    row: &Value,
+) -> Result<R, InputFault>
+    ensures { Gives R.plain result (entries R.plain kept.new.items)
+        (read_node number types.AwaitExpression await_expression_fields span (view row.now) (entries R.plain kept.old.items)) }
+{
+    let argument = match needed_expression::<N, R>(alloc, kept, number, 2, row, "argument") {
+        Ok(argument) => argument,
+        Err(fault) => return Err(fault),
+    };
+    let node = AwaitExpression { span, argument };
+    match boxed(alloc, node) {
+        Ok(node) => row_of_expression::<N, R>(
+            alloc,
+            OtherExpression {
+                expression: Expression::AwaitExpression(node),
+            },
+        ),
+        Err(fault) => Err(fault),
+    }
+}
+
+#[tactic(auto, unfolding(jsgen_fields::specs::Reads::read_node))]
+fn read_yield_expression<N: HoldsExpression + Drop, R: RowOf<N> + Drop>(
+    alloc: Global,
+    kept: &mut Vec<Kept<R>>,
+    number: usize,
+    span: Span,
+    row: &Value,
+) -> Result<R, InputFault>
+    ensures { Gives R.plain result (entries R.plain kept.new.items)
+        (read_node number types.YieldExpression yield_expression_fields span (view row.now) (entries R.plain kept.old.items)) }
+{
+    let delegate = match optional_flag(number, 2, row, "delegate") {
+        Ok(delegate) => delegate,
+        Err(fault) => return Err(fault),
+    };
+    let argument = match optional_expression::<N, R>(alloc, kept, number, 3, row, "argument") {
+        Ok(argument) => argument,
+        Err(fault) => return Err(fault),
+    };
+    let node = YieldExpression {
+        span,
+        delegate,
+        argument,
+    };
+    match boxed(alloc, node) {
+        Ok(node) => row_of_expression::<N, R>(
+            alloc,
+            OtherExpression {
+                expression: Expression::YieldExpression(node),
             },
         ),
         Err(fault) => Err(fault),
@@ -319,6 +389,8 @@ pub fn read_in_functions<N: ReadNode + Drop, R: RowOf<N> + Drop>(
         NodeType::ArrowFunctionExpression => read_arrow_function_expression::<N, R>(
             alloc, kept, number, span, row,
         ),
+        NodeType::AwaitExpression => read_await_expression::<N, R>(alloc, kept, number, span, row),
+        NodeType::YieldExpression => read_yield_expression::<N, R>(alloc, kept, number, span, row),
         _ => unreachable!(),
     }
 }

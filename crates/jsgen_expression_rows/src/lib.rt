@@ -8,3 +8,4 @@ pub mod expressions;
 pub mod functions;
 mod literals;
 pub mod operations;
+pub mod templates;

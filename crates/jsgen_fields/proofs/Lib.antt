@@ -2,6 +2,7 @@ pub mod Digits
 pub mod FieldSteps
 pub mod Gives
 pub mod Listed
+pub mod OneType
 pub mod Sets
 pub mod WordLengths
 pub mod WordReads

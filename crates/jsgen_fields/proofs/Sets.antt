@@ -3,7 +3,7 @@
 use Rattle.std.proofs.Common.{◌≡◌, Bool, true, false, refl}
 use Rattle.jsgen_tree.specs.Tree.{Tree, type_of}
 use Rattle.jsgen_tree.specs.declared.types.NodeType.{NodeType}
-use Rattle.jsgen_tree.specs.Sets.{is_comment, is_directive, is_statement, is_variable_declarator, is_binding_pattern, is_expression, is_identifier_name, is_argument, is_chain_element, is_array_expression_element, is_property_key, is_object_property_kind, is_simple_assignment_target, is_assignment_target, is_formal_parameter, is_formal_parameter_rest, is_binding_identifier, is_formal_parameters, is_function_body, is_arrow_function_body, is_for_statement_init, is_for_statement_left, is_label_identifier, is_switch_case, is_block_statement, is_catch_clause, is_binding_property, is_binding_rest_element, is_assignment_target_maybe_default, is_assignment_target_rest, is_assignment_target_property, is_identifier_reference, is_private_identifier, is_class_body, is_class_element, is_function}
+use Rattle.jsgen_tree.specs.Sets.{is_statement, is_binding_pattern, is_expression, is_argument, is_chain_element, is_array_expression_element, is_property_key, is_object_property_kind, is_simple_assignment_target, is_assignment_target, is_arrow_function_body, is_for_statement_init, is_for_statement_left, is_assignment_target_maybe_default, is_assignment_target_property, is_class_element, is_import_declaration_specifier, is_module_export_name, is_import_attribute_key, is_declaration, is_export_default_declaration_kind}
 use Rattle.jsgen_tree.specs.Rows.{expression_plain, assignment_target_plain, declaration_plain, statement_plain, binding_pattern_plain, class_element_plain}
 use Rattle.jsgen_fields.specs.Meaning.{is_program}
 use Rattle.jsgen_tree.specs.declared.sets.Expression.{Expression}
@@ -27,71 +27,82 @@ use Rattle.jsgen_tree.specs.declared.sets.ClassElement.TheVariants as class_elem
 
 -- ---- what is so of each type of a set is so of each row of it
 
-of_declaration : {N : Type 0} (plain : N → Tree) (f : NodeType → Bool) (b : Bool) → f types.VariableDeclaration ≡ b → (r : Declaration N) → is_other_declaration r ≡ true → f (type_of (declaration_plain plain r)) ≡ b
+pub of_declaration : {N : Type 0} (plain : N → Tree) (f : NodeType → Bool) (b : Bool) → f types.VariableDeclaration ≡ b → (r : Declaration N) → is_other_declaration r ≡ true → f (type_of (declaration_plain plain r)) ≡ b
 of_declaration plain f b h0 (declarations.Function r) o = cc
 of_declaration plain f b h0 (declarations.Class r) o = cc
 of_declaration plain f b h0 (declarations.VariableDeclaration r) o = h0
 
-of_binding_pattern : {N : Type 0} (plain : N → Tree) (f : NodeType → Bool) (b : Bool) → f types.BindingIdentifier ≡ b → f types.ObjectPattern ≡ b → f types.ArrayPattern ≡ b → f types.AssignmentPattern ≡ b → (r : BindingPattern N) → f (type_of (binding_pattern_plain plain r)) ≡ b
+pub of_binding_pattern : {N : Type 0} (plain : N → Tree) (f : NodeType → Bool) (b : Bool) → f types.BindingIdentifier ≡ b → f types.ObjectPattern ≡ b → f types.ArrayPattern ≡ b → f types.AssignmentPattern ≡ b → (r : BindingPattern N) → f (type_of (binding_pattern_plain plain r)) ≡ b
 of_binding_pattern plain f b h0 h1 h2 h3 (binding_patterns.BindingIdentifier r) = h0
 of_binding_pattern plain f b h0 h1 h2 h3 (binding_patterns.ObjectPattern r) = h1
 of_binding_pattern plain f b h0 h1 h2 h3 (binding_patterns.ArrayPattern r) = h2
 of_binding_pattern plain f b h0 h1 h2 h3 (binding_patterns.AssignmentPattern r) = h3
 
-of_statement : {N : Type 0} (plain : N → Tree) (f : NodeType → Bool) (b : Bool) → f types.ExpressionStatement ≡ b → f types.BlockStatement ≡ b → f types.IfStatement ≡ b → f types.EmptyStatement ≡ b → f types.ForStatement ≡ b → f types.ForInStatement ≡ b → f types.ForOfStatement ≡ b → f types.WhileStatement ≡ b → f types.DoWhileStatement ≡ b → f types.LabeledStatement ≡ b → f types.ContinueStatement ≡ b → f types.BreakStatement ≡ b → f types.ReturnStatement ≡ b → f types.ThrowStatement ≡ b → f types.DebuggerStatement ≡ b → f types.SwitchStatement ≡ b → f types.TryStatement ≡ b → (r : Statement N) → is_other_statement r ≡ true → f (type_of (statement_plain plain r)) ≡ b
-of_statement plain f b h0 h1 h2 h3 h4 h5 h6 h7 h8 h9 h10 h11 h12 h13 h14 h15 h16 (statements.Declaration r) o = cc
-of_statement plain f b h0 h1 h2 h3 h4 h5 h6 h7 h8 h9 h10 h11 h12 h13 h14 h15 h16 (statements.ExpressionStatement r) o = h0
-of_statement plain f b h0 h1 h2 h3 h4 h5 h6 h7 h8 h9 h10 h11 h12 h13 h14 h15 h16 (statements.BlockStatement r) o = h1
-of_statement plain f b h0 h1 h2 h3 h4 h5 h6 h7 h8 h9 h10 h11 h12 h13 h14 h15 h16 (statements.IfStatement r) o = h2
-of_statement plain f b h0 h1 h2 h3 h4 h5 h6 h7 h8 h9 h10 h11 h12 h13 h14 h15 h16 (statements.EmptyStatement r) o = h3
-of_statement plain f b h0 h1 h2 h3 h4 h5 h6 h7 h8 h9 h10 h11 h12 h13 h14 h15 h16 (statements.ForStatement r) o = h4
-of_statement plain f b h0 h1 h2 h3 h4 h5 h6 h7 h8 h9 h10 h11 h12 h13 h14 h15 h16 (statements.ForInStatement r) o = h5
-of_statement plain f b h0 h1 h2 h3 h4 h5 h6 h7 h8 h9 h10 h11 h12 h13 h14 h15 h16 (statements.ForOfStatement r) o = h6
-of_statement plain f b h0 h1 h2 h3 h4 h5 h6 h7 h8 h9 h10 h11 h12 h13 h14 h15 h16 (statements.WhileStatement r) o = h7
-of_statement plain f b h0 h1 h2 h3 h4 h5 h6 h7 h8 h9 h10 h11 h12 h13 h14 h15 h16 (statements.DoWhileStatement r) o = h8
-of_statement plain f b h0 h1 h2 h3 h4 h5 h6 h7 h8 h9 h10 h11 h12 h13 h14 h15 h16 (statements.LabeledStatement r) o = h9
-of_statement plain f b h0 h1 h2 h3 h4 h5 h6 h7 h8 h9 h10 h11 h12 h13 h14 h15 h16 (statements.ContinueStatement r) o = h10
-of_statement plain f b h0 h1 h2 h3 h4 h5 h6 h7 h8 h9 h10 h11 h12 h13 h14 h15 h16 (statements.BreakStatement r) o = h11
-of_statement plain f b h0 h1 h2 h3 h4 h5 h6 h7 h8 h9 h10 h11 h12 h13 h14 h15 h16 (statements.ReturnStatement r) o = h12
-of_statement plain f b h0 h1 h2 h3 h4 h5 h6 h7 h8 h9 h10 h11 h12 h13 h14 h15 h16 (statements.ThrowStatement r) o = h13
-of_statement plain f b h0 h1 h2 h3 h4 h5 h6 h7 h8 h9 h10 h11 h12 h13 h14 h15 h16 (statements.DebuggerStatement r) o = h14
-of_statement plain f b h0 h1 h2 h3 h4 h5 h6 h7 h8 h9 h10 h11 h12 h13 h14 h15 h16 (statements.SwitchStatement r) o = h15
-of_statement plain f b h0 h1 h2 h3 h4 h5 h6 h7 h8 h9 h10 h11 h12 h13 h14 h15 h16 (statements.TryStatement r) o = h16
+pub of_statement : {N : Type 0} (plain : N → Tree) (f : NodeType → Bool) (b : Bool) → f types.ExpressionStatement ≡ b → f types.BlockStatement ≡ b → f types.IfStatement ≡ b → f types.EmptyStatement ≡ b → f types.ForStatement ≡ b → f types.ForInStatement ≡ b → f types.ForOfStatement ≡ b → f types.WhileStatement ≡ b → f types.DoWhileStatement ≡ b → f types.LabeledStatement ≡ b → f types.ContinueStatement ≡ b → f types.BreakStatement ≡ b → f types.ReturnStatement ≡ b → f types.ThrowStatement ≡ b → f types.DebuggerStatement ≡ b → f types.SwitchStatement ≡ b → f types.TryStatement ≡ b → f types.ImportDeclaration ≡ b → f types.ExportDeclaration ≡ b → f types.ExportNamedDeclaration ≡ b → f types.ExportFromDeclaration ≡ b → f types.ExportAllDeclaration ≡ b → f types.ExportDefaultDeclaration ≡ b → (r : Statement N) → is_other_statement r ≡ true → f (type_of (statement_plain plain r)) ≡ b
+of_statement plain f b h0 h1 h2 h3 h4 h5 h6 h7 h8 h9 h10 h11 h12 h13 h14 h15 h16 h17 h18 h19 h20 h21 h22 (statements.Declaration r) o = cc
+of_statement plain f b h0 h1 h2 h3 h4 h5 h6 h7 h8 h9 h10 h11 h12 h13 h14 h15 h16 h17 h18 h19 h20 h21 h22 (statements.ExpressionStatement r) o = h0
+of_statement plain f b h0 h1 h2 h3 h4 h5 h6 h7 h8 h9 h10 h11 h12 h13 h14 h15 h16 h17 h18 h19 h20 h21 h22 (statements.BlockStatement r) o = h1
+of_statement plain f b h0 h1 h2 h3 h4 h5 h6 h7 h8 h9 h10 h11 h12 h13 h14 h15 h16 h17 h18 h19 h20 h21 h22 (statements.IfStatement r) o = h2
+of_statement plain f b h0 h1 h2 h3 h4 h5 h6 h7 h8 h9 h10 h11 h12 h13 h14 h15 h16 h17 h18 h19 h20 h21 h22 (statements.EmptyStatement r) o = h3
+of_statement plain f b h0 h1 h2 h3 h4 h5 h6 h7 h8 h9 h10 h11 h12 h13 h14 h15 h16 h17 h18 h19 h20 h21 h22 (statements.ForStatement r) o = h4
+of_statement plain f b h0 h1 h2 h3 h4 h5 h6 h7 h8 h9 h10 h11 h12 h13 h14 h15 h16 h17 h18 h19 h20 h21 h22 (statements.ForInStatement r) o = h5
+of_statement plain f b h0 h1 h2 h3 h4 h5 h6 h7 h8 h9 h10 h11 h12 h13 h14 h15 h16 h17 h18 h19 h20 h21 h22 (statements.ForOfStatement r) o = h6
+of_statement plain f b h0 h1 h2 h3 h4 h5 h6 h7 h8 h9 h10 h11 h12 h13 h14 h15 h16 h17 h18 h19 h20 h21 h22 (statements.WhileStatement r) o = h7
+of_statement plain f b h0 h1 h2 h3 h4 h5 h6 h7 h8 h9 h10 h11 h12 h13 h14 h15 h16 h17 h18 h19 h20 h21 h22 (statements.DoWhileStatement r) o = h8
+of_statement plain f b h0 h1 h2 h3 h4 h5 h6 h7 h8 h9 h10 h11 h12 h13 h14 h15 h16 h17 h18 h19 h20 h21 h22 (statements.LabeledStatement r) o = h9
+of_statement plain f b h0 h1 h2 h3 h4 h5 h6 h7 h8 h9 h10 h11 h12 h13 h14 h15 h16 h17 h18 h19 h20 h21 h22 (statements.ContinueStatement r) o = h10
+of_statement plain f b h0 h1 h2 h3 h4 h5 h6 h7 h8 h9 h10 h11 h12 h13 h14 h15 h16 h17 h18 h19 h20 h21 h22 (statements.BreakStatement r) o = h11
+of_statement plain f b h0 h1 h2 h3 h4 h5 h6 h7 h8 h9 h10 h11 h12 h13 h14 h15 h16 h17 h18 h19 h20 h21 h22 (statements.ReturnStatement r) o = h12
+of_statement plain f b h0 h1 h2 h3 h4 h5 h6 h7 h8 h9 h10 h11 h12 h13 h14 h15 h16 h17 h18 h19 h20 h21 h22 (statements.ThrowStatement r) o = h13
+of_statement plain f b h0 h1 h2 h3 h4 h5 h6 h7 h8 h9 h10 h11 h12 h13 h14 h15 h16 h17 h18 h19 h20 h21 h22 (statements.DebuggerStatement r) o = h14
+of_statement plain f b h0 h1 h2 h3 h4 h5 h6 h7 h8 h9 h10 h11 h12 h13 h14 h15 h16 h17 h18 h19 h20 h21 h22 (statements.SwitchStatement r) o = h15
+of_statement plain f b h0 h1 h2 h3 h4 h5 h6 h7 h8 h9 h10 h11 h12 h13 h14 h15 h16 h17 h18 h19 h20 h21 h22 (statements.TryStatement r) o = h16
+of_statement plain f b h0 h1 h2 h3 h4 h5 h6 h7 h8 h9 h10 h11 h12 h13 h14 h15 h16 h17 h18 h19 h20 h21 h22 (statements.ImportDeclaration r) o = h17
+of_statement plain f b h0 h1 h2 h3 h4 h5 h6 h7 h8 h9 h10 h11 h12 h13 h14 h15 h16 h17 h18 h19 h20 h21 h22 (statements.ExportDeclaration r) o = h18
+of_statement plain f b h0 h1 h2 h3 h4 h5 h6 h7 h8 h9 h10 h11 h12 h13 h14 h15 h16 h17 h18 h19 h20 h21 h22 (statements.ExportNamedDeclaration r) o = h19
+of_statement plain f b h0 h1 h2 h3 h4 h5 h6 h7 h8 h9 h10 h11 h12 h13 h14 h15 h16 h17 h18 h19 h20 h21 h22 (statements.ExportFromDeclaration r) o = h20
+of_statement plain f b h0 h1 h2 h3 h4 h5 h6 h7 h8 h9 h10 h11 h12 h13 h14 h15 h16 h17 h18 h19 h20 h21 h22 (statements.ExportAllDeclaration r) o = h21
+of_statement plain f b h0 h1 h2 h3 h4 h5 h6 h7 h8 h9 h10 h11 h12 h13 h14 h15 h16 h17 h18 h19 h20 h21 h22 (statements.ExportDefaultDeclaration r) o = h22
 
-of_expression : {N : Type 0} (plain : N → Tree) (f : NodeType → Bool) (b : Bool) → f types.ThisExpression ≡ b → f types.NullLiteral ≡ b → f types.BooleanLiteral ≡ b → f types.NumericLiteral ≡ b → f types.BigIntLiteral ≡ b → f types.StringLiteral ≡ b → f types.RegExpLiteral ≡ b → f types.BinaryExpression ≡ b → f types.LogicalExpression ≡ b → f types.ParenthesizedExpression ≡ b → f types.CallExpression ≡ b → f types.ChainExpression ≡ b → f types.ArrayExpression ≡ b → f types.ObjectExpression ≡ b → f types.UnaryExpression ≡ b → f types.UpdateExpression ≡ b → f types.NewExpression ≡ b → f types.NewTarget ≡ b → f types.Super ≡ b → f types.ImportMeta ≡ b → f types.ConditionalExpression ≡ b → f types.SequenceExpression ≡ b → f types.AssignmentExpression ≡ b → f types.ArrowFunctionExpression ≡ b → f types.PrivateInExpression ≡ b → (r : Expression N) → is_other_expression r ≡ true → f (type_of (expression_plain plain r)) ≡ b
-of_expression plain f b h0 h1 h2 h3 h4 h5 h6 h7 h8 h9 h10 h11 h12 h13 h14 h15 h16 h17 h18 h19 h20 h21 h22 h23 h24 (expressions.IdentifierReference r) o = cc
-of_expression plain f b h0 h1 h2 h3 h4 h5 h6 h7 h8 h9 h10 h11 h12 h13 h14 h15 h16 h17 h18 h19 h20 h21 h22 h23 h24 (expressions.StaticMemberExpression r) o = cc
-of_expression plain f b h0 h1 h2 h3 h4 h5 h6 h7 h8 h9 h10 h11 h12 h13 h14 h15 h16 h17 h18 h19 h20 h21 h22 h23 h24 (expressions.ComputedMemberExpression r) o = cc
-of_expression plain f b h0 h1 h2 h3 h4 h5 h6 h7 h8 h9 h10 h11 h12 h13 h14 h15 h16 h17 h18 h19 h20 h21 h22 h23 h24 (expressions.Function r) o = cc
-of_expression plain f b h0 h1 h2 h3 h4 h5 h6 h7 h8 h9 h10 h11 h12 h13 h14 h15 h16 h17 h18 h19 h20 h21 h22 h23 h24 (expressions.Class r) o = cc
-of_expression plain f b h0 h1 h2 h3 h4 h5 h6 h7 h8 h9 h10 h11 h12 h13 h14 h15 h16 h17 h18 h19 h20 h21 h22 h23 h24 (expressions.PrivateFieldExpression r) o = cc
-of_expression plain f b h0 h1 h2 h3 h4 h5 h6 h7 h8 h9 h10 h11 h12 h13 h14 h15 h16 h17 h18 h19 h20 h21 h22 h23 h24 (expressions.ThisExpression r) o = h0
-of_expression plain f b h0 h1 h2 h3 h4 h5 h6 h7 h8 h9 h10 h11 h12 h13 h14 h15 h16 h17 h18 h19 h20 h21 h22 h23 h24 (expressions.NullLiteral r) o = h1
-of_expression plain f b h0 h1 h2 h3 h4 h5 h6 h7 h8 h9 h10 h11 h12 h13 h14 h15 h16 h17 h18 h19 h20 h21 h22 h23 h24 (expressions.BooleanLiteral r) o = h2
-of_expression plain f b h0 h1 h2 h3 h4 h5 h6 h7 h8 h9 h10 h11 h12 h13 h14 h15 h16 h17 h18 h19 h20 h21 h22 h23 h24 (expressions.NumericLiteral r) o = h3
-of_expression plain f b h0 h1 h2 h3 h4 h5 h6 h7 h8 h9 h10 h11 h12 h13 h14 h15 h16 h17 h18 h19 h20 h21 h22 h23 h24 (expressions.BigIntLiteral r) o = h4
-of_expression plain f b h0 h1 h2 h3 h4 h5 h6 h7 h8 h9 h10 h11 h12 h13 h14 h15 h16 h17 h18 h19 h20 h21 h22 h23 h24 (expressions.StringLiteral r) o = h5
-of_expression plain f b h0 h1 h2 h3 h4 h5 h6 h7 h8 h9 h10 h11 h12 h13 h14 h15 h16 h17 h18 h19 h20 h21 h22 h23 h24 (expressions.RegExpLiteral r) o = h6
-of_expression plain f b h0 h1 h2 h3 h4 h5 h6 h7 h8 h9 h10 h11 h12 h13 h14 h15 h16 h17 h18 h19 h20 h21 h22 h23 h24 (expressions.BinaryExpression r) o = h7
-of_expression plain f b h0 h1 h2 h3 h4 h5 h6 h7 h8 h9 h10 h11 h12 h13 h14 h15 h16 h17 h18 h19 h20 h21 h22 h23 h24 (expressions.LogicalExpression r) o = h8
-of_expression plain f b h0 h1 h2 h3 h4 h5 h6 h7 h8 h9 h10 h11 h12 h13 h14 h15 h16 h17 h18 h19 h20 h21 h22 h23 h24 (expressions.ParenthesizedExpression r) o = h9
-of_expression plain f b h0 h1 h2 h3 h4 h5 h6 h7 h8 h9 h10 h11 h12 h13 h14 h15 h16 h17 h18 h19 h20 h21 h22 h23 h24 (expressions.CallExpression r) o = h10
-of_expression plain f b h0 h1 h2 h3 h4 h5 h6 h7 h8 h9 h10 h11 h12 h13 h14 h15 h16 h17 h18 h19 h20 h21 h22 h23 h24 (expressions.ChainExpression r) o = h11
-of_expression plain f b h0 h1 h2 h3 h4 h5 h6 h7 h8 h9 h10 h11 h12 h13 h14 h15 h16 h17 h18 h19 h20 h21 h22 h23 h24 (expressions.ArrayExpression r) o = h12
-of_expression plain f b h0 h1 h2 h3 h4 h5 h6 h7 h8 h9 h10 h11 h12 h13 h14 h15 h16 h17 h18 h19 h20 h21 h22 h23 h24 (expressions.ObjectExpression r) o = h13
-of_expression plain f b h0 h1 h2 h3 h4 h5 h6 h7 h8 h9 h10 h11 h12 h13 h14 h15 h16 h17 h18 h19 h20 h21 h22 h23 h24 (expressions.UnaryExpression r) o = h14
-of_expression plain f b h0 h1 h2 h3 h4 h5 h6 h7 h8 h9 h10 h11 h12 h13 h14 h15 h16 h17 h18 h19 h20 h21 h22 h23 h24 (expressions.UpdateExpression r) o = h15
-of_expression plain f b h0 h1 h2 h3 h4 h5 h6 h7 h8 h9 h10 h11 h12 h13 h14 h15 h16 h17 h18 h19 h20 h21 h22 h23 h24 (expressions.NewExpression r) o = h16
-of_expression plain f b h0 h1 h2 h3 h4 h5 h6 h7 h8 h9 h10 h11 h12 h13 h14 h15 h16 h17 h18 h19 h20 h21 h22 h23 h24 (expressions.NewTarget r) o = h17
-of_expression plain f b h0 h1 h2 h3 h4 h5 h6 h7 h8 h9 h10 h11 h12 h13 h14 h15 h16 h17 h18 h19 h20 h21 h22 h23 h24 (expressions.Super r) o = h18
-of_expression plain f b h0 h1 h2 h3 h4 h5 h6 h7 h8 h9 h10 h11 h12 h13 h14 h15 h16 h17 h18 h19 h20 h21 h22 h23 h24 (expressions.ImportMeta r) o = h19
-of_expression plain f b h0 h1 h2 h3 h4 h5 h6 h7 h8 h9 h10 h11 h12 h13 h14 h15 h16 h17 h18 h19 h20 h21 h22 h23 h24 (expressions.ConditionalExpression r) o = h20
-of_expression plain f b h0 h1 h2 h3 h4 h5 h6 h7 h8 h9 h10 h11 h12 h13 h14 h15 h16 h17 h18 h19 h20 h21 h22 h23 h24 (expressions.SequenceExpression r) o = h21
-of_expression plain f b h0 h1 h2 h3 h4 h5 h6 h7 h8 h9 h10 h11 h12 h13 h14 h15 h16 h17 h18 h19 h20 h21 h22 h23 h24 (expressions.AssignmentExpression r) o = h22
-of_expression plain f b h0 h1 h2 h3 h4 h5 h6 h7 h8 h9 h10 h11 h12 h13 h14 h15 h16 h17 h18 h19 h20 h21 h22 h23 h24 (expressions.ArrowFunctionExpression r) o = h23
-of_expression plain f b h0 h1 h2 h3 h4 h5 h6 h7 h8 h9 h10 h11 h12 h13 h14 h15 h16 h17 h18 h19 h20 h21 h22 h23 h24 (expressions.PrivateInExpression r) o = h24
+pub of_expression : {N : Type 0} (plain : N → Tree) (f : NodeType → Bool) (b : Bool) → f types.ThisExpression ≡ b → f types.NullLiteral ≡ b → f types.BooleanLiteral ≡ b → f types.NumericLiteral ≡ b → f types.BigIntLiteral ≡ b → f types.StringLiteral ≡ b → f types.RegExpLiteral ≡ b → f types.BinaryExpression ≡ b → f types.LogicalExpression ≡ b → f types.ParenthesizedExpression ≡ b → f types.CallExpression ≡ b → f types.ChainExpression ≡ b → f types.ArrayExpression ≡ b → f types.ObjectExpression ≡ b → f types.UnaryExpression ≡ b → f types.UpdateExpression ≡ b → f types.NewExpression ≡ b → f types.NewTarget ≡ b → f types.Super ≡ b → f types.ImportMeta ≡ b → f types.ConditionalExpression ≡ b → f types.SequenceExpression ≡ b → f types.AssignmentExpression ≡ b → f types.ArrowFunctionExpression ≡ b → f types.PrivateInExpression ≡ b → f types.AwaitExpression ≡ b → f types.YieldExpression ≡ b → f types.TemplateLiteral ≡ b → f types.TaggedTemplateExpression ≡ b → f types.ImportExpression ≡ b → (r : Expression N) → is_other_expression r ≡ true → f (type_of (expression_plain plain r)) ≡ b
+of_expression plain f b h0 h1 h2 h3 h4 h5 h6 h7 h8 h9 h10 h11 h12 h13 h14 h15 h16 h17 h18 h19 h20 h21 h22 h23 h24 h25 h26 h27 h28 h29 (expressions.IdentifierReference r) o = cc
+of_expression plain f b h0 h1 h2 h3 h4 h5 h6 h7 h8 h9 h10 h11 h12 h13 h14 h15 h16 h17 h18 h19 h20 h21 h22 h23 h24 h25 h26 h27 h28 h29 (expressions.StaticMemberExpression r) o = cc
+of_expression plain f b h0 h1 h2 h3 h4 h5 h6 h7 h8 h9 h10 h11 h12 h13 h14 h15 h16 h17 h18 h19 h20 h21 h22 h23 h24 h25 h26 h27 h28 h29 (expressions.ComputedMemberExpression r) o = cc
+of_expression plain f b h0 h1 h2 h3 h4 h5 h6 h7 h8 h9 h10 h11 h12 h13 h14 h15 h16 h17 h18 h19 h20 h21 h22 h23 h24 h25 h26 h27 h28 h29 (expressions.Function r) o = cc
+of_expression plain f b h0 h1 h2 h3 h4 h5 h6 h7 h8 h9 h10 h11 h12 h13 h14 h15 h16 h17 h18 h19 h20 h21 h22 h23 h24 h25 h26 h27 h28 h29 (expressions.Class r) o = cc
+of_expression plain f b h0 h1 h2 h3 h4 h5 h6 h7 h8 h9 h10 h11 h12 h13 h14 h15 h16 h17 h18 h19 h20 h21 h22 h23 h24 h25 h26 h27 h28 h29 (expressions.PrivateFieldExpression r) o = cc
+of_expression plain f b h0 h1 h2 h3 h4 h5 h6 h7 h8 h9 h10 h11 h12 h13 h14 h15 h16 h17 h18 h19 h20 h21 h22 h23 h24 h25 h26 h27 h28 h29 (expressions.ThisExpression r) o = h0
+of_expression plain f b h0 h1 h2 h3 h4 h5 h6 h7 h8 h9 h10 h11 h12 h13 h14 h15 h16 h17 h18 h19 h20 h21 h22 h23 h24 h25 h26 h27 h28 h29 (expressions.NullLiteral r) o = h1
+of_expression plain f b h0 h1 h2 h3 h4 h5 h6 h7 h8 h9 h10 h11 h12 h13 h14 h15 h16 h17 h18 h19 h20 h21 h22 h23 h24 h25 h26 h27 h28 h29 (expressions.BooleanLiteral r) o = h2
+of_expression plain f b h0 h1 h2 h3 h4 h5 h6 h7 h8 h9 h10 h11 h12 h13 h14 h15 h16 h17 h18 h19 h20 h21 h22 h23 h24 h25 h26 h27 h28 h29 (expressions.NumericLiteral r) o = h3
+of_expression plain f b h0 h1 h2 h3 h4 h5 h6 h7 h8 h9 h10 h11 h12 h13 h14 h15 h16 h17 h18 h19 h20 h21 h22 h23 h24 h25 h26 h27 h28 h29 (expressions.BigIntLiteral r) o = h4
+of_expression plain f b h0 h1 h2 h3 h4 h5 h6 h7 h8 h9 h10 h11 h12 h13 h14 h15 h16 h17 h18 h19 h20 h21 h22 h23 h24 h25 h26 h27 h28 h29 (expressions.StringLiteral r) o = h5
+of_expression plain f b h0 h1 h2 h3 h4 h5 h6 h7 h8 h9 h10 h11 h12 h13 h14 h15 h16 h17 h18 h19 h20 h21 h22 h23 h24 h25 h26 h27 h28 h29 (expressions.RegExpLiteral r) o = h6
+of_expression plain f b h0 h1 h2 h3 h4 h5 h6 h7 h8 h9 h10 h11 h12 h13 h14 h15 h16 h17 h18 h19 h20 h21 h22 h23 h24 h25 h26 h27 h28 h29 (expressions.BinaryExpression r) o = h7
+of_expression plain f b h0 h1 h2 h3 h4 h5 h6 h7 h8 h9 h10 h11 h12 h13 h14 h15 h16 h17 h18 h19 h20 h21 h22 h23 h24 h25 h26 h27 h28 h29 (expressions.LogicalExpression r) o = h8
+of_expression plain f b h0 h1 h2 h3 h4 h5 h6 h7 h8 h9 h10 h11 h12 h13 h14 h15 h16 h17 h18 h19 h20 h21 h22 h23 h24 h25 h26 h27 h28 h29 (expressions.ParenthesizedExpression r) o = h9
+of_expression plain f b h0 h1 h2 h3 h4 h5 h6 h7 h8 h9 h10 h11 h12 h13 h14 h15 h16 h17 h18 h19 h20 h21 h22 h23 h24 h25 h26 h27 h28 h29 (expressions.CallExpression r) o = h10
+of_expression plain f b h0 h1 h2 h3 h4 h5 h6 h7 h8 h9 h10 h11 h12 h13 h14 h15 h16 h17 h18 h19 h20 h21 h22 h23 h24 h25 h26 h27 h28 h29 (expressions.ChainExpression r) o = h11
+of_expression plain f b h0 h1 h2 h3 h4 h5 h6 h7 h8 h9 h10 h11 h12 h13 h14 h15 h16 h17 h18 h19 h20 h21 h22 h23 h24 h25 h26 h27 h28 h29 (expressions.ArrayExpression r) o = h12
+of_expression plain f b h0 h1 h2 h3 h4 h5 h6 h7 h8 h9 h10 h11 h12 h13 h14 h15 h16 h17 h18 h19 h20 h21 h22 h23 h24 h25 h26 h27 h28 h29 (expressions.ObjectExpression r) o = h13
+of_expression plain f b h0 h1 h2 h3 h4 h5 h6 h7 h8 h9 h10 h11 h12 h13 h14 h15 h16 h17 h18 h19 h20 h21 h22 h23 h24 h25 h26 h27 h28 h29 (expressions.UnaryExpression r) o = h14
+of_expression plain f b h0 h1 h2 h3 h4 h5 h6 h7 h8 h9 h10 h11 h12 h13 h14 h15 h16 h17 h18 h19 h20 h21 h22 h23 h24 h25 h26 h27 h28 h29 (expressions.UpdateExpression r) o = h15
+of_expression plain f b h0 h1 h2 h3 h4 h5 h6 h7 h8 h9 h10 h11 h12 h13 h14 h15 h16 h17 h18 h19 h20 h21 h22 h23 h24 h25 h26 h27 h28 h29 (expressions.NewExpression r) o = h16
+of_expression plain f b h0 h1 h2 h3 h4 h5 h6 h7 h8 h9 h10 h11 h12 h13 h14 h15 h16 h17 h18 h19 h20 h21 h22 h23 h24 h25 h26 h27 h28 h29 (expressions.NewTarget r) o = h17
+of_expression plain f b h0 h1 h2 h3 h4 h5 h6 h7 h8 h9 h10 h11 h12 h13 h14 h15 h16 h17 h18 h19 h20 h21 h22 h23 h24 h25 h26 h27 h28 h29 (expressions.Super r) o = h18
+of_expression plain f b h0 h1 h2 h3 h4 h5 h6 h7 h8 h9 h10 h11 h12 h13 h14 h15 h16 h17 h18 h19 h20 h21 h22 h23 h24 h25 h26 h27 h28 h29 (expressions.ImportMeta r) o = h19
+of_expression plain f b h0 h1 h2 h3 h4 h5 h6 h7 h8 h9 h10 h11 h12 h13 h14 h15 h16 h17 h18 h19 h20 h21 h22 h23 h24 h25 h26 h27 h28 h29 (expressions.ConditionalExpression r) o = h20
+of_expression plain f b h0 h1 h2 h3 h4 h5 h6 h7 h8 h9 h10 h11 h12 h13 h14 h15 h16 h17 h18 h19 h20 h21 h22 h23 h24 h25 h26 h27 h28 h29 (expressions.SequenceExpression r) o = h21
+of_expression plain f b h0 h1 h2 h3 h4 h5 h6 h7 h8 h9 h10 h11 h12 h13 h14 h15 h16 h17 h18 h19 h20 h21 h22 h23 h24 h25 h26 h27 h28 h29 (expressions.AssignmentExpression r) o = h22
+of_expression plain f b h0 h1 h2 h3 h4 h5 h6 h7 h8 h9 h10 h11 h12 h13 h14 h15 h16 h17 h18 h19 h20 h21 h22 h23 h24 h25 h26 h27 h28 h29 (expressions.ArrowFunctionExpression r) o = h23
+of_expression plain f b h0 h1 h2 h3 h4 h5 h6 h7 h8 h9 h10 h11 h12 h13 h14 h15 h16 h17 h18 h19 h20 h21 h22 h23 h24 h25 h26 h27 h28 h29 (expressions.PrivateInExpression r) o = h24
+of_expression plain f b h0 h1 h2 h3 h4 h5 h6 h7 h8 h9 h10 h11 h12 h13 h14 h15 h16 h17 h18 h19 h20 h21 h22 h23 h24 h25 h26 h27 h28 h29 (expressions.AwaitExpression r) o = h25
+of_expression plain f b h0 h1 h2 h3 h4 h5 h6 h7 h8 h9 h10 h11 h12 h13 h14 h15 h16 h17 h18 h19 h20 h21 h22 h23 h24 h25 h26 h27 h28 h29 (expressions.YieldExpression r) o = h26
+of_expression plain f b h0 h1 h2 h3 h4 h5 h6 h7 h8 h9 h10 h11 h12 h13 h14 h15 h16 h17 h18 h19 h20 h21 h22 h23 h24 h25 h26 h27 h28 h29 (expressions.TemplateLiteral r) o = h27
+of_expression plain f b h0 h1 h2 h3 h4 h5 h6 h7 h8 h9 h10 h11 h12 h13 h14 h15 h16 h17 h18 h19 h20 h21 h22 h23 h24 h25 h26 h27 h28 h29 (expressions.TaggedTemplateExpression r) o = h28
+of_expression plain f b h0 h1 h2 h3 h4 h5 h6 h7 h8 h9 h10 h11 h12 h13 h14 h15 h16 h17 h18 h19 h20 h21 h22 h23 h24 h25 h26 h27 h28 h29 (expressions.ImportExpression r) o = h29
 
-of_assignment_target : {N : Type 0} (plain : N → Tree) (f : NodeType → Bool) (b : Bool) → f types.ArrayAssignmentTarget ≡ b → f types.ObjectAssignmentTarget ≡ b → (r : AssignmentTarget N) → is_other_assignment_target r ≡ true → f (type_of (assignment_target_plain plain r)) ≡ b
+pub of_assignment_target : {N : Type 0} (plain : N → Tree) (f : NodeType → Bool) (b : Bool) → f types.ArrayAssignmentTarget ≡ b → f types.ObjectAssignmentTarget ≡ b → (r : AssignmentTarget N) → is_other_assignment_target r ≡ true → f (type_of (assignment_target_plain plain r)) ≡ b
 of_assignment_target plain f b h0 h1 (assignment_targets.IdentifierReference r) o = cc
 of_assignment_target plain f b h0 h1 (assignment_targets.StaticMemberExpression r) o = cc
 of_assignment_target plain f b h0 h1 (assignment_targets.ComputedMemberExpression r) o = cc
@@ -99,7 +110,7 @@ of_assignment_target plain f b h0 h1 (assignment_targets.PrivateFieldExpression 
 of_assignment_target plain f b h0 h1 (assignment_targets.ArrayAssignmentTarget r) o = h0
 of_assignment_target plain f b h0 h1 (assignment_targets.ObjectAssignmentTarget r) o = h1
 
-of_class_element : {N : Type 0} (plain : N → Tree) (f : NodeType → Bool) (b : Bool) → f types.StaticBlock ≡ b → f types.MethodDefinition ≡ b → f types.PropertyDefinition ≡ b → (r : ClassElement N) → f (type_of (class_element_plain plain r)) ≡ b
+pub of_class_element : {N : Type 0} (plain : N → Tree) (f : NodeType → Bool) (b : Bool) → f types.StaticBlock ≡ b → f types.MethodDefinition ≡ b → f types.PropertyDefinition ≡ b → (r : ClassElement N) → f (type_of (class_element_plain plain r)) ≡ b
 of_class_element plain f b h0 h1 h2 (class_elements.StaticBlock r) = h0
 of_class_element plain f b h0 h1 h2 (class_elements.MethodDefinition r) = h1
 of_class_element plain f b h0 h1 h2 (class_elements.PropertyDefinition r) = h2
@@ -113,52 +124,16 @@ pub no_binding_pattern_is_a_program : {N : Type 0} (plain : N → Tree) (r : Bin
 no_binding_pattern_is_a_program plain r = of_binding_pattern plain is_program false refl refl refl refl r
 
 pub no_statement_is_a_program : {N : Type 0} (plain : N → Tree) (r : OtherStatement N) → is_program (type_of (statement_plain plain r.statement)) ≡ false
-no_statement_is_a_program plain r = of_statement plain is_program false refl refl refl refl refl refl refl refl refl refl refl refl refl refl refl refl refl r.statement r.other
+no_statement_is_a_program plain r = of_statement plain is_program false refl refl refl refl refl refl refl refl refl refl refl refl refl refl refl refl refl refl refl refl refl refl refl r.statement r.other
 
 pub no_expression_is_a_program : {N : Type 0} (plain : N → Tree) (r : OtherExpression N) → is_program (type_of (expression_plain plain r.expression)) ≡ false
-no_expression_is_a_program plain r = of_expression plain is_program false refl refl refl refl refl refl refl refl refl refl refl refl refl refl refl refl refl refl refl refl refl refl refl refl refl r.expression r.other
+no_expression_is_a_program plain r = of_expression plain is_program false refl refl refl refl refl refl refl refl refl refl refl refl refl refl refl refl refl refl refl refl refl refl refl refl refl refl refl refl refl refl r.expression r.other
 
 pub no_assignment_target_is_a_program : {N : Type 0} (plain : N → Tree) (r : OtherAssignmentTarget N) → is_program (type_of (assignment_target_plain plain r.assignment_target)) ≡ false
 no_assignment_target_is_a_program plain r = of_assignment_target plain is_program false refl refl r.assignment_target r.other
 
 pub no_class_element_is_a_program : {N : Type 0} (plain : N → Tree) (r : ClassElement N) → is_program (type_of (class_element_plain plain r)) ≡ false
 no_class_element_is_a_program plain r = of_class_element plain is_program false refl refl refl r
-
-pub no_declaration_is_a_comment : {N : Type 0} (plain : N → Tree) (r : OtherDeclaration N) → is_comment (type_of (declaration_plain plain r.declaration)) ≡ false
-no_declaration_is_a_comment plain r = of_declaration plain is_comment false refl r.declaration r.other
-
-pub no_binding_pattern_is_a_comment : {N : Type 0} (plain : N → Tree) (r : BindingPattern N) → is_comment (type_of (binding_pattern_plain plain r)) ≡ false
-no_binding_pattern_is_a_comment plain r = of_binding_pattern plain is_comment false refl refl refl refl r
-
-pub no_statement_is_a_comment : {N : Type 0} (plain : N → Tree) (r : OtherStatement N) → is_comment (type_of (statement_plain plain r.statement)) ≡ false
-no_statement_is_a_comment plain r = of_statement plain is_comment false refl refl refl refl refl refl refl refl refl refl refl refl refl refl refl refl refl r.statement r.other
-
-pub no_expression_is_a_comment : {N : Type 0} (plain : N → Tree) (r : OtherExpression N) → is_comment (type_of (expression_plain plain r.expression)) ≡ false
-no_expression_is_a_comment plain r = of_expression plain is_comment false refl refl refl refl refl refl refl refl refl refl refl refl refl refl refl refl refl refl refl refl refl refl refl refl refl r.expression r.other
-
-pub no_assignment_target_is_a_comment : {N : Type 0} (plain : N → Tree) (r : OtherAssignmentTarget N) → is_comment (type_of (assignment_target_plain plain r.assignment_target)) ≡ false
-no_assignment_target_is_a_comment plain r = of_assignment_target plain is_comment false refl refl r.assignment_target r.other
-
-pub no_class_element_is_a_comment : {N : Type 0} (plain : N → Tree) (r : ClassElement N) → is_comment (type_of (class_element_plain plain r)) ≡ false
-no_class_element_is_a_comment plain r = of_class_element plain is_comment false refl refl refl r
-
-pub no_declaration_is_a_directive : {N : Type 0} (plain : N → Tree) (r : OtherDeclaration N) → is_directive (type_of (declaration_plain plain r.declaration)) ≡ false
-no_declaration_is_a_directive plain r = of_declaration plain is_directive false refl r.declaration r.other
-
-pub no_binding_pattern_is_a_directive : {N : Type 0} (plain : N → Tree) (r : BindingPattern N) → is_directive (type_of (binding_pattern_plain plain r)) ≡ false
-no_binding_pattern_is_a_directive plain r = of_binding_pattern plain is_directive false refl refl refl refl r
-
-pub no_statement_is_a_directive : {N : Type 0} (plain : N → Tree) (r : OtherStatement N) → is_directive (type_of (statement_plain plain r.statement)) ≡ false
-no_statement_is_a_directive plain r = of_statement plain is_directive false refl refl refl refl refl refl refl refl refl refl refl refl refl refl refl refl refl r.statement r.other
-
-pub no_expression_is_a_directive : {N : Type 0} (plain : N → Tree) (r : OtherExpression N) → is_directive (type_of (expression_plain plain r.expression)) ≡ false
-no_expression_is_a_directive plain r = of_expression plain is_directive false refl refl refl refl refl refl refl refl refl refl refl refl refl refl refl refl refl refl refl refl refl refl refl refl refl r.expression r.other
-
-pub no_assignment_target_is_a_directive : {N : Type 0} (plain : N → Tree) (r : OtherAssignmentTarget N) → is_directive (type_of (assignment_target_plain plain r.assignment_target)) ≡ false
-no_assignment_target_is_a_directive plain r = of_assignment_target plain is_directive false refl refl r.assignment_target r.other
-
-pub no_class_element_is_a_directive : {N : Type 0} (plain : N → Tree) (r : ClassElement N) → is_directive (type_of (class_element_plain plain r)) ≡ false
-no_class_element_is_a_directive plain r = of_class_element plain is_directive false refl refl refl r
 
 pub each_declaration_is_a_statement : {N : Type 0} (plain : N → Tree) (r : OtherDeclaration N) → is_statement (type_of (declaration_plain plain r.declaration)) ≡ true
 each_declaration_is_a_statement plain r = of_declaration plain is_statement true refl r.declaration r.other
@@ -167,34 +142,16 @@ pub no_binding_pattern_is_a_statement : {N : Type 0} (plain : N → Tree) (r : B
 no_binding_pattern_is_a_statement plain r = of_binding_pattern plain is_statement false refl refl refl refl r
 
 pub each_statement_is_a_statement : {N : Type 0} (plain : N → Tree) (r : OtherStatement N) → is_statement (type_of (statement_plain plain r.statement)) ≡ true
-each_statement_is_a_statement plain r = of_statement plain is_statement true refl refl refl refl refl refl refl refl refl refl refl refl refl refl refl refl refl r.statement r.other
+each_statement_is_a_statement plain r = of_statement plain is_statement true refl refl refl refl refl refl refl refl refl refl refl refl refl refl refl refl refl refl refl refl refl refl refl r.statement r.other
 
 pub no_expression_is_a_statement : {N : Type 0} (plain : N → Tree) (r : OtherExpression N) → is_statement (type_of (expression_plain plain r.expression)) ≡ false
-no_expression_is_a_statement plain r = of_expression plain is_statement false refl refl refl refl refl refl refl refl refl refl refl refl refl refl refl refl refl refl refl refl refl refl refl refl refl r.expression r.other
+no_expression_is_a_statement plain r = of_expression plain is_statement false refl refl refl refl refl refl refl refl refl refl refl refl refl refl refl refl refl refl refl refl refl refl refl refl refl refl refl refl refl refl r.expression r.other
 
 pub no_assignment_target_is_a_statement : {N : Type 0} (plain : N → Tree) (r : OtherAssignmentTarget N) → is_statement (type_of (assignment_target_plain plain r.assignment_target)) ≡ false
 no_assignment_target_is_a_statement plain r = of_assignment_target plain is_statement false refl refl r.assignment_target r.other
 
 pub no_class_element_is_a_statement : {N : Type 0} (plain : N → Tree) (r : ClassElement N) → is_statement (type_of (class_element_plain plain r)) ≡ false
 no_class_element_is_a_statement plain r = of_class_element plain is_statement false refl refl refl r
-
-pub no_declaration_is_a_variable_declarator : {N : Type 0} (plain : N → Tree) (r : OtherDeclaration N) → is_variable_declarator (type_of (declaration_plain plain r.declaration)) ≡ false
-no_declaration_is_a_variable_declarator plain r = of_declaration plain is_variable_declarator false refl r.declaration r.other
-
-pub no_binding_pattern_is_a_variable_declarator : {N : Type 0} (plain : N → Tree) (r : BindingPattern N) → is_variable_declarator (type_of (binding_pattern_plain plain r)) ≡ false
-no_binding_pattern_is_a_variable_declarator plain r = of_binding_pattern plain is_variable_declarator false refl refl refl refl r
-
-pub no_statement_is_a_variable_declarator : {N : Type 0} (plain : N → Tree) (r : OtherStatement N) → is_variable_declarator (type_of (statement_plain plain r.statement)) ≡ false
-no_statement_is_a_variable_declarator plain r = of_statement plain is_variable_declarator false refl refl refl refl refl refl refl refl refl refl refl refl refl refl refl refl refl r.statement r.other
-
-pub no_expression_is_a_variable_declarator : {N : Type 0} (plain : N → Tree) (r : OtherExpression N) → is_variable_declarator (type_of (expression_plain plain r.expression)) ≡ false
-no_expression_is_a_variable_declarator plain r = of_expression plain is_variable_declarator false refl refl refl refl refl refl refl refl refl refl refl refl refl refl refl refl refl refl refl refl refl refl refl refl refl r.expression r.other
-
-pub no_assignment_target_is_a_variable_declarator : {N : Type 0} (plain : N → Tree) (r : OtherAssignmentTarget N) → is_variable_declarator (type_of (assignment_target_plain plain r.assignment_target)) ≡ false
-no_assignment_target_is_a_variable_declarator plain r = of_assignment_target plain is_variable_declarator false refl refl r.assignment_target r.other
-
-pub no_class_element_is_a_variable_declarator : {N : Type 0} (plain : N → Tree) (r : ClassElement N) → is_variable_declarator (type_of (class_element_plain plain r)) ≡ false
-no_class_element_is_a_variable_declarator plain r = of_class_element plain is_variable_declarator false refl refl refl r
 
 pub no_declaration_is_a_binding_pattern : {N : Type 0} (plain : N → Tree) (r : OtherDeclaration N) → is_binding_pattern (type_of (declaration_plain plain r.declaration)) ≡ false
 no_declaration_is_a_binding_pattern plain r = of_declaration plain is_binding_pattern false refl r.declaration r.other
@@ -203,10 +160,10 @@ pub each_binding_pattern_is_a_binding_pattern : {N : Type 0} (plain : N → Tree
 each_binding_pattern_is_a_binding_pattern plain r = of_binding_pattern plain is_binding_pattern true refl refl refl refl r
 
 pub no_statement_is_a_binding_pattern : {N : Type 0} (plain : N → Tree) (r : OtherStatement N) → is_binding_pattern (type_of (statement_plain plain r.statement)) ≡ false
-no_statement_is_a_binding_pattern plain r = of_statement plain is_binding_pattern false refl refl refl refl refl refl refl refl refl refl refl refl refl refl refl refl refl r.statement r.other
+no_statement_is_a_binding_pattern plain r = of_statement plain is_binding_pattern false refl refl refl refl refl refl refl refl refl refl refl refl refl refl refl refl refl refl refl refl refl refl refl r.statement r.other
 
 pub no_expression_is_a_binding_pattern : {N : Type 0} (plain : N → Tree) (r : OtherExpression N) → is_binding_pattern (type_of (expression_plain plain r.expression)) ≡ false
-no_expression_is_a_binding_pattern plain r = of_expression plain is_binding_pattern false refl refl refl refl refl refl refl refl refl refl refl refl refl refl refl refl refl refl refl refl refl refl refl refl refl r.expression r.other
+no_expression_is_a_binding_pattern plain r = of_expression plain is_binding_pattern false refl refl refl refl refl refl refl refl refl refl refl refl refl refl refl refl refl refl refl refl refl refl refl refl refl refl refl refl refl refl r.expression r.other
 
 pub no_assignment_target_is_a_binding_pattern : {N : Type 0} (plain : N → Tree) (r : OtherAssignmentTarget N) → is_binding_pattern (type_of (assignment_target_plain plain r.assignment_target)) ≡ false
 no_assignment_target_is_a_binding_pattern plain r = of_assignment_target plain is_binding_pattern false refl refl r.assignment_target r.other
@@ -221,34 +178,16 @@ pub no_binding_pattern_is_an_expression : {N : Type 0} (plain : N → Tree) (r :
 no_binding_pattern_is_an_expression plain r = of_binding_pattern plain is_expression false refl refl refl refl r
 
 pub no_statement_is_an_expression : {N : Type 0} (plain : N → Tree) (r : OtherStatement N) → is_expression (type_of (statement_plain plain r.statement)) ≡ false
-no_statement_is_an_expression plain r = of_statement plain is_expression false refl refl refl refl refl refl refl refl refl refl refl refl refl refl refl refl refl r.statement r.other
+no_statement_is_an_expression plain r = of_statement plain is_expression false refl refl refl refl refl refl refl refl refl refl refl refl refl refl refl refl refl refl refl refl refl refl refl r.statement r.other
 
 pub each_expression_is_an_expression : {N : Type 0} (plain : N → Tree) (r : OtherExpression N) → is_expression (type_of (expression_plain plain r.expression)) ≡ true
-each_expression_is_an_expression plain r = of_expression plain is_expression true refl refl refl refl refl refl refl refl refl refl refl refl refl refl refl refl refl refl refl refl refl refl refl refl refl r.expression r.other
+each_expression_is_an_expression plain r = of_expression plain is_expression true refl refl refl refl refl refl refl refl refl refl refl refl refl refl refl refl refl refl refl refl refl refl refl refl refl refl refl refl refl refl r.expression r.other
 
 pub no_assignment_target_is_an_expression : {N : Type 0} (plain : N → Tree) (r : OtherAssignmentTarget N) → is_expression (type_of (assignment_target_plain plain r.assignment_target)) ≡ false
 no_assignment_target_is_an_expression plain r = of_assignment_target plain is_expression false refl refl r.assignment_target r.other
 
 pub no_class_element_is_an_expression : {N : Type 0} (plain : N → Tree) (r : ClassElement N) → is_expression (type_of (class_element_plain plain r)) ≡ false
 no_class_element_is_an_expression plain r = of_class_element plain is_expression false refl refl refl r
-
-pub no_declaration_is_an_identifier_name : {N : Type 0} (plain : N → Tree) (r : OtherDeclaration N) → is_identifier_name (type_of (declaration_plain plain r.declaration)) ≡ false
-no_declaration_is_an_identifier_name plain r = of_declaration plain is_identifier_name false refl r.declaration r.other
-
-pub no_binding_pattern_is_an_identifier_name : {N : Type 0} (plain : N → Tree) (r : BindingPattern N) → is_identifier_name (type_of (binding_pattern_plain plain r)) ≡ false
-no_binding_pattern_is_an_identifier_name plain r = of_binding_pattern plain is_identifier_name false refl refl refl refl r
-
-pub no_statement_is_an_identifier_name : {N : Type 0} (plain : N → Tree) (r : OtherStatement N) → is_identifier_name (type_of (statement_plain plain r.statement)) ≡ false
-no_statement_is_an_identifier_name plain r = of_statement plain is_identifier_name false refl refl refl refl refl refl refl refl refl refl refl refl refl refl refl refl refl r.statement r.other
-
-pub no_expression_is_an_identifier_name : {N : Type 0} (plain : N → Tree) (r : OtherExpression N) → is_identifier_name (type_of (expression_plain plain r.expression)) ≡ false
-no_expression_is_an_identifier_name plain r = of_expression plain is_identifier_name false refl refl refl refl refl refl refl refl refl refl refl refl refl refl refl refl refl refl refl refl refl refl refl refl refl r.expression r.other
-
-pub no_assignment_target_is_an_identifier_name : {N : Type 0} (plain : N → Tree) (r : OtherAssignmentTarget N) → is_identifier_name (type_of (assignment_target_plain plain r.assignment_target)) ≡ false
-no_assignment_target_is_an_identifier_name plain r = of_assignment_target plain is_identifier_name false refl refl r.assignment_target r.other
-
-pub no_class_element_is_an_identifier_name : {N : Type 0} (plain : N → Tree) (r : ClassElement N) → is_identifier_name (type_of (class_element_plain plain r)) ≡ false
-no_class_element_is_an_identifier_name plain r = of_class_element plain is_identifier_name false refl refl refl r
 
 pub no_declaration_is_an_argument : {N : Type 0} (plain : N → Tree) (r : OtherDeclaration N) → is_argument (type_of (declaration_plain plain r.declaration)) ≡ false
 no_declaration_is_an_argument plain r = of_declaration plain is_argument false refl r.declaration r.other
@@ -257,10 +196,10 @@ pub no_binding_pattern_is_an_argument : {N : Type 0} (plain : N → Tree) (r : B
 no_binding_pattern_is_an_argument plain r = of_binding_pattern plain is_argument false refl refl refl refl r
 
 pub no_statement_is_an_argument : {N : Type 0} (plain : N → Tree) (r : OtherStatement N) → is_argument (type_of (statement_plain plain r.statement)) ≡ false
-no_statement_is_an_argument plain r = of_statement plain is_argument false refl refl refl refl refl refl refl refl refl refl refl refl refl refl refl refl refl r.statement r.other
+no_statement_is_an_argument plain r = of_statement plain is_argument false refl refl refl refl refl refl refl refl refl refl refl refl refl refl refl refl refl refl refl refl refl refl refl r.statement r.other
 
 pub each_expression_is_an_argument : {N : Type 0} (plain : N → Tree) (r : OtherExpression N) → is_argument (type_of (expression_plain plain r.expression)) ≡ true
-each_expression_is_an_argument plain r = of_expression plain is_argument true refl refl refl refl refl refl refl refl refl refl refl refl refl refl refl refl refl refl refl refl refl refl refl refl refl r.expression r.other
+each_expression_is_an_argument plain r = of_expression plain is_argument true refl refl refl refl refl refl refl refl refl refl refl refl refl refl refl refl refl refl refl refl refl refl refl refl refl refl refl refl refl refl r.expression r.other
 
 pub no_assignment_target_is_an_argument : {N : Type 0} (plain : N → Tree) (r : OtherAssignmentTarget N) → is_argument (type_of (assignment_target_plain plain r.assignment_target)) ≡ false
 no_assignment_target_is_an_argument plain r = of_assignment_target plain is_argument false refl refl r.assignment_target r.other
@@ -275,7 +214,7 @@ pub no_binding_pattern_is_a_chain_element : {N : Type 0} (plain : N → Tree) (r
 no_binding_pattern_is_a_chain_element plain r = of_binding_pattern plain is_chain_element false refl refl refl refl r
 
 pub no_statement_is_a_chain_element : {N : Type 0} (plain : N → Tree) (r : OtherStatement N) → is_chain_element (type_of (statement_plain plain r.statement)) ≡ false
-no_statement_is_a_chain_element plain r = of_statement plain is_chain_element false refl refl refl refl refl refl refl refl refl refl refl refl refl refl refl refl refl r.statement r.other
+no_statement_is_a_chain_element plain r = of_statement plain is_chain_element false refl refl refl refl refl refl refl refl refl refl refl refl refl refl refl refl refl refl refl refl refl refl refl r.statement r.other
 
 pub no_assignment_target_is_a_chain_element : {N : Type 0} (plain : N → Tree) (r : OtherAssignmentTarget N) → is_chain_element (type_of (assignment_target_plain plain r.assignment_target)) ≡ false
 no_assignment_target_is_a_chain_element plain r = of_assignment_target plain is_chain_element false refl refl r.assignment_target r.other
@@ -290,10 +229,10 @@ pub no_binding_pattern_is_an_array_expression_element : {N : Type 0} (plain : N 
 no_binding_pattern_is_an_array_expression_element plain r = of_binding_pattern plain is_array_expression_element false refl refl refl refl r
 
 pub no_statement_is_an_array_expression_element : {N : Type 0} (plain : N → Tree) (r : OtherStatement N) → is_array_expression_element (type_of (statement_plain plain r.statement)) ≡ false
-no_statement_is_an_array_expression_element plain r = of_statement plain is_array_expression_element false refl refl refl refl refl refl refl refl refl refl refl refl refl refl refl refl refl r.statement r.other
+no_statement_is_an_array_expression_element plain r = of_statement plain is_array_expression_element false refl refl refl refl refl refl refl refl refl refl refl refl refl refl refl refl refl refl refl refl refl refl refl r.statement r.other
 
 pub each_expression_is_an_array_expression_element : {N : Type 0} (plain : N → Tree) (r : OtherExpression N) → is_array_expression_element (type_of (expression_plain plain r.expression)) ≡ true
-each_expression_is_an_array_expression_element plain r = of_expression plain is_array_expression_element true refl refl refl refl refl refl refl refl refl refl refl refl refl refl refl refl refl refl refl refl refl refl refl refl refl r.expression r.other
+each_expression_is_an_array_expression_element plain r = of_expression plain is_array_expression_element true refl refl refl refl refl refl refl refl refl refl refl refl refl refl refl refl refl refl refl refl refl refl refl refl refl refl refl refl refl refl r.expression r.other
 
 pub no_assignment_target_is_an_array_expression_element : {N : Type 0} (plain : N → Tree) (r : OtherAssignmentTarget N) → is_array_expression_element (type_of (assignment_target_plain plain r.assignment_target)) ≡ false
 no_assignment_target_is_an_array_expression_element plain r = of_assignment_target plain is_array_expression_element false refl refl r.assignment_target r.other
@@ -308,10 +247,10 @@ pub no_binding_pattern_is_a_property_key : {N : Type 0} (plain : N → Tree) (r 
 no_binding_pattern_is_a_property_key plain r = of_binding_pattern plain is_property_key false refl refl refl refl r
 
 pub no_statement_is_a_property_key : {N : Type 0} (plain : N → Tree) (r : OtherStatement N) → is_property_key (type_of (statement_plain plain r.statement)) ≡ false
-no_statement_is_a_property_key plain r = of_statement plain is_property_key false refl refl refl refl refl refl refl refl refl refl refl refl refl refl refl refl refl r.statement r.other
+no_statement_is_a_property_key plain r = of_statement plain is_property_key false refl refl refl refl refl refl refl refl refl refl refl refl refl refl refl refl refl refl refl refl refl refl refl r.statement r.other
 
 pub each_expression_is_a_property_key : {N : Type 0} (plain : N → Tree) (r : OtherExpression N) → is_property_key (type_of (expression_plain plain r.expression)) ≡ true
-each_expression_is_a_property_key plain r = of_expression plain is_property_key true refl refl refl refl refl refl refl refl refl refl refl refl refl refl refl refl refl refl refl refl refl refl refl refl refl r.expression r.other
+each_expression_is_a_property_key plain r = of_expression plain is_property_key true refl refl refl refl refl refl refl refl refl refl refl refl refl refl refl refl refl refl refl refl refl refl refl refl refl refl refl refl refl refl r.expression r.other
 
 pub no_assignment_target_is_a_property_key : {N : Type 0} (plain : N → Tree) (r : OtherAssignmentTarget N) → is_property_key (type_of (assignment_target_plain plain r.assignment_target)) ≡ false
 no_assignment_target_is_a_property_key plain r = of_assignment_target plain is_property_key false refl refl r.assignment_target r.other
@@ -326,10 +265,10 @@ pub no_binding_pattern_is_an_object_property_kind : {N : Type 0} (plain : N → 
 no_binding_pattern_is_an_object_property_kind plain r = of_binding_pattern plain is_object_property_kind false refl refl refl refl r
 
 pub no_statement_is_an_object_property_kind : {N : Type 0} (plain : N → Tree) (r : OtherStatement N) → is_object_property_kind (type_of (statement_plain plain r.statement)) ≡ false
-no_statement_is_an_object_property_kind plain r = of_statement plain is_object_property_kind false refl refl refl refl refl refl refl refl refl refl refl refl refl refl refl refl refl r.statement r.other
+no_statement_is_an_object_property_kind plain r = of_statement plain is_object_property_kind false refl refl refl refl refl refl refl refl refl refl refl refl refl refl refl refl refl refl refl refl refl refl refl r.statement r.other
 
 pub no_expression_is_an_object_property_kind : {N : Type 0} (plain : N → Tree) (r : OtherExpression N) → is_object_property_kind (type_of (expression_plain plain r.expression)) ≡ false
-no_expression_is_an_object_property_kind plain r = of_expression plain is_object_property_kind false refl refl refl refl refl refl refl refl refl refl refl refl refl refl refl refl refl refl refl refl refl refl refl refl refl r.expression r.other
+no_expression_is_an_object_property_kind plain r = of_expression plain is_object_property_kind false refl refl refl refl refl refl refl refl refl refl refl refl refl refl refl refl refl refl refl refl refl refl refl refl refl refl refl refl refl refl r.expression r.other
 
 pub no_assignment_target_is_an_object_property_kind : {N : Type 0} (plain : N → Tree) (r : OtherAssignmentTarget N) → is_object_property_kind (type_of (assignment_target_plain plain r.assignment_target)) ≡ false
 no_assignment_target_is_an_object_property_kind plain r = of_assignment_target plain is_object_property_kind false refl refl r.assignment_target r.other
@@ -344,10 +283,10 @@ pub no_binding_pattern_is_a_simple_assignment_target : {N : Type 0} (plain : N �
 no_binding_pattern_is_a_simple_assignment_target plain r = of_binding_pattern plain is_simple_assignment_target false refl refl refl refl r
 
 pub no_statement_is_a_simple_assignment_target : {N : Type 0} (plain : N → Tree) (r : OtherStatement N) → is_simple_assignment_target (type_of (statement_plain plain r.statement)) ≡ false
-no_statement_is_a_simple_assignment_target plain r = of_statement plain is_simple_assignment_target false refl refl refl refl refl refl refl refl refl refl refl refl refl refl refl refl refl r.statement r.other
+no_statement_is_a_simple_assignment_target plain r = of_statement plain is_simple_assignment_target false refl refl refl refl refl refl refl refl refl refl refl refl refl refl refl refl refl refl refl refl refl refl refl r.statement r.other
 
 pub no_expression_is_a_simple_assignment_target : {N : Type 0} (plain : N → Tree) (r : OtherExpression N) → is_simple_assignment_target (type_of (expression_plain plain r.expression)) ≡ false
-no_expression_is_a_simple_assignment_target plain r = of_expression plain is_simple_assignment_target false refl refl refl refl refl refl refl refl refl refl refl refl refl refl refl refl refl refl refl refl refl refl refl refl refl r.expression r.other
+no_expression_is_a_simple_assignment_target plain r = of_expression plain is_simple_assignment_target false refl refl refl refl refl refl refl refl refl refl refl refl refl refl refl refl refl refl refl refl refl refl refl refl refl refl refl refl refl refl r.expression r.other
 
 pub no_assignment_target_is_a_simple_assignment_target : {N : Type 0} (plain : N → Tree) (r : OtherAssignmentTarget N) → is_simple_assignment_target (type_of (assignment_target_plain plain r.assignment_target)) ≡ false
 no_assignment_target_is_a_simple_assignment_target plain r = of_assignment_target plain is_simple_assignment_target false refl refl r.assignment_target r.other
@@ -362,103 +301,16 @@ pub no_binding_pattern_is_an_assignment_target : {N : Type 0} (plain : N → Tre
 no_binding_pattern_is_an_assignment_target plain r = of_binding_pattern plain is_assignment_target false refl refl refl refl r
 
 pub no_statement_is_an_assignment_target : {N : Type 0} (plain : N → Tree) (r : OtherStatement N) → is_assignment_target (type_of (statement_plain plain r.statement)) ≡ false
-no_statement_is_an_assignment_target plain r = of_statement plain is_assignment_target false refl refl refl refl refl refl refl refl refl refl refl refl refl refl refl refl refl r.statement r.other
+no_statement_is_an_assignment_target plain r = of_statement plain is_assignment_target false refl refl refl refl refl refl refl refl refl refl refl refl refl refl refl refl refl refl refl refl refl refl refl r.statement r.other
 
 pub no_expression_is_an_assignment_target : {N : Type 0} (plain : N → Tree) (r : OtherExpression N) → is_assignment_target (type_of (expression_plain plain r.expression)) ≡ false
-no_expression_is_an_assignment_target plain r = of_expression plain is_assignment_target false refl refl refl refl refl refl refl refl refl refl refl refl refl refl refl refl refl refl refl refl refl refl refl refl refl r.expression r.other
+no_expression_is_an_assignment_target plain r = of_expression plain is_assignment_target false refl refl refl refl refl refl refl refl refl refl refl refl refl refl refl refl refl refl refl refl refl refl refl refl refl refl refl refl refl refl r.expression r.other
 
 pub each_assignment_target_is_an_assignment_target : {N : Type 0} (plain : N → Tree) (r : OtherAssignmentTarget N) → is_assignment_target (type_of (assignment_target_plain plain r.assignment_target)) ≡ true
 each_assignment_target_is_an_assignment_target plain r = of_assignment_target plain is_assignment_target true refl refl r.assignment_target r.other
 
 pub no_class_element_is_an_assignment_target : {N : Type 0} (plain : N → Tree) (r : ClassElement N) → is_assignment_target (type_of (class_element_plain plain r)) ≡ false
 no_class_element_is_an_assignment_target plain r = of_class_element plain is_assignment_target false refl refl refl r
-
-pub no_declaration_is_a_formal_parameter : {N : Type 0} (plain : N → Tree) (r : OtherDeclaration N) → is_formal_parameter (type_of (declaration_plain plain r.declaration)) ≡ false
-no_declaration_is_a_formal_parameter plain r = of_declaration plain is_formal_parameter false refl r.declaration r.other
-
-pub no_binding_pattern_is_a_formal_parameter : {N : Type 0} (plain : N → Tree) (r : BindingPattern N) → is_formal_parameter (type_of (binding_pattern_plain plain r)) ≡ false
-no_binding_pattern_is_a_formal_parameter plain r = of_binding_pattern plain is_formal_parameter false refl refl refl refl r
-
-pub no_statement_is_a_formal_parameter : {N : Type 0} (plain : N → Tree) (r : OtherStatement N) → is_formal_parameter (type_of (statement_plain plain r.statement)) ≡ false
-no_statement_is_a_formal_parameter plain r = of_statement plain is_formal_parameter false refl refl refl refl refl refl refl refl refl refl refl refl refl refl refl refl refl r.statement r.other
-
-pub no_expression_is_a_formal_parameter : {N : Type 0} (plain : N → Tree) (r : OtherExpression N) → is_formal_parameter (type_of (expression_plain plain r.expression)) ≡ false
-no_expression_is_a_formal_parameter plain r = of_expression plain is_formal_parameter false refl refl refl refl refl refl refl refl refl refl refl refl refl refl refl refl refl refl refl refl refl refl refl refl refl r.expression r.other
-
-pub no_assignment_target_is_a_formal_parameter : {N : Type 0} (plain : N → Tree) (r : OtherAssignmentTarget N) → is_formal_parameter (type_of (assignment_target_plain plain r.assignment_target)) ≡ false
-no_assignment_target_is_a_formal_parameter plain r = of_assignment_target plain is_formal_parameter false refl refl r.assignment_target r.other
-
-pub no_class_element_is_a_formal_parameter : {N : Type 0} (plain : N → Tree) (r : ClassElement N) → is_formal_parameter (type_of (class_element_plain plain r)) ≡ false
-no_class_element_is_a_formal_parameter plain r = of_class_element plain is_formal_parameter false refl refl refl r
-
-pub no_declaration_is_a_formal_parameter_rest : {N : Type 0} (plain : N → Tree) (r : OtherDeclaration N) → is_formal_parameter_rest (type_of (declaration_plain plain r.declaration)) ≡ false
-no_declaration_is_a_formal_parameter_rest plain r = of_declaration plain is_formal_parameter_rest false refl r.declaration r.other
-
-pub no_binding_pattern_is_a_formal_parameter_rest : {N : Type 0} (plain : N → Tree) (r : BindingPattern N) → is_formal_parameter_rest (type_of (binding_pattern_plain plain r)) ≡ false
-no_binding_pattern_is_a_formal_parameter_rest plain r = of_binding_pattern plain is_formal_parameter_rest false refl refl refl refl r
-
-pub no_statement_is_a_formal_parameter_rest : {N : Type 0} (plain : N → Tree) (r : OtherStatement N) → is_formal_parameter_rest (type_of (statement_plain plain r.statement)) ≡ false
-no_statement_is_a_formal_parameter_rest plain r = of_statement plain is_formal_parameter_rest false refl refl refl refl refl refl refl refl refl refl refl refl refl refl refl refl refl r.statement r.other
-
-pub no_expression_is_a_formal_parameter_rest : {N : Type 0} (plain : N → Tree) (r : OtherExpression N) → is_formal_parameter_rest (type_of (expression_plain plain r.expression)) ≡ false
-no_expression_is_a_formal_parameter_rest plain r = of_expression plain is_formal_parameter_rest false refl refl refl refl refl refl refl refl refl refl refl refl refl refl refl refl refl refl refl refl refl refl refl refl refl r.expression r.other
-
-pub no_assignment_target_is_a_formal_parameter_rest : {N : Type 0} (plain : N → Tree) (r : OtherAssignmentTarget N) → is_formal_parameter_rest (type_of (assignment_target_plain plain r.assignment_target)) ≡ false
-no_assignment_target_is_a_formal_parameter_rest plain r = of_assignment_target plain is_formal_parameter_rest false refl refl r.assignment_target r.other
-
-pub no_class_element_is_a_formal_parameter_rest : {N : Type 0} (plain : N → Tree) (r : ClassElement N) → is_formal_parameter_rest (type_of (class_element_plain plain r)) ≡ false
-no_class_element_is_a_formal_parameter_rest plain r = of_class_element plain is_formal_parameter_rest false refl refl refl r
-
-pub no_declaration_is_a_binding_identifier : {N : Type 0} (plain : N → Tree) (r : OtherDeclaration N) → is_binding_identifier (type_of (declaration_plain plain r.declaration)) ≡ false
-no_declaration_is_a_binding_identifier plain r = of_declaration plain is_binding_identifier false refl r.declaration r.other
-
-pub no_statement_is_a_binding_identifier : {N : Type 0} (plain : N → Tree) (r : OtherStatement N) → is_binding_identifier (type_of (statement_plain plain r.statement)) ≡ false
-no_statement_is_a_binding_identifier plain r = of_statement plain is_binding_identifier false refl refl refl refl refl refl refl refl refl refl refl refl refl refl refl refl refl r.statement r.other
-
-pub no_expression_is_a_binding_identifier : {N : Type 0} (plain : N → Tree) (r : OtherExpression N) → is_binding_identifier (type_of (expression_plain plain r.expression)) ≡ false
-no_expression_is_a_binding_identifier plain r = of_expression plain is_binding_identifier false refl refl refl refl refl refl refl refl refl refl refl refl refl refl refl refl refl refl refl refl refl refl refl refl refl r.expression r.other
-
-pub no_assignment_target_is_a_binding_identifier : {N : Type 0} (plain : N → Tree) (r : OtherAssignmentTarget N) → is_binding_identifier (type_of (assignment_target_plain plain r.assignment_target)) ≡ false
-no_assignment_target_is_a_binding_identifier plain r = of_assignment_target plain is_binding_identifier false refl refl r.assignment_target r.other
-
-pub no_class_element_is_a_binding_identifier : {N : Type 0} (plain : N → Tree) (r : ClassElement N) → is_binding_identifier (type_of (class_element_plain plain r)) ≡ false
-no_class_element_is_a_binding_identifier plain r = of_class_element plain is_binding_identifier false refl refl refl r
-
-pub no_declaration_is_a_formal_parameters : {N : Type 0} (plain : N → Tree) (r : OtherDeclaration N) → is_formal_parameters (type_of (declaration_plain plain r.declaration)) ≡ false
-no_declaration_is_a_formal_parameters plain r = of_declaration plain is_formal_parameters false refl r.declaration r.other
-
-pub no_binding_pattern_is_a_formal_parameters : {N : Type 0} (plain : N → Tree) (r : BindingPattern N) → is_formal_parameters (type_of (binding_pattern_plain plain r)) ≡ false
-no_binding_pattern_is_a_formal_parameters plain r = of_binding_pattern plain is_formal_parameters false refl refl refl refl r
-
-pub no_statement_is_a_formal_parameters : {N : Type 0} (plain : N → Tree) (r : OtherStatement N) → is_formal_parameters (type_of (statement_plain plain r.statement)) ≡ false
-no_statement_is_a_formal_parameters plain r = of_statement plain is_formal_parameters false refl refl refl refl refl refl refl refl refl refl refl refl refl refl refl refl refl r.statement r.other
-
-pub no_expression_is_a_formal_parameters : {N : Type 0} (plain : N → Tree) (r : OtherExpression N) → is_formal_parameters (type_of (expression_plain plain r.expression)) ≡ false
-no_expression_is_a_formal_parameters plain r = of_expression plain is_formal_parameters false refl refl refl refl refl refl refl refl refl refl refl refl refl refl refl refl refl refl refl refl refl refl refl refl refl r.expression r.other
-
-pub no_assignment_target_is_a_formal_parameters : {N : Type 0} (plain : N → Tree) (r : OtherAssignmentTarget N) → is_formal_parameters (type_of (assignment_target_plain plain r.assignment_target)) ≡ false
-no_assignment_target_is_a_formal_parameters plain r = of_assignment_target plain is_formal_parameters false refl refl r.assignment_target r.other
-
-pub no_class_element_is_a_formal_parameters : {N : Type 0} (plain : N → Tree) (r : ClassElement N) → is_formal_parameters (type_of (class_element_plain plain r)) ≡ false
-no_class_element_is_a_formal_parameters plain r = of_class_element plain is_formal_parameters false refl refl refl r
-
-pub no_declaration_is_a_function_body : {N : Type 0} (plain : N → Tree) (r : OtherDeclaration N) → is_function_body (type_of (declaration_plain plain r.declaration)) ≡ false
-no_declaration_is_a_function_body plain r = of_declaration plain is_function_body false refl r.declaration r.other
-
-pub no_binding_pattern_is_a_function_body : {N : Type 0} (plain : N → Tree) (r : BindingPattern N) → is_function_body (type_of (binding_pattern_plain plain r)) ≡ false
-no_binding_pattern_is_a_function_body plain r = of_binding_pattern plain is_function_body false refl refl refl refl r
-
-pub no_statement_is_a_function_body : {N : Type 0} (plain : N → Tree) (r : OtherStatement N) → is_function_body (type_of (statement_plain plain r.statement)) ≡ false
-no_statement_is_a_function_body plain r = of_statement plain is_function_body false refl refl refl refl refl refl refl refl refl refl refl refl refl refl refl refl refl r.statement r.other
-
-pub no_expression_is_a_function_body : {N : Type 0} (plain : N → Tree) (r : OtherExpression N) → is_function_body (type_of (expression_plain plain r.expression)) ≡ false
-no_expression_is_a_function_body plain r = of_expression plain is_function_body false refl refl refl refl refl refl refl refl refl refl refl refl refl refl refl refl refl refl refl refl refl refl refl refl refl r.expression r.other
-
-pub no_assignment_target_is_a_function_body : {N : Type 0} (plain : N → Tree) (r : OtherAssignmentTarget N) → is_function_body (type_of (assignment_target_plain plain r.assignment_target)) ≡ false
-no_assignment_target_is_a_function_body plain r = of_assignment_target plain is_function_body false refl refl r.assignment_target r.other
-
-pub no_class_element_is_a_function_body : {N : Type 0} (plain : N → Tree) (r : ClassElement N) → is_function_body (type_of (class_element_plain plain r)) ≡ false
-no_class_element_is_a_function_body plain r = of_class_element plain is_function_body false refl refl refl r
 
 pub no_declaration_is_an_arrow_function_body : {N : Type 0} (plain : N → Tree) (r : OtherDeclaration N) → is_arrow_function_body (type_of (declaration_plain plain r.declaration)) ≡ false
 no_declaration_is_an_arrow_function_body plain r = of_declaration plain is_arrow_function_body false refl r.declaration r.other
@@ -467,10 +319,10 @@ pub no_binding_pattern_is_an_arrow_function_body : {N : Type 0} (plain : N → T
 no_binding_pattern_is_an_arrow_function_body plain r = of_binding_pattern plain is_arrow_function_body false refl refl refl refl r
 
 pub no_statement_is_an_arrow_function_body : {N : Type 0} (plain : N → Tree) (r : OtherStatement N) → is_arrow_function_body (type_of (statement_plain plain r.statement)) ≡ false
-no_statement_is_an_arrow_function_body plain r = of_statement plain is_arrow_function_body false refl refl refl refl refl refl refl refl refl refl refl refl refl refl refl refl refl r.statement r.other
+no_statement_is_an_arrow_function_body plain r = of_statement plain is_arrow_function_body false refl refl refl refl refl refl refl refl refl refl refl refl refl refl refl refl refl refl refl refl refl refl refl r.statement r.other
 
 pub each_expression_is_an_arrow_function_body : {N : Type 0} (plain : N → Tree) (r : OtherExpression N) → is_arrow_function_body (type_of (expression_plain plain r.expression)) ≡ true
-each_expression_is_an_arrow_function_body plain r = of_expression plain is_arrow_function_body true refl refl refl refl refl refl refl refl refl refl refl refl refl refl refl refl refl refl refl refl refl refl refl refl refl r.expression r.other
+each_expression_is_an_arrow_function_body plain r = of_expression plain is_arrow_function_body true refl refl refl refl refl refl refl refl refl refl refl refl refl refl refl refl refl refl refl refl refl refl refl refl refl refl refl refl refl refl r.expression r.other
 
 pub no_assignment_target_is_an_arrow_function_body : {N : Type 0} (plain : N → Tree) (r : OtherAssignmentTarget N) → is_arrow_function_body (type_of (assignment_target_plain plain r.assignment_target)) ≡ false
 no_assignment_target_is_an_arrow_function_body plain r = of_assignment_target plain is_arrow_function_body false refl refl r.assignment_target r.other
@@ -485,10 +337,10 @@ pub no_binding_pattern_is_a_for_statement_init : {N : Type 0} (plain : N → Tre
 no_binding_pattern_is_a_for_statement_init plain r = of_binding_pattern plain is_for_statement_init false refl refl refl refl r
 
 pub no_statement_is_a_for_statement_init : {N : Type 0} (plain : N → Tree) (r : OtherStatement N) → is_for_statement_init (type_of (statement_plain plain r.statement)) ≡ false
-no_statement_is_a_for_statement_init plain r = of_statement plain is_for_statement_init false refl refl refl refl refl refl refl refl refl refl refl refl refl refl refl refl refl r.statement r.other
+no_statement_is_a_for_statement_init plain r = of_statement plain is_for_statement_init false refl refl refl refl refl refl refl refl refl refl refl refl refl refl refl refl refl refl refl refl refl refl refl r.statement r.other
 
 pub each_expression_is_a_for_statement_init : {N : Type 0} (plain : N → Tree) (r : OtherExpression N) → is_for_statement_init (type_of (expression_plain plain r.expression)) ≡ true
-each_expression_is_a_for_statement_init plain r = of_expression plain is_for_statement_init true refl refl refl refl refl refl refl refl refl refl refl refl refl refl refl refl refl refl refl refl refl refl refl refl refl r.expression r.other
+each_expression_is_a_for_statement_init plain r = of_expression plain is_for_statement_init true refl refl refl refl refl refl refl refl refl refl refl refl refl refl refl refl refl refl refl refl refl refl refl refl refl refl refl refl refl refl r.expression r.other
 
 pub no_assignment_target_is_a_for_statement_init : {N : Type 0} (plain : N → Tree) (r : OtherAssignmentTarget N) → is_for_statement_init (type_of (assignment_target_plain plain r.assignment_target)) ≡ false
 no_assignment_target_is_a_for_statement_init plain r = of_assignment_target plain is_for_statement_init false refl refl r.assignment_target r.other
@@ -503,121 +355,16 @@ pub no_binding_pattern_is_a_for_statement_left : {N : Type 0} (plain : N → Tre
 no_binding_pattern_is_a_for_statement_left plain r = of_binding_pattern plain is_for_statement_left false refl refl refl refl r
 
 pub no_statement_is_a_for_statement_left : {N : Type 0} (plain : N → Tree) (r : OtherStatement N) → is_for_statement_left (type_of (statement_plain plain r.statement)) ≡ false
-no_statement_is_a_for_statement_left plain r = of_statement plain is_for_statement_left false refl refl refl refl refl refl refl refl refl refl refl refl refl refl refl refl refl r.statement r.other
+no_statement_is_a_for_statement_left plain r = of_statement plain is_for_statement_left false refl refl refl refl refl refl refl refl refl refl refl refl refl refl refl refl refl refl refl refl refl refl refl r.statement r.other
 
 pub no_expression_is_a_for_statement_left : {N : Type 0} (plain : N → Tree) (r : OtherExpression N) → is_for_statement_left (type_of (expression_plain plain r.expression)) ≡ false
-no_expression_is_a_for_statement_left plain r = of_expression plain is_for_statement_left false refl refl refl refl refl refl refl refl refl refl refl refl refl refl refl refl refl refl refl refl refl refl refl refl refl r.expression r.other
+no_expression_is_a_for_statement_left plain r = of_expression plain is_for_statement_left false refl refl refl refl refl refl refl refl refl refl refl refl refl refl refl refl refl refl refl refl refl refl refl refl refl refl refl refl refl refl r.expression r.other
 
 pub each_assignment_target_is_a_for_statement_left : {N : Type 0} (plain : N → Tree) (r : OtherAssignmentTarget N) → is_for_statement_left (type_of (assignment_target_plain plain r.assignment_target)) ≡ true
 each_assignment_target_is_a_for_statement_left plain r = of_assignment_target plain is_for_statement_left true refl refl r.assignment_target r.other
 
 pub no_class_element_is_a_for_statement_left : {N : Type 0} (plain : N → Tree) (r : ClassElement N) → is_for_statement_left (type_of (class_element_plain plain r)) ≡ false
 no_class_element_is_a_for_statement_left plain r = of_class_element plain is_for_statement_left false refl refl refl r
-
-pub no_declaration_is_a_label_identifier : {N : Type 0} (plain : N → Tree) (r : OtherDeclaration N) → is_label_identifier (type_of (declaration_plain plain r.declaration)) ≡ false
-no_declaration_is_a_label_identifier plain r = of_declaration plain is_label_identifier false refl r.declaration r.other
-
-pub no_binding_pattern_is_a_label_identifier : {N : Type 0} (plain : N → Tree) (r : BindingPattern N) → is_label_identifier (type_of (binding_pattern_plain plain r)) ≡ false
-no_binding_pattern_is_a_label_identifier plain r = of_binding_pattern plain is_label_identifier false refl refl refl refl r
-
-pub no_statement_is_a_label_identifier : {N : Type 0} (plain : N → Tree) (r : OtherStatement N) → is_label_identifier (type_of (statement_plain plain r.statement)) ≡ false
-no_statement_is_a_label_identifier plain r = of_statement plain is_label_identifier false refl refl refl refl refl refl refl refl refl refl refl refl refl refl refl refl refl r.statement r.other
-
-pub no_expression_is_a_label_identifier : {N : Type 0} (plain : N → Tree) (r : OtherExpression N) → is_label_identifier (type_of (expression_plain plain r.expression)) ≡ false
-no_expression_is_a_label_identifier plain r = of_expression plain is_label_identifier false refl refl refl refl refl refl refl refl refl refl refl refl refl refl refl refl refl refl refl refl refl refl refl refl refl r.expression r.other
-
-pub no_assignment_target_is_a_label_identifier : {N : Type 0} (plain : N → Tree) (r : OtherAssignmentTarget N) → is_label_identifier (type_of (assignment_target_plain plain r.assignment_target)) ≡ false
-no_assignment_target_is_a_label_identifier plain r = of_assignment_target plain is_label_identifier false refl refl r.assignment_target r.other
-
-pub no_class_element_is_a_label_identifier : {N : Type 0} (plain : N → Tree) (r : ClassElement N) → is_label_identifier (type_of (class_element_plain plain r)) ≡ false
-no_class_element_is_a_label_identifier plain r = of_class_element plain is_label_identifier false refl refl refl r
-
-pub no_declaration_is_a_switch_case : {N : Type 0} (plain : N → Tree) (r : OtherDeclaration N) → is_switch_case (type_of (declaration_plain plain r.declaration)) ≡ false
-no_declaration_is_a_switch_case plain r = of_declaration plain is_switch_case false refl r.declaration r.other
-
-pub no_binding_pattern_is_a_switch_case : {N : Type 0} (plain : N → Tree) (r : BindingPattern N) → is_switch_case (type_of (binding_pattern_plain plain r)) ≡ false
-no_binding_pattern_is_a_switch_case plain r = of_binding_pattern plain is_switch_case false refl refl refl refl r
-
-pub no_statement_is_a_switch_case : {N : Type 0} (plain : N → Tree) (r : OtherStatement N) → is_switch_case (type_of (statement_plain plain r.statement)) ≡ false
-no_statement_is_a_switch_case plain r = of_statement plain is_switch_case false refl refl refl refl refl refl refl refl refl refl refl refl refl refl refl refl refl r.statement r.other
-
-pub no_expression_is_a_switch_case : {N : Type 0} (plain : N → Tree) (r : OtherExpression N) → is_switch_case (type_of (expression_plain plain r.expression)) ≡ false
-no_expression_is_a_switch_case plain r = of_expression plain is_switch_case false refl refl refl refl refl refl refl refl refl refl refl refl refl refl refl refl refl refl refl refl refl refl refl refl refl r.expression r.other
-
-pub no_assignment_target_is_a_switch_case : {N : Type 0} (plain : N → Tree) (r : OtherAssignmentTarget N) → is_switch_case (type_of (assignment_target_plain plain r.assignment_target)) ≡ false
-no_assignment_target_is_a_switch_case plain r = of_assignment_target plain is_switch_case false refl refl r.assignment_target r.other
-
-pub no_class_element_is_a_switch_case : {N : Type 0} (plain : N → Tree) (r : ClassElement N) → is_switch_case (type_of (class_element_plain plain r)) ≡ false
-no_class_element_is_a_switch_case plain r = of_class_element plain is_switch_case false refl refl refl r
-
-pub no_declaration_is_a_block_statement : {N : Type 0} (plain : N → Tree) (r : OtherDeclaration N) → is_block_statement (type_of (declaration_plain plain r.declaration)) ≡ false
-no_declaration_is_a_block_statement plain r = of_declaration plain is_block_statement false refl r.declaration r.other
-
-pub no_binding_pattern_is_a_block_statement : {N : Type 0} (plain : N → Tree) (r : BindingPattern N) → is_block_statement (type_of (binding_pattern_plain plain r)) ≡ false
-no_binding_pattern_is_a_block_statement plain r = of_binding_pattern plain is_block_statement false refl refl refl refl r
-
-pub no_expression_is_a_block_statement : {N : Type 0} (plain : N → Tree) (r : OtherExpression N) → is_block_statement (type_of (expression_plain plain r.expression)) ≡ false
-no_expression_is_a_block_statement plain r = of_expression plain is_block_statement false refl refl refl refl refl refl refl refl refl refl refl refl refl refl refl refl refl refl refl refl refl refl refl refl refl r.expression r.other
-
-pub no_assignment_target_is_a_block_statement : {N : Type 0} (plain : N → Tree) (r : OtherAssignmentTarget N) → is_block_statement (type_of (assignment_target_plain plain r.assignment_target)) ≡ false
-no_assignment_target_is_a_block_statement plain r = of_assignment_target plain is_block_statement false refl refl r.assignment_target r.other
-
-pub no_class_element_is_a_block_statement : {N : Type 0} (plain : N → Tree) (r : ClassElement N) → is_block_statement (type_of (class_element_plain plain r)) ≡ false
-no_class_element_is_a_block_statement plain r = of_class_element plain is_block_statement false refl refl refl r
-
-pub no_declaration_is_a_catch_clause : {N : Type 0} (plain : N → Tree) (r : OtherDeclaration N) → is_catch_clause (type_of (declaration_plain plain r.declaration)) ≡ false
-no_declaration_is_a_catch_clause plain r = of_declaration plain is_catch_clause false refl r.declaration r.other
-
-pub no_binding_pattern_is_a_catch_clause : {N : Type 0} (plain : N → Tree) (r : BindingPattern N) → is_catch_clause (type_of (binding_pattern_plain plain r)) ≡ false
-no_binding_pattern_is_a_catch_clause plain r = of_binding_pattern plain is_catch_clause false refl refl refl refl r
-
-pub no_statement_is_a_catch_clause : {N : Type 0} (plain : N → Tree) (r : OtherStatement N) → is_catch_clause (type_of (statement_plain plain r.statement)) ≡ false
-no_statement_is_a_catch_clause plain r = of_statement plain is_catch_clause false refl refl refl refl refl refl refl refl refl refl refl refl refl refl refl refl refl r.statement r.other
-
-pub no_expression_is_a_catch_clause : {N : Type 0} (plain : N → Tree) (r : OtherExpression N) → is_catch_clause (type_of (expression_plain plain r.expression)) ≡ false
-no_expression_is_a_catch_clause plain r = of_expression plain is_catch_clause false refl refl refl refl refl refl refl refl refl refl refl refl refl refl refl refl refl refl refl refl refl refl refl refl refl r.expression r.other
-
-pub no_assignment_target_is_a_catch_clause : {N : Type 0} (plain : N → Tree) (r : OtherAssignmentTarget N) → is_catch_clause (type_of (assignment_target_plain plain r.assignment_target)) ≡ false
-no_assignment_target_is_a_catch_clause plain r = of_assignment_target plain is_catch_clause false refl refl r.assignment_target r.other
-
-pub no_class_element_is_a_catch_clause : {N : Type 0} (plain : N → Tree) (r : ClassElement N) → is_catch_clause (type_of (class_element_plain plain r)) ≡ false
-no_class_element_is_a_catch_clause plain r = of_class_element plain is_catch_clause false refl refl refl r
-
-pub no_declaration_is_a_binding_property : {N : Type 0} (plain : N → Tree) (r : OtherDeclaration N) → is_binding_property (type_of (declaration_plain plain r.declaration)) ≡ false
-no_declaration_is_a_binding_property plain r = of_declaration plain is_binding_property false refl r.declaration r.other
-
-pub no_binding_pattern_is_a_binding_property : {N : Type 0} (plain : N → Tree) (r : BindingPattern N) → is_binding_property (type_of (binding_pattern_plain plain r)) ≡ false
-no_binding_pattern_is_a_binding_property plain r = of_binding_pattern plain is_binding_property false refl refl refl refl r
-
-pub no_statement_is_a_binding_property : {N : Type 0} (plain : N → Tree) (r : OtherStatement N) → is_binding_property (type_of (statement_plain plain r.statement)) ≡ false
-no_statement_is_a_binding_property plain r = of_statement plain is_binding_property false refl refl refl refl refl refl refl refl refl refl refl refl refl refl refl refl refl r.statement r.other
-
-pub no_expression_is_a_binding_property : {N : Type 0} (plain : N → Tree) (r : OtherExpression N) → is_binding_property (type_of (expression_plain plain r.expression)) ≡ false
-no_expression_is_a_binding_property plain r = of_expression plain is_binding_property false refl refl refl refl refl refl refl refl refl refl refl refl refl refl refl refl refl refl refl refl refl refl refl refl refl r.expression r.other
-
-pub no_assignment_target_is_a_binding_property : {N : Type 0} (plain : N → Tree) (r : OtherAssignmentTarget N) → is_binding_property (type_of (assignment_target_plain plain r.assignment_target)) ≡ false
-no_assignment_target_is_a_binding_property plain r = of_assignment_target plain is_binding_property false refl refl r.assignment_target r.other
-
-pub no_class_element_is_a_binding_property : {N : Type 0} (plain : N → Tree) (r : ClassElement N) → is_binding_property (type_of (class_element_plain plain r)) ≡ false
-no_class_element_is_a_binding_property plain r = of_class_element plain is_binding_property false refl refl refl r
-
-pub no_declaration_is_a_binding_rest_element : {N : Type 0} (plain : N → Tree) (r : OtherDeclaration N) → is_binding_rest_element (type_of (declaration_plain plain r.declaration)) ≡ false
-no_declaration_is_a_binding_rest_element plain r = of_declaration plain is_binding_rest_element false refl r.declaration r.other
-
-pub no_binding_pattern_is_a_binding_rest_element : {N : Type 0} (plain : N → Tree) (r : BindingPattern N) → is_binding_rest_element (type_of (binding_pattern_plain plain r)) ≡ false
-no_binding_pattern_is_a_binding_rest_element plain r = of_binding_pattern plain is_binding_rest_element false refl refl refl refl r
-
-pub no_statement_is_a_binding_rest_element : {N : Type 0} (plain : N → Tree) (r : OtherStatement N) → is_binding_rest_element (type_of (statement_plain plain r.statement)) ≡ false
-no_statement_is_a_binding_rest_element plain r = of_statement plain is_binding_rest_element false refl refl refl refl refl refl refl refl refl refl refl refl refl refl refl refl refl r.statement r.other
-
-pub no_expression_is_a_binding_rest_element : {N : Type 0} (plain : N → Tree) (r : OtherExpression N) → is_binding_rest_element (type_of (expression_plain plain r.expression)) ≡ false
-no_expression_is_a_binding_rest_element plain r = of_expression plain is_binding_rest_element false refl refl refl refl refl refl refl refl refl refl refl refl refl refl refl refl refl refl refl refl refl refl refl refl refl r.expression r.other
-
-pub no_assignment_target_is_a_binding_rest_element : {N : Type 0} (plain : N → Tree) (r : OtherAssignmentTarget N) → is_binding_rest_element (type_of (assignment_target_plain plain r.assignment_target)) ≡ false
-no_assignment_target_is_a_binding_rest_element plain r = of_assignment_target plain is_binding_rest_element false refl refl r.assignment_target r.other
-
-pub no_class_element_is_a_binding_rest_element : {N : Type 0} (plain : N → Tree) (r : ClassElement N) → is_binding_rest_element (type_of (class_element_plain plain r)) ≡ false
-no_class_element_is_a_binding_rest_element plain r = of_class_element plain is_binding_rest_element false refl refl refl r
 
 pub no_declaration_is_an_assignment_target_maybe_default : {N : Type 0} (plain : N → Tree) (r : OtherDeclaration N) → is_assignment_target_maybe_default (type_of (declaration_plain plain r.declaration)) ≡ false
 no_declaration_is_an_assignment_target_maybe_default plain r = of_declaration plain is_assignment_target_maybe_default false refl r.declaration r.other
@@ -626,34 +373,16 @@ pub no_binding_pattern_is_an_assignment_target_maybe_default : {N : Type 0} (pla
 no_binding_pattern_is_an_assignment_target_maybe_default plain r = of_binding_pattern plain is_assignment_target_maybe_default false refl refl refl refl r
 
 pub no_statement_is_an_assignment_target_maybe_default : {N : Type 0} (plain : N → Tree) (r : OtherStatement N) → is_assignment_target_maybe_default (type_of (statement_plain plain r.statement)) ≡ false
-no_statement_is_an_assignment_target_maybe_default plain r = of_statement plain is_assignment_target_maybe_default false refl refl refl refl refl refl refl refl refl refl refl refl refl refl refl refl refl r.statement r.other
+no_statement_is_an_assignment_target_maybe_default plain r = of_statement plain is_assignment_target_maybe_default false refl refl refl refl refl refl refl refl refl refl refl refl refl refl refl refl refl refl refl refl refl refl refl r.statement r.other
 
 pub no_expression_is_an_assignment_target_maybe_default : {N : Type 0} (plain : N → Tree) (r : OtherExpression N) → is_assignment_target_maybe_default (type_of (expression_plain plain r.expression)) ≡ false
-no_expression_is_an_assignment_target_maybe_default plain r = of_expression plain is_assignment_target_maybe_default false refl refl refl refl refl refl refl refl refl refl refl refl refl refl refl refl refl refl refl refl refl refl refl refl refl r.expression r.other
+no_expression_is_an_assignment_target_maybe_default plain r = of_expression plain is_assignment_target_maybe_default false refl refl refl refl refl refl refl refl refl refl refl refl refl refl refl refl refl refl refl refl refl refl refl refl refl refl refl refl refl refl r.expression r.other
 
 pub each_assignment_target_is_an_assignment_target_maybe_default : {N : Type 0} (plain : N → Tree) (r : OtherAssignmentTarget N) → is_assignment_target_maybe_default (type_of (assignment_target_plain plain r.assignment_target)) ≡ true
 each_assignment_target_is_an_assignment_target_maybe_default plain r = of_assignment_target plain is_assignment_target_maybe_default true refl refl r.assignment_target r.other
 
 pub no_class_element_is_an_assignment_target_maybe_default : {N : Type 0} (plain : N → Tree) (r : ClassElement N) → is_assignment_target_maybe_default (type_of (class_element_plain plain r)) ≡ false
 no_class_element_is_an_assignment_target_maybe_default plain r = of_class_element plain is_assignment_target_maybe_default false refl refl refl r
-
-pub no_declaration_is_an_assignment_target_rest : {N : Type 0} (plain : N → Tree) (r : OtherDeclaration N) → is_assignment_target_rest (type_of (declaration_plain plain r.declaration)) ≡ false
-no_declaration_is_an_assignment_target_rest plain r = of_declaration plain is_assignment_target_rest false refl r.declaration r.other
-
-pub no_binding_pattern_is_an_assignment_target_rest : {N : Type 0} (plain : N → Tree) (r : BindingPattern N) → is_assignment_target_rest (type_of (binding_pattern_plain plain r)) ≡ false
-no_binding_pattern_is_an_assignment_target_rest plain r = of_binding_pattern plain is_assignment_target_rest false refl refl refl refl r
-
-pub no_statement_is_an_assignment_target_rest : {N : Type 0} (plain : N → Tree) (r : OtherStatement N) → is_assignment_target_rest (type_of (statement_plain plain r.statement)) ≡ false
-no_statement_is_an_assignment_target_rest plain r = of_statement plain is_assignment_target_rest false refl refl refl refl refl refl refl refl refl refl refl refl refl refl refl refl refl r.statement r.other
-
-pub no_expression_is_an_assignment_target_rest : {N : Type 0} (plain : N → Tree) (r : OtherExpression N) → is_assignment_target_rest (type_of (expression_plain plain r.expression)) ≡ false
-no_expression_is_an_assignment_target_rest plain r = of_expression plain is_assignment_target_rest false refl refl refl refl refl refl refl refl refl refl refl refl refl refl refl refl refl refl refl refl refl refl refl refl refl r.expression r.other
-
-pub no_assignment_target_is_an_assignment_target_rest : {N : Type 0} (plain : N → Tree) (r : OtherAssignmentTarget N) → is_assignment_target_rest (type_of (assignment_target_plain plain r.assignment_target)) ≡ false
-no_assignment_target_is_an_assignment_target_rest plain r = of_assignment_target plain is_assignment_target_rest false refl refl r.assignment_target r.other
-
-pub no_class_element_is_an_assignment_target_rest : {N : Type 0} (plain : N → Tree) (r : ClassElement N) → is_assignment_target_rest (type_of (class_element_plain plain r)) ≡ false
-no_class_element_is_an_assignment_target_rest plain r = of_class_element plain is_assignment_target_rest false refl refl refl r
 
 pub no_declaration_is_an_assignment_target_property : {N : Type 0} (plain : N → Tree) (r : OtherDeclaration N) → is_assignment_target_property (type_of (declaration_plain plain r.declaration)) ≡ false
 no_declaration_is_an_assignment_target_property plain r = of_declaration plain is_assignment_target_property false refl r.declaration r.other
@@ -662,70 +391,16 @@ pub no_binding_pattern_is_an_assignment_target_property : {N : Type 0} (plain : 
 no_binding_pattern_is_an_assignment_target_property plain r = of_binding_pattern plain is_assignment_target_property false refl refl refl refl r
 
 pub no_statement_is_an_assignment_target_property : {N : Type 0} (plain : N → Tree) (r : OtherStatement N) → is_assignment_target_property (type_of (statement_plain plain r.statement)) ≡ false
-no_statement_is_an_assignment_target_property plain r = of_statement plain is_assignment_target_property false refl refl refl refl refl refl refl refl refl refl refl refl refl refl refl refl refl r.statement r.other
+no_statement_is_an_assignment_target_property plain r = of_statement plain is_assignment_target_property false refl refl refl refl refl refl refl refl refl refl refl refl refl refl refl refl refl refl refl refl refl refl refl r.statement r.other
 
 pub no_expression_is_an_assignment_target_property : {N : Type 0} (plain : N → Tree) (r : OtherExpression N) → is_assignment_target_property (type_of (expression_plain plain r.expression)) ≡ false
-no_expression_is_an_assignment_target_property plain r = of_expression plain is_assignment_target_property false refl refl refl refl refl refl refl refl refl refl refl refl refl refl refl refl refl refl refl refl refl refl refl refl refl r.expression r.other
+no_expression_is_an_assignment_target_property plain r = of_expression plain is_assignment_target_property false refl refl refl refl refl refl refl refl refl refl refl refl refl refl refl refl refl refl refl refl refl refl refl refl refl refl refl refl refl refl r.expression r.other
 
 pub no_assignment_target_is_an_assignment_target_property : {N : Type 0} (plain : N → Tree) (r : OtherAssignmentTarget N) → is_assignment_target_property (type_of (assignment_target_plain plain r.assignment_target)) ≡ false
 no_assignment_target_is_an_assignment_target_property plain r = of_assignment_target plain is_assignment_target_property false refl refl r.assignment_target r.other
 
 pub no_class_element_is_an_assignment_target_property : {N : Type 0} (plain : N → Tree) (r : ClassElement N) → is_assignment_target_property (type_of (class_element_plain plain r)) ≡ false
 no_class_element_is_an_assignment_target_property plain r = of_class_element plain is_assignment_target_property false refl refl refl r
-
-pub no_declaration_is_an_identifier_reference : {N : Type 0} (plain : N → Tree) (r : OtherDeclaration N) → is_identifier_reference (type_of (declaration_plain plain r.declaration)) ≡ false
-no_declaration_is_an_identifier_reference plain r = of_declaration plain is_identifier_reference false refl r.declaration r.other
-
-pub no_binding_pattern_is_an_identifier_reference : {N : Type 0} (plain : N → Tree) (r : BindingPattern N) → is_identifier_reference (type_of (binding_pattern_plain plain r)) ≡ false
-no_binding_pattern_is_an_identifier_reference plain r = of_binding_pattern plain is_identifier_reference false refl refl refl refl r
-
-pub no_statement_is_an_identifier_reference : {N : Type 0} (plain : N → Tree) (r : OtherStatement N) → is_identifier_reference (type_of (statement_plain plain r.statement)) ≡ false
-no_statement_is_an_identifier_reference plain r = of_statement plain is_identifier_reference false refl refl refl refl refl refl refl refl refl refl refl refl refl refl refl refl refl r.statement r.other
-
-pub no_expression_is_an_identifier_reference : {N : Type 0} (plain : N → Tree) (r : OtherExpression N) → is_identifier_reference (type_of (expression_plain plain r.expression)) ≡ false
-no_expression_is_an_identifier_reference plain r = of_expression plain is_identifier_reference false refl refl refl refl refl refl refl refl refl refl refl refl refl refl refl refl refl refl refl refl refl refl refl refl refl r.expression r.other
-
-pub no_assignment_target_is_an_identifier_reference : {N : Type 0} (plain : N → Tree) (r : OtherAssignmentTarget N) → is_identifier_reference (type_of (assignment_target_plain plain r.assignment_target)) ≡ false
-no_assignment_target_is_an_identifier_reference plain r = of_assignment_target plain is_identifier_reference false refl refl r.assignment_target r.other
-
-pub no_class_element_is_an_identifier_reference : {N : Type 0} (plain : N → Tree) (r : ClassElement N) → is_identifier_reference (type_of (class_element_plain plain r)) ≡ false
-no_class_element_is_an_identifier_reference plain r = of_class_element plain is_identifier_reference false refl refl refl r
-
-pub no_declaration_is_a_private_identifier : {N : Type 0} (plain : N → Tree) (r : OtherDeclaration N) → is_private_identifier (type_of (declaration_plain plain r.declaration)) ≡ false
-no_declaration_is_a_private_identifier plain r = of_declaration plain is_private_identifier false refl r.declaration r.other
-
-pub no_binding_pattern_is_a_private_identifier : {N : Type 0} (plain : N → Tree) (r : BindingPattern N) → is_private_identifier (type_of (binding_pattern_plain plain r)) ≡ false
-no_binding_pattern_is_a_private_identifier plain r = of_binding_pattern plain is_private_identifier false refl refl refl refl r
-
-pub no_statement_is_a_private_identifier : {N : Type 0} (plain : N → Tree) (r : OtherStatement N) → is_private_identifier (type_of (statement_plain plain r.statement)) ≡ false
-no_statement_is_a_private_identifier plain r = of_statement plain is_private_identifier false refl refl refl refl refl refl refl refl refl refl refl refl refl refl refl refl refl r.statement r.other
-
-pub no_expression_is_a_private_identifier : {N : Type 0} (plain : N → Tree) (r : OtherExpression N) → is_private_identifier (type_of (expression_plain plain r.expression)) ≡ false
-no_expression_is_a_private_identifier plain r = of_expression plain is_private_identifier false refl refl refl refl refl refl refl refl refl refl refl refl refl refl refl refl refl refl refl refl refl refl refl refl refl r.expression r.other
-
-pub no_assignment_target_is_a_private_identifier : {N : Type 0} (plain : N → Tree) (r : OtherAssignmentTarget N) → is_private_identifier (type_of (assignment_target_plain plain r.assignment_target)) ≡ false
-no_assignment_target_is_a_private_identifier plain r = of_assignment_target plain is_private_identifier false refl refl r.assignment_target r.other
-
-pub no_class_element_is_a_private_identifier : {N : Type 0} (plain : N → Tree) (r : ClassElement N) → is_private_identifier (type_of (class_element_plain plain r)) ≡ false
-no_class_element_is_a_private_identifier plain r = of_class_element plain is_private_identifier false refl refl refl r
-
-pub no_declaration_is_a_class_body : {N : Type 0} (plain : N → Tree) (r : OtherDeclaration N) → is_class_body (type_of (declaration_plain plain r.declaration)) ≡ false
-no_declaration_is_a_class_body plain r = of_declaration plain is_class_body false refl r.declaration r.other
-
-pub no_binding_pattern_is_a_class_body : {N : Type 0} (plain : N → Tree) (r : BindingPattern N) → is_class_body (type_of (binding_pattern_plain plain r)) ≡ false
-no_binding_pattern_is_a_class_body plain r = of_binding_pattern plain is_class_body false refl refl refl refl r
-
-pub no_statement_is_a_class_body : {N : Type 0} (plain : N → Tree) (r : OtherStatement N) → is_class_body (type_of (statement_plain plain r.statement)) ≡ false
-no_statement_is_a_class_body plain r = of_statement plain is_class_body false refl refl refl refl refl refl refl refl refl refl refl refl refl refl refl refl refl r.statement r.other
-
-pub no_expression_is_a_class_body : {N : Type 0} (plain : N → Tree) (r : OtherExpression N) → is_class_body (type_of (expression_plain plain r.expression)) ≡ false
-no_expression_is_a_class_body plain r = of_expression plain is_class_body false refl refl refl refl refl refl refl refl refl refl refl refl refl refl refl refl refl refl refl refl refl refl refl refl refl r.expression r.other
-
-pub no_assignment_target_is_a_class_body : {N : Type 0} (plain : N → Tree) (r : OtherAssignmentTarget N) → is_class_body (type_of (assignment_target_plain plain r.assignment_target)) ≡ false
-no_assignment_target_is_a_class_body plain r = of_assignment_target plain is_class_body false refl refl r.assignment_target r.other
-
-pub no_class_element_is_a_class_body : {N : Type 0} (plain : N → Tree) (r : ClassElement N) → is_class_body (type_of (class_element_plain plain r)) ≡ false
-no_class_element_is_a_class_body plain r = of_class_element plain is_class_body false refl refl refl r
 
 pub no_declaration_is_a_class_element : {N : Type 0} (plain : N → Tree) (r : OtherDeclaration N) → is_class_element (type_of (declaration_plain plain r.declaration)) ≡ false
 no_declaration_is_a_class_element plain r = of_declaration plain is_class_element false refl r.declaration r.other
@@ -734,10 +409,10 @@ pub no_binding_pattern_is_a_class_element : {N : Type 0} (plain : N → Tree) (r
 no_binding_pattern_is_a_class_element plain r = of_binding_pattern plain is_class_element false refl refl refl refl r
 
 pub no_statement_is_a_class_element : {N : Type 0} (plain : N → Tree) (r : OtherStatement N) → is_class_element (type_of (statement_plain plain r.statement)) ≡ false
-no_statement_is_a_class_element plain r = of_statement plain is_class_element false refl refl refl refl refl refl refl refl refl refl refl refl refl refl refl refl refl r.statement r.other
+no_statement_is_a_class_element plain r = of_statement plain is_class_element false refl refl refl refl refl refl refl refl refl refl refl refl refl refl refl refl refl refl refl refl refl refl refl r.statement r.other
 
 pub no_expression_is_a_class_element : {N : Type 0} (plain : N → Tree) (r : OtherExpression N) → is_class_element (type_of (expression_plain plain r.expression)) ≡ false
-no_expression_is_a_class_element plain r = of_expression plain is_class_element false refl refl refl refl refl refl refl refl refl refl refl refl refl refl refl refl refl refl refl refl refl refl refl refl refl r.expression r.other
+no_expression_is_a_class_element plain r = of_expression plain is_class_element false refl refl refl refl refl refl refl refl refl refl refl refl refl refl refl refl refl refl refl refl refl refl refl refl refl refl refl refl refl refl r.expression r.other
 
 pub no_assignment_target_is_a_class_element : {N : Type 0} (plain : N → Tree) (r : OtherAssignmentTarget N) → is_class_element (type_of (assignment_target_plain plain r.assignment_target)) ≡ false
 no_assignment_target_is_a_class_element plain r = of_assignment_target plain is_class_element false refl refl r.assignment_target r.other
@@ -745,23 +420,89 @@ no_assignment_target_is_a_class_element plain r = of_assignment_target plain is_
 pub each_class_element_is_a_class_element : {N : Type 0} (plain : N → Tree) (r : ClassElement N) → is_class_element (type_of (class_element_plain plain r)) ≡ true
 each_class_element_is_a_class_element plain r = of_class_element plain is_class_element true refl refl refl r
 
-pub no_declaration_is_a_function : {N : Type 0} (plain : N → Tree) (r : OtherDeclaration N) → is_function (type_of (declaration_plain plain r.declaration)) ≡ false
-no_declaration_is_a_function plain r = of_declaration plain is_function false refl r.declaration r.other
+pub no_declaration_is_an_import_declaration_specifier : {N : Type 0} (plain : N → Tree) (r : OtherDeclaration N) → is_import_declaration_specifier (type_of (declaration_plain plain r.declaration)) ≡ false
+no_declaration_is_an_import_declaration_specifier plain r = of_declaration plain is_import_declaration_specifier false refl r.declaration r.other
 
-pub no_binding_pattern_is_a_function : {N : Type 0} (plain : N → Tree) (r : BindingPattern N) → is_function (type_of (binding_pattern_plain plain r)) ≡ false
-no_binding_pattern_is_a_function plain r = of_binding_pattern plain is_function false refl refl refl refl r
+pub no_binding_pattern_is_an_import_declaration_specifier : {N : Type 0} (plain : N → Tree) (r : BindingPattern N) → is_import_declaration_specifier (type_of (binding_pattern_plain plain r)) ≡ false
+no_binding_pattern_is_an_import_declaration_specifier plain r = of_binding_pattern plain is_import_declaration_specifier false refl refl refl refl r
 
-pub no_statement_is_a_function : {N : Type 0} (plain : N → Tree) (r : OtherStatement N) → is_function (type_of (statement_plain plain r.statement)) ≡ false
-no_statement_is_a_function plain r = of_statement plain is_function false refl refl refl refl refl refl refl refl refl refl refl refl refl refl refl refl refl r.statement r.other
+pub no_statement_is_an_import_declaration_specifier : {N : Type 0} (plain : N → Tree) (r : OtherStatement N) → is_import_declaration_specifier (type_of (statement_plain plain r.statement)) ≡ false
+no_statement_is_an_import_declaration_specifier plain r = of_statement plain is_import_declaration_specifier false refl refl refl refl refl refl refl refl refl refl refl refl refl refl refl refl refl refl refl refl refl refl refl r.statement r.other
 
-pub no_expression_is_a_function : {N : Type 0} (plain : N → Tree) (r : OtherExpression N) → is_function (type_of (expression_plain plain r.expression)) ≡ false
-no_expression_is_a_function plain r = of_expression plain is_function false refl refl refl refl refl refl refl refl refl refl refl refl refl refl refl refl refl refl refl refl refl refl refl refl refl r.expression r.other
+pub no_expression_is_an_import_declaration_specifier : {N : Type 0} (plain : N → Tree) (r : OtherExpression N) → is_import_declaration_specifier (type_of (expression_plain plain r.expression)) ≡ false
+no_expression_is_an_import_declaration_specifier plain r = of_expression plain is_import_declaration_specifier false refl refl refl refl refl refl refl refl refl refl refl refl refl refl refl refl refl refl refl refl refl refl refl refl refl refl refl refl refl refl r.expression r.other
 
-pub no_assignment_target_is_a_function : {N : Type 0} (plain : N → Tree) (r : OtherAssignmentTarget N) → is_function (type_of (assignment_target_plain plain r.assignment_target)) ≡ false
-no_assignment_target_is_a_function plain r = of_assignment_target plain is_function false refl refl r.assignment_target r.other
+pub no_assignment_target_is_an_import_declaration_specifier : {N : Type 0} (plain : N → Tree) (r : OtherAssignmentTarget N) → is_import_declaration_specifier (type_of (assignment_target_plain plain r.assignment_target)) ≡ false
+no_assignment_target_is_an_import_declaration_specifier plain r = of_assignment_target plain is_import_declaration_specifier false refl refl r.assignment_target r.other
 
-pub no_class_element_is_a_function : {N : Type 0} (plain : N → Tree) (r : ClassElement N) → is_function (type_of (class_element_plain plain r)) ≡ false
-no_class_element_is_a_function plain r = of_class_element plain is_function false refl refl refl r
+pub no_class_element_is_an_import_declaration_specifier : {N : Type 0} (plain : N → Tree) (r : ClassElement N) → is_import_declaration_specifier (type_of (class_element_plain plain r)) ≡ false
+no_class_element_is_an_import_declaration_specifier plain r = of_class_element plain is_import_declaration_specifier false refl refl refl r
+
+pub no_declaration_is_a_module_export_name : {N : Type 0} (plain : N → Tree) (r : OtherDeclaration N) → is_module_export_name (type_of (declaration_plain plain r.declaration)) ≡ false
+no_declaration_is_a_module_export_name plain r = of_declaration plain is_module_export_name false refl r.declaration r.other
+
+pub no_binding_pattern_is_a_module_export_name : {N : Type 0} (plain : N → Tree) (r : BindingPattern N) → is_module_export_name (type_of (binding_pattern_plain plain r)) ≡ false
+no_binding_pattern_is_a_module_export_name plain r = of_binding_pattern plain is_module_export_name false refl refl refl refl r
+
+pub no_statement_is_a_module_export_name : {N : Type 0} (plain : N → Tree) (r : OtherStatement N) → is_module_export_name (type_of (statement_plain plain r.statement)) ≡ false
+no_statement_is_a_module_export_name plain r = of_statement plain is_module_export_name false refl refl refl refl refl refl refl refl refl refl refl refl refl refl refl refl refl refl refl refl refl refl refl r.statement r.other
+
+pub no_assignment_target_is_a_module_export_name : {N : Type 0} (plain : N → Tree) (r : OtherAssignmentTarget N) → is_module_export_name (type_of (assignment_target_plain plain r.assignment_target)) ≡ false
+no_assignment_target_is_a_module_export_name plain r = of_assignment_target plain is_module_export_name false refl refl r.assignment_target r.other
+
+pub no_class_element_is_a_module_export_name : {N : Type 0} (plain : N → Tree) (r : ClassElement N) → is_module_export_name (type_of (class_element_plain plain r)) ≡ false
+no_class_element_is_a_module_export_name plain r = of_class_element plain is_module_export_name false refl refl refl r
+
+pub no_declaration_is_an_import_attribute_key : {N : Type 0} (plain : N → Tree) (r : OtherDeclaration N) → is_import_attribute_key (type_of (declaration_plain plain r.declaration)) ≡ false
+no_declaration_is_an_import_attribute_key plain r = of_declaration plain is_import_attribute_key false refl r.declaration r.other
+
+pub no_binding_pattern_is_an_import_attribute_key : {N : Type 0} (plain : N → Tree) (r : BindingPattern N) → is_import_attribute_key (type_of (binding_pattern_plain plain r)) ≡ false
+no_binding_pattern_is_an_import_attribute_key plain r = of_binding_pattern plain is_import_attribute_key false refl refl refl refl r
+
+pub no_statement_is_an_import_attribute_key : {N : Type 0} (plain : N → Tree) (r : OtherStatement N) → is_import_attribute_key (type_of (statement_plain plain r.statement)) ≡ false
+no_statement_is_an_import_attribute_key plain r = of_statement plain is_import_attribute_key false refl refl refl refl refl refl refl refl refl refl refl refl refl refl refl refl refl refl refl refl refl refl refl r.statement r.other
+
+pub no_assignment_target_is_an_import_attribute_key : {N : Type 0} (plain : N → Tree) (r : OtherAssignmentTarget N) → is_import_attribute_key (type_of (assignment_target_plain plain r.assignment_target)) ≡ false
+no_assignment_target_is_an_import_attribute_key plain r = of_assignment_target plain is_import_attribute_key false refl refl r.assignment_target r.other
+
+pub no_class_element_is_an_import_attribute_key : {N : Type 0} (plain : N → Tree) (r : ClassElement N) → is_import_attribute_key (type_of (class_element_plain plain r)) ≡ false
+no_class_element_is_an_import_attribute_key plain r = of_class_element plain is_import_attribute_key false refl refl refl r
+
+pub each_declaration_is_a_declaration : {N : Type 0} (plain : N → Tree) (r : OtherDeclaration N) → is_declaration (type_of (declaration_plain plain r.declaration)) ≡ true
+each_declaration_is_a_declaration plain r = of_declaration plain is_declaration true refl r.declaration r.other
+
+pub no_binding_pattern_is_a_declaration : {N : Type 0} (plain : N → Tree) (r : BindingPattern N) → is_declaration (type_of (binding_pattern_plain plain r)) ≡ false
+no_binding_pattern_is_a_declaration plain r = of_binding_pattern plain is_declaration false refl refl refl refl r
+
+pub no_statement_is_a_declaration : {N : Type 0} (plain : N → Tree) (r : OtherStatement N) → is_declaration (type_of (statement_plain plain r.statement)) ≡ false
+no_statement_is_a_declaration plain r = of_statement plain is_declaration false refl refl refl refl refl refl refl refl refl refl refl refl refl refl refl refl refl refl refl refl refl refl refl r.statement r.other
+
+pub no_expression_is_a_declaration : {N : Type 0} (plain : N → Tree) (r : OtherExpression N) → is_declaration (type_of (expression_plain plain r.expression)) ≡ false
+no_expression_is_a_declaration plain r = of_expression plain is_declaration false refl refl refl refl refl refl refl refl refl refl refl refl refl refl refl refl refl refl refl refl refl refl refl refl refl refl refl refl refl refl r.expression r.other
+
+pub no_assignment_target_is_a_declaration : {N : Type 0} (plain : N → Tree) (r : OtherAssignmentTarget N) → is_declaration (type_of (assignment_target_plain plain r.assignment_target)) ≡ false
+no_assignment_target_is_a_declaration plain r = of_assignment_target plain is_declaration false refl refl r.assignment_target r.other
+
+pub no_class_element_is_a_declaration : {N : Type 0} (plain : N → Tree) (r : ClassElement N) → is_declaration (type_of (class_element_plain plain r)) ≡ false
+no_class_element_is_a_declaration plain r = of_class_element plain is_declaration false refl refl refl r
+
+pub no_declaration_is_an_export_default_declaration_kind : {N : Type 0} (plain : N → Tree) (r : OtherDeclaration N) → is_export_default_declaration_kind (type_of (declaration_plain plain r.declaration)) ≡ false
+no_declaration_is_an_export_default_declaration_kind plain r = of_declaration plain is_export_default_declaration_kind false refl r.declaration r.other
+
+pub no_binding_pattern_is_an_export_default_declaration_kind : {N : Type 0} (plain : N → Tree) (r : BindingPattern N) → is_export_default_declaration_kind (type_of (binding_pattern_plain plain r)) ≡ false
+no_binding_pattern_is_an_export_default_declaration_kind plain r = of_binding_pattern plain is_export_default_declaration_kind false refl refl refl refl r
+
+pub no_statement_is_an_export_default_declaration_kind : {N : Type 0} (plain : N → Tree) (r : OtherStatement N) → is_export_default_declaration_kind (type_of (statement_plain plain r.statement)) ≡ false
+no_statement_is_an_export_default_declaration_kind plain r = of_statement plain is_export_default_declaration_kind false refl refl refl refl refl refl refl refl refl refl refl refl refl refl refl refl refl refl refl refl refl refl refl r.statement r.other
+
+pub each_expression_is_an_export_default_declaration_kind : {N : Type 0} (plain : N → Tree) (r : OtherExpression N) → is_export_default_declaration_kind (type_of (expression_plain plain r.expression)) ≡ true
+each_expression_is_an_export_default_declaration_kind plain r = of_expression plain is_export_default_declaration_kind true refl refl refl refl refl refl refl refl refl refl refl refl refl refl refl refl refl refl refl refl refl refl refl refl refl refl refl refl refl refl r.expression r.other
+
+pub no_assignment_target_is_an_export_default_declaration_kind : {N : Type 0} (plain : N → Tree) (r : OtherAssignmentTarget N) → is_export_default_declaration_kind (type_of (assignment_target_plain plain r.assignment_target)) ≡ false
+no_assignment_target_is_an_export_default_declaration_kind plain r = of_assignment_target plain is_export_default_declaration_kind false refl refl r.assignment_target r.other
+
+pub no_class_element_is_an_export_default_declaration_kind : {N : Type 0} (plain : N → Tree) (r : ClassElement N) → is_export_default_declaration_kind (type_of (class_element_plain plain r)) ≡ false
+no_class_element_is_an_export_default_declaration_kind plain r = of_class_element plain is_export_default_declaration_kind false refl refl refl r
 
 pub program_type : (t : NodeType) → is_program t ≡ true → t ≡ types.Program
 program_type types.Program h = refl
@@ -809,6 +550,12 @@ program_type types.FormalParameters h = cc
 program_type types.Function h = cc
 program_type types.FunctionBody h = cc
 program_type types.ArrowFunctionExpression h = cc
+program_type types.AwaitExpression h = cc
+program_type types.YieldExpression h = cc
+program_type types.TemplateElement h = cc
+program_type types.TemplateLiteral h = cc
+program_type types.TaggedTemplateExpression h = cc
+program_type types.ImportExpression h = cc
 program_type types.ForStatement h = cc
 program_type types.ForInStatement h = cc
 program_type types.ForOfStatement h = cc
@@ -844,24 +591,29 @@ program_type types.ClassBody h = cc
 program_type types.StaticBlock h = cc
 program_type types.MethodDefinition h = cc
 program_type types.PropertyDefinition h = cc
+program_type types.Hashbang h = cc
+program_type types.ImportDeclaration h = cc
+program_type types.ImportDefaultSpecifier h = cc
+program_type types.ImportNamespaceSpecifier h = cc
+program_type types.ImportSpecifier h = cc
+program_type types.WithClause h = cc
+program_type types.ImportAttribute h = cc
+program_type types.ExportDeclaration h = cc
+program_type types.ExportNamedDeclaration h = cc
+program_type types.ExportFromDeclaration h = cc
+program_type types.ExportSpecifier h = cc
+program_type types.ExportAllDeclaration h = cc
+program_type types.ExportDefaultDeclaration h = cc
 
 -- ---- which rows a place takes
 
 pub ruleset takes_programs = (no_declaration_is_a_program, no_binding_pattern_is_a_program, no_statement_is_a_program, no_expression_is_a_program, no_assignment_target_is_a_program, no_class_element_is_a_program)
 
-pub ruleset takes_comments = (no_declaration_is_a_comment, no_binding_pattern_is_a_comment, no_statement_is_a_comment, no_expression_is_a_comment, no_assignment_target_is_a_comment, no_class_element_is_a_comment)
-
-pub ruleset takes_directives = (no_declaration_is_a_directive, no_binding_pattern_is_a_directive, no_statement_is_a_directive, no_expression_is_a_directive, no_assignment_target_is_a_directive, no_class_element_is_a_directive)
-
 pub ruleset takes_statements = (each_declaration_is_a_statement, no_binding_pattern_is_a_statement, each_statement_is_a_statement, no_expression_is_a_statement, no_assignment_target_is_a_statement, no_class_element_is_a_statement)
-
-pub ruleset takes_variable_declarators = (no_declaration_is_a_variable_declarator, no_binding_pattern_is_a_variable_declarator, no_statement_is_a_variable_declarator, no_expression_is_a_variable_declarator, no_assignment_target_is_a_variable_declarator, no_class_element_is_a_variable_declarator)
 
 pub ruleset takes_binding_patterns = (no_declaration_is_a_binding_pattern, each_binding_pattern_is_a_binding_pattern, no_statement_is_a_binding_pattern, no_expression_is_a_binding_pattern, no_assignment_target_is_a_binding_pattern, no_class_element_is_a_binding_pattern)
 
 pub ruleset takes_expressions = (no_declaration_is_an_expression, no_binding_pattern_is_an_expression, no_statement_is_an_expression, each_expression_is_an_expression, no_assignment_target_is_an_expression, no_class_element_is_an_expression)
-
-pub ruleset takes_identifier_names = (no_declaration_is_an_identifier_name, no_binding_pattern_is_an_identifier_name, no_statement_is_an_identifier_name, no_expression_is_an_identifier_name, no_assignment_target_is_an_identifier_name, no_class_element_is_an_identifier_name)
 
 pub ruleset takes_arguments = (no_declaration_is_an_argument, no_binding_pattern_is_an_argument, no_statement_is_an_argument, each_expression_is_an_argument, no_assignment_target_is_an_argument, no_class_element_is_an_argument)
 
@@ -877,46 +629,24 @@ pub ruleset takes_simple_assignment_targets = (no_declaration_is_a_simple_assign
 
 pub ruleset takes_assignment_targets = (no_declaration_is_an_assignment_target, no_binding_pattern_is_an_assignment_target, no_statement_is_an_assignment_target, no_expression_is_an_assignment_target, each_assignment_target_is_an_assignment_target, no_class_element_is_an_assignment_target)
 
-pub ruleset takes_formal_parameters = (no_declaration_is_a_formal_parameter, no_binding_pattern_is_a_formal_parameter, no_statement_is_a_formal_parameter, no_expression_is_a_formal_parameter, no_assignment_target_is_a_formal_parameter, no_class_element_is_a_formal_parameter)
-
-pub ruleset takes_formal_parameter_rests = (no_declaration_is_a_formal_parameter_rest, no_binding_pattern_is_a_formal_parameter_rest, no_statement_is_a_formal_parameter_rest, no_expression_is_a_formal_parameter_rest, no_assignment_target_is_a_formal_parameter_rest, no_class_element_is_a_formal_parameter_rest)
-
-pub ruleset takes_binding_identifiers = (no_declaration_is_a_binding_identifier, no_statement_is_a_binding_identifier, no_expression_is_a_binding_identifier, no_assignment_target_is_a_binding_identifier, no_class_element_is_a_binding_identifier)
-
-pub ruleset takes_formal_parameterss = (no_declaration_is_a_formal_parameters, no_binding_pattern_is_a_formal_parameters, no_statement_is_a_formal_parameters, no_expression_is_a_formal_parameters, no_assignment_target_is_a_formal_parameters, no_class_element_is_a_formal_parameters)
-
-pub ruleset takes_function_bodys = (no_declaration_is_a_function_body, no_binding_pattern_is_a_function_body, no_statement_is_a_function_body, no_expression_is_a_function_body, no_assignment_target_is_a_function_body, no_class_element_is_a_function_body)
-
 pub ruleset takes_arrow_function_bodys = (no_declaration_is_an_arrow_function_body, no_binding_pattern_is_an_arrow_function_body, no_statement_is_an_arrow_function_body, each_expression_is_an_arrow_function_body, no_assignment_target_is_an_arrow_function_body, no_class_element_is_an_arrow_function_body)
 
 pub ruleset takes_for_statement_inits = (each_declaration_is_a_for_statement_init, no_binding_pattern_is_a_for_statement_init, no_statement_is_a_for_statement_init, each_expression_is_a_for_statement_init, no_assignment_target_is_a_for_statement_init, no_class_element_is_a_for_statement_init)
 
 pub ruleset takes_for_statement_lefts = (each_declaration_is_a_for_statement_left, no_binding_pattern_is_a_for_statement_left, no_statement_is_a_for_statement_left, no_expression_is_a_for_statement_left, each_assignment_target_is_a_for_statement_left, no_class_element_is_a_for_statement_left)
 
-pub ruleset takes_label_identifiers = (no_declaration_is_a_label_identifier, no_binding_pattern_is_a_label_identifier, no_statement_is_a_label_identifier, no_expression_is_a_label_identifier, no_assignment_target_is_a_label_identifier, no_class_element_is_a_label_identifier)
-
-pub ruleset takes_switch_cases = (no_declaration_is_a_switch_case, no_binding_pattern_is_a_switch_case, no_statement_is_a_switch_case, no_expression_is_a_switch_case, no_assignment_target_is_a_switch_case, no_class_element_is_a_switch_case)
-
-pub ruleset takes_block_statements = (no_declaration_is_a_block_statement, no_binding_pattern_is_a_block_statement, no_expression_is_a_block_statement, no_assignment_target_is_a_block_statement, no_class_element_is_a_block_statement)
-
-pub ruleset takes_catch_clauses = (no_declaration_is_a_catch_clause, no_binding_pattern_is_a_catch_clause, no_statement_is_a_catch_clause, no_expression_is_a_catch_clause, no_assignment_target_is_a_catch_clause, no_class_element_is_a_catch_clause)
-
-pub ruleset takes_binding_propertys = (no_declaration_is_a_binding_property, no_binding_pattern_is_a_binding_property, no_statement_is_a_binding_property, no_expression_is_a_binding_property, no_assignment_target_is_a_binding_property, no_class_element_is_a_binding_property)
-
-pub ruleset takes_binding_rest_elements = (no_declaration_is_a_binding_rest_element, no_binding_pattern_is_a_binding_rest_element, no_statement_is_a_binding_rest_element, no_expression_is_a_binding_rest_element, no_assignment_target_is_a_binding_rest_element, no_class_element_is_a_binding_rest_element)
-
 pub ruleset takes_assignment_target_maybe_defaults = (no_declaration_is_an_assignment_target_maybe_default, no_binding_pattern_is_an_assignment_target_maybe_default, no_statement_is_an_assignment_target_maybe_default, no_expression_is_an_assignment_target_maybe_default, each_assignment_target_is_an_assignment_target_maybe_default, no_class_element_is_an_assignment_target_maybe_default)
-
-pub ruleset takes_assignment_target_rests = (no_declaration_is_an_assignment_target_rest, no_binding_pattern_is_an_assignment_target_rest, no_statement_is_an_assignment_target_rest, no_expression_is_an_assignment_target_rest, no_assignment_target_is_an_assignment_target_rest, no_class_element_is_an_assignment_target_rest)
 
 pub ruleset takes_assignment_target_propertys = (no_declaration_is_an_assignment_target_property, no_binding_pattern_is_an_assignment_target_property, no_statement_is_an_assignment_target_property, no_expression_is_an_assignment_target_property, no_assignment_target_is_an_assignment_target_property, no_class_element_is_an_assignment_target_property)
 
-pub ruleset takes_identifier_references = (no_declaration_is_an_identifier_reference, no_binding_pattern_is_an_identifier_reference, no_statement_is_an_identifier_reference, no_expression_is_an_identifier_reference, no_assignment_target_is_an_identifier_reference, no_class_element_is_an_identifier_reference)
-
-pub ruleset takes_private_identifiers = (no_declaration_is_a_private_identifier, no_binding_pattern_is_a_private_identifier, no_statement_is_a_private_identifier, no_expression_is_a_private_identifier, no_assignment_target_is_a_private_identifier, no_class_element_is_a_private_identifier)
-
-pub ruleset takes_class_bodys = (no_declaration_is_a_class_body, no_binding_pattern_is_a_class_body, no_statement_is_a_class_body, no_expression_is_a_class_body, no_assignment_target_is_a_class_body, no_class_element_is_a_class_body)
-
 pub ruleset takes_class_elements = (no_declaration_is_a_class_element, no_binding_pattern_is_a_class_element, no_statement_is_a_class_element, no_expression_is_a_class_element, no_assignment_target_is_a_class_element, each_class_element_is_a_class_element)
 
-pub ruleset takes_functions = (no_declaration_is_a_function, no_binding_pattern_is_a_function, no_statement_is_a_function, no_expression_is_a_function, no_assignment_target_is_a_function, no_class_element_is_a_function)
+pub ruleset takes_import_declaration_specifiers = (no_declaration_is_an_import_declaration_specifier, no_binding_pattern_is_an_import_declaration_specifier, no_statement_is_an_import_declaration_specifier, no_expression_is_an_import_declaration_specifier, no_assignment_target_is_an_import_declaration_specifier, no_class_element_is_an_import_declaration_specifier)
+
+pub ruleset takes_module_export_names = (no_declaration_is_a_module_export_name, no_binding_pattern_is_a_module_export_name, no_statement_is_a_module_export_name, no_assignment_target_is_a_module_export_name, no_class_element_is_a_module_export_name)
+
+pub ruleset takes_import_attribute_keys = (no_declaration_is_an_import_attribute_key, no_binding_pattern_is_an_import_attribute_key, no_statement_is_an_import_attribute_key, no_assignment_target_is_an_import_attribute_key, no_class_element_is_an_import_attribute_key)
+
+pub ruleset takes_declarations = (each_declaration_is_a_declaration, no_binding_pattern_is_a_declaration, no_statement_is_a_declaration, no_expression_is_a_declaration, no_assignment_target_is_a_declaration, no_class_element_is_a_declaration)
+
+pub ruleset takes_export_default_declaration_kinds = (no_declaration_is_an_export_default_declaration_kind, no_binding_pattern_is_an_export_default_declaration_kind, no_statement_is_an_export_default_declaration_kind, each_expression_is_an_export_default_declaration_kind, no_assignment_target_is_an_export_default_declaration_kind, no_class_element_is_an_export_default_declaration_kind)

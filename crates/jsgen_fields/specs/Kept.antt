@@ -2,7 +2,7 @@
 -- The plain data of what the reader keeps.
 use Rattle.std.specs.Prelude.{List}
 use Rattle.jsgen_tree.specs.Tree.{Tree}
-use Rattle.jsgen_tree.specs.Rows.{program_row, comment_row, directive_row, variable_declarator_row, identifier_reference_row, identifier_name_row, static_member_expression_row, computed_member_expression_row, spread_element_row, object_property_row, formal_parameter_row, formal_parameter_rest_row, formal_parameters_row, function_row, function_body_row, label_identifier_row, switch_case_row, catch_clause_row, binding_property_row, binding_rest_element_row, assignment_target_with_default_row, assignment_target_property_identifier_row, assignment_target_property_property_row, assignment_target_rest_row, private_identifier_row, private_field_expression_row, class_row, class_body_row, expression_plain, assignment_target_plain, declaration_plain, statement_plain, binding_pattern_plain, class_element_plain}
+use Rattle.jsgen_tree.specs.Rows.{program_row, comment_row, directive_row, variable_declarator_row, identifier_reference_row, identifier_name_row, static_member_expression_row, computed_member_expression_row, spread_element_row, object_property_row, formal_parameter_row, formal_parameter_rest_row, formal_parameters_row, function_row, function_body_row, template_element_row, label_identifier_row, switch_case_row, catch_clause_row, binding_property_row, binding_rest_element_row, assignment_target_with_default_row, assignment_target_property_identifier_row, assignment_target_property_property_row, assignment_target_rest_row, private_identifier_row, private_field_expression_row, class_row, class_body_row, hashbang_row, import_default_specifier_row, import_namespace_specifier_row, import_specifier_row, with_clause_row, import_attribute_row, export_specifier_row, expression_plain, assignment_target_plain, declaration_plain, statement_plain, binding_pattern_plain, class_element_plain}
 use Rattle.jsgen_pool.specs.Pool.{Entry}
 use Rattle.jsgen_pool.specs.declared.Kept.{Kept}
 use Rattle.jsgen_fields.specs.declared.kept.Row.{Row}
@@ -30,6 +30,7 @@ row_plain plain (rows.FormalParameterRest b) = formal_parameter_rest_row plain b
 row_plain plain (rows.FormalParameters b) = formal_parameters_row plain b.value
 row_plain plain (rows.Function b) = function_row plain b.value
 row_plain plain (rows.FunctionBody b) = function_body_row plain b.value
+row_plain plain (rows.TemplateElement b) = template_element_row b.value
 row_plain plain (rows.LabelIdentifier b) = label_identifier_row b.value
 row_plain plain (rows.SwitchCase b) = switch_case_row plain b.value
 row_plain plain (rows.CatchClause b) = catch_clause_row plain b.value
@@ -45,6 +46,13 @@ row_plain plain (rows.PrivateFieldExpression b) = private_field_expression_row p
 row_plain plain (rows.Class b) = class_row plain b.value
 row_plain plain (rows.ClassBody b) = class_body_row plain b.value
 row_plain plain (rows.ClassElement b) = class_element_plain plain b.value
+row_plain plain (rows.Hashbang b) = hashbang_row b.value
+row_plain plain (rows.ImportDefaultSpecifier b) = import_default_specifier_row b.value
+row_plain plain (rows.ImportNamespaceSpecifier b) = import_namespace_specifier_row b.value
+row_plain plain (rows.ImportSpecifier b) = import_specifier_row b.value
+row_plain plain (rows.WithClause b) = with_clause_row b.value
+row_plain plain (rows.ImportAttribute b) = import_attribute_row b.value
+row_plain plain (rows.ExportSpecifier b) = export_specifier_row b.value
 
 abbrev pub any_row_plain : {N : Type 0} → (N → Tree) → AnyRow N → Tree
 any_row_plain plain any = row_plain plain any.row

@@ -65,7 +65,16 @@ is_in_functions types.FormalParameters = true
 is_in_functions types.Function = true
 is_in_functions types.FunctionBody = true
 is_in_functions types.ArrowFunctionExpression = true
+is_in_functions types.AwaitExpression = true
+is_in_functions types.YieldExpression = true
 is_in_functions other = false
+
+abbrev pub is_in_templates : NodeType → Bool
+is_in_templates types.TemplateElement = true
+is_in_templates types.TemplateLiteral = true
+is_in_templates types.TaggedTemplateExpression = true
+is_in_templates types.ImportExpression = true
+is_in_templates other = false
 
 abbrev pub is_in_loops : NodeType → Bool
 is_in_loops types.ForStatement = true
@@ -105,3 +114,14 @@ is_in_targets types.AssignmentTargetPropertyIdentifier = true
 is_in_targets types.AssignmentTargetPropertyProperty = true
 is_in_targets types.AssignmentTargetRest = true
 is_in_targets other = false
+
+abbrev pub is_in_classes : NodeType → Bool
+is_in_classes types.PrivateIdentifier = true
+is_in_classes types.PrivateFieldExpression = true
+is_in_classes types.PrivateInExpression = true
+is_in_classes types.Class = true
+is_in_classes types.ClassBody = true
+is_in_classes types.StaticBlock = true
+is_in_classes types.MethodDefinition = true
+is_in_classes types.PropertyDefinition = true
+is_in_classes other = false

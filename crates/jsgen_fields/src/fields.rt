@@ -1,10 +1,10 @@
 // Fields that hold children.
 ghost use Rattle.std.specs.Prelude.{◌≡◌, Ok, true, false, map, option_map};
 ghost use Rattle.serde_json.specs.View.{view};
-ghost use Rattle.jsgen_tree.specs.Tree.{optional, trees, holed};
-ghost use Rattle.jsgen_tree.specs.Table.{needed, may_be_absent, child, children, children_or_holes};
+ghost use Rattle.jsgen_tree.specs.Tree.{optional, optional_list, trees, holed};
+ghost use Rattle.jsgen_tree.specs.Table.{needed, may_be_absent, child, children, maybe_children, children_or_holes};
 ghost use Rattle.jsgen_fields.specs.Values.{Same, at, field as value_under};
-ghost use Rattle.jsgen_fields.specs.Meaning.{a_child, a_maybe, a_list};
+ghost use Rattle.jsgen_fields.specs.Meaning.{a_child, a_maybe, a_list, a_maybe_list};
 ghost use Rattle.jsgen_fields.specs.Reads.{Gives, read_children};
 ghost use Rattle.jsgen_pool.specs.Pool.{entries};
 
@@ -78,6 +78,33 @@ pub fn children<N: PlainNode, R: RowOf<N> + Drop, C: Child<N> + Drop>(
             Err(fault) => Err(fault),
         },
         Ok(None) => Ok(Vec::new(alloc)),
+        Err(fault) => Err(fault),
+    }
+}
+
+/// A list, or none where it is absent.
+#[tactic(auto, unfolding(crate::specs::Reads::read_children))]
+pub fn optional_children<N: PlainNode, R: RowOf<N> + Drop, C: Child<N> + Drop>(
+    alloc: Global,
+    kept: &mut Vec<Kept<R>>,
+    number: usize,
+    field: usize,
+    row: &Value,
+    name: &str,
+) -> Result<Option<Vec<C>>, InputFault>
+    ensures { Gives (λ o. a_maybe_list (optional_list (option_map (λ v. map C.plain v.items) o))) result (entries R.plain kept.new.items)
+        (read_children (at number field) false may_be_absent (maybe_children C.of_set) (value_under name.now (view row.now)) (entries R.plain kept.old.items)) }
+{
+    let at = At::of_row(number, field);
+    match optional_value(at, row, name) {
+        Ok(Some(value)) => match items_in(at, value) {
+            Ok(items) => match take_all::<N, R, C>(alloc, kept, at, items) {
+                Ok(children) => Ok(Some(children)),
+                Err(fault) => Err(fault),
+            },
+            Err(fault) => Err(fault),
+        },
+        Ok(None) => Ok(None),
         Err(fault) => Err(fault),
     }
 }

@@ -3,7 +3,7 @@
 ghost use Rattle.std.specs.Prelude.{◌≡◌, IfOk, Some, None, option_map, if◌then◌else◌, Ok};
 ghost use Rattle.jsgen_tree.specs.Tree.{type_of};
 ghost use Rattle.jsgen_tree.specs.Sets.{in_set};
-ghost use Rattle.jsgen_tree.specs.Rows.{program_row, comment_row, directive_row, variable_declarator_row, identifier_reference_row, identifier_name_row, static_member_expression_row, computed_member_expression_row, spread_element_row, object_property_row, formal_parameter_row, formal_parameter_rest_row, formal_parameters_row, function_row, function_body_row, label_identifier_row, switch_case_row, catch_clause_row, binding_property_row, binding_rest_element_row, assignment_target_with_default_row, assignment_target_property_identifier_row, assignment_target_property_property_row, assignment_target_rest_row, private_identifier_row, private_field_expression_row, class_row, class_body_row, expression_plain, assignment_target_plain, declaration_plain, statement_plain, binding_pattern_plain, class_element_plain, expression_plain, assignment_target_plain, declaration_plain, statement_plain, binding_pattern_plain, class_element_plain, program_row};
+ghost use Rattle.jsgen_tree.specs.Rows.{program_row, comment_row, directive_row, variable_declarator_row, identifier_reference_row, identifier_name_row, static_member_expression_row, computed_member_expression_row, spread_element_row, object_property_row, formal_parameter_row, formal_parameter_rest_row, formal_parameters_row, function_row, function_body_row, template_element_row, label_identifier_row, switch_case_row, catch_clause_row, binding_property_row, binding_rest_element_row, assignment_target_with_default_row, assignment_target_property_identifier_row, assignment_target_property_property_row, assignment_target_rest_row, private_identifier_row, private_field_expression_row, class_row, class_body_row, hashbang_row, import_default_specifier_row, import_namespace_specifier_row, import_specifier_row, with_clause_row, import_attribute_row, export_specifier_row, expression_plain, assignment_target_plain, declaration_plain, statement_plain, binding_pattern_plain, class_element_plain, expression_plain, assignment_target_plain, declaration_plain, statement_plain, binding_pattern_plain, class_element_plain, program_row};
 ghost use Rattle.jsgen_fields.specs.Kept.{row_plain, any_row_plain};
 ghost use Rattle.jsgen_fields.specs.Values.{Same};
 ghost use Rattle.jsgen_fields.specs.Meaning.{is_program};
@@ -16,11 +16,12 @@ use jsgen_tree::{
     AssignmentTarget, AssignmentTargetPropertyIdentifier, AssignmentTargetPropertyProperty,
     AssignmentTargetRest, AssignmentTargetWithDefault, BindingPattern, BindingProperty,
     BindingRestElement, CatchClause, Class, ClassBody, ClassElement, Comment,
-    ComputedMemberExpression, Declaration, Directive, Expression, FormalParameter,
-    FormalParameterRest, FormalParameters, Function, FunctionBody, IdentifierName,
-    IdentifierReference, LabelIdentifier, Node, NodeType, ObjectProperty, PrivateFieldExpression,
+    ComputedMemberExpression, Declaration, Directive, ExportSpecifier, Expression, FormalParameter,
+    FormalParameterRest, FormalParameters, Function, FunctionBody, Hashbang, IdentifierName,
+    IdentifierReference, ImportAttribute, ImportDefaultSpecifier, ImportNamespaceSpecifier,
+    ImportSpecifier, LabelIdentifier, Node, NodeType, ObjectProperty, PrivateFieldExpression,
     PrivateIdentifier, Program, SpreadElement, Statement, StaticMemberExpression, SwitchCase,
-    VariableDeclarator,
+    TemplateElement, VariableDeclarator, WithClause,
 };
 use std::alloc::{AllocError, Global};
 
@@ -47,6 +48,7 @@ pub enum Row<N = Node> {
     FormalParameters(Box<FormalParameters<N>>),
     Function(Box<Function<N>>),
     FunctionBody(Box<FunctionBody<N>>),
+    TemplateElement(Box<TemplateElement>),
     LabelIdentifier(Box<LabelIdentifier>),
     SwitchCase(Box<SwitchCase<N>>),
     CatchClause(Box<CatchClause<N>>),
@@ -62,6 +64,13 @@ pub enum Row<N = Node> {
     Class(Box<Class<N>>),
     ClassBody(Box<ClassBody<N>>),
     ClassElement(Box<ClassElement<N>>),
+    Hashbang(Box<Hashbang>),
+    ImportDefaultSpecifier(Box<ImportDefaultSpecifier>),
+    ImportNamespaceSpecifier(Box<ImportNamespaceSpecifier>),
+    ImportSpecifier(Box<ImportSpecifier>),
+    WithClause(Box<WithClause>),
+    ImportAttribute(Box<ImportAttribute>),
+    ExportSpecifier(Box<ExportSpecifier>),
 }
 
 impl<N: Drop> Row<N> {
@@ -108,6 +117,7 @@ impl<N: ReadNode> Typed for AnyRow<N> {
             Row::FormalParameters(_) => NodeType::FormalParameters,
             Row::Function(_) => NodeType::Function,
             Row::FunctionBody(_) => NodeType::FunctionBody,
+            Row::TemplateElement(_) => NodeType::TemplateElement,
             Row::LabelIdentifier(_) => NodeType::LabelIdentifier,
             Row::SwitchCase(_) => NodeType::SwitchCase,
             Row::CatchClause(_) => NodeType::CatchClause,
@@ -124,6 +134,13 @@ impl<N: ReadNode> Typed for AnyRow<N> {
             Row::Class(_) => NodeType::Class,
             Row::ClassBody(_) => NodeType::ClassBody,
             Row::ClassElement(row) => N::class_element_type(&**row),
+            Row::Hashbang(_) => NodeType::Hashbang,
+            Row::ImportDefaultSpecifier(_) => NodeType::ImportDefaultSpecifier,
+            Row::ImportNamespaceSpecifier(_) => NodeType::ImportNamespaceSpecifier,
+            Row::ImportSpecifier(_) => NodeType::ImportSpecifier,
+            Row::WithClause(_) => NodeType::WithClause,
+            Row::ImportAttribute(_) => NodeType::ImportAttribute,
+            Row::ExportSpecifier(_) => NodeType::ExportSpecifier,
         }
     }
 }
@@ -315,6 +332,14 @@ pub fn row_of_function_body<N: PlainNode + Drop, R: RowOf<N>>(
     R::of_row(Row::FunctionBody(function_body))
 }
 
+pub fn row_of_template_element<N: PlainNode + Drop, R: RowOf<N>>(
+    template_element: Box<TemplateElement>,
+) -> R
+    ensures { R.plain result ≡ template_element_row template_element.value }
+{
+    R::of_row(Row::TemplateElement(template_element))
+}
+
 pub fn row_of_label_identifier<N: PlainNode + Drop, R: RowOf<N>>(
     label_identifier: Box<LabelIdentifier>,
 ) -> R
@@ -429,4 +454,56 @@ pub fn row_of_class_element<N: PlainNode + Drop, R: RowOf<N>>(
 {
     let class_element = Box::new(alloc, class_element)?;
     Ok(R::of_row(Row::ClassElement(class_element)))
+}
+
+pub fn row_of_hashbang<N: PlainNode + Drop, R: RowOf<N>>(hashbang: Box<Hashbang>) -> R
+    ensures { R.plain result ≡ hashbang_row hashbang.value }
+{
+    R::of_row(Row::Hashbang(hashbang))
+}
+
+pub fn row_of_import_default_specifier<N: PlainNode + Drop, R: RowOf<N>>(
+    import_default_specifier: Box<ImportDefaultSpecifier>,
+) -> R
+    ensures { R.plain result ≡ import_default_specifier_row import_default_specifier.value }
+{
+    R::of_row(Row::ImportDefaultSpecifier(import_default_specifier))
+}
+
+pub fn row_of_import_namespace_specifier<N: PlainNode + Drop, R: RowOf<N>>(
+    import_namespace_specifier: Box<ImportNamespaceSpecifier>,
+) -> R
+    ensures { R.plain result ≡ import_namespace_specifier_row import_namespace_specifier.value }
+{
+    R::of_row(Row::ImportNamespaceSpecifier(import_namespace_specifier))
+}
+
+pub fn row_of_import_specifier<N: PlainNode + Drop, R: RowOf<N>>(
+    import_specifier: Box<ImportSpecifier>,
+) -> R
+    ensures { R.plain result ≡ import_specifier_row import_specifier.value }
+{
+    R::of_row(Row::ImportSpecifier(import_specifier))
+}
+
+pub fn row_of_with_clause<N: PlainNode + Drop, R: RowOf<N>>(with_clause: Box<WithClause>) -> R
+    ensures { R.plain result ≡ with_clause_row with_clause.value }
+{
+    R::of_row(Row::WithClause(with_clause))
+}
+
+pub fn row_of_import_attribute<N: PlainNode + Drop, R: RowOf<N>>(
+    import_attribute: Box<ImportAttribute>,
+) -> R
+    ensures { R.plain result ≡ import_attribute_row import_attribute.value }
+{
+    R::of_row(Row::ImportAttribute(import_attribute))
+}
+
+pub fn row_of_export_specifier<N: PlainNode + Drop, R: RowOf<N>>(
+    export_specifier: Box<ExportSpecifier>,
+) -> R
+    ensures { R.plain result ≡ export_specifier_row export_specifier.value }
+{
+    R::of_row(Row::ExportSpecifier(export_specifier))
 }

@@ -7,11 +7,14 @@ ghost use Rattle.jsgen_fields.specs.Values.{at, head};
 ghost use Rattle.jsgen_fields.specs.declared.InputFault.TheVariants as faults;
 
 pub mod asked;
+mod child_nodes;
 mod child_sets;
+mod child_types;
 mod children;
 pub mod fields;
 pub mod floats;
 pub mod kept;
+pub mod list_fields;
 mod members;
 mod names;
 pub mod others;

@@ -54,14 +54,23 @@ const TYPE_NAMES: [(&str, NodeType); 50] = [
     ("Function", NodeType::Function),
     ("FunctionBody", NodeType::FunctionBody),
     ("ArrowFunctionExpression", NodeType::ArrowFunctionExpression),
+    ("AwaitExpression", NodeType::AwaitExpression),
+    ("YieldExpression", NodeType::YieldExpression),
+    ("TemplateElement", NodeType::TemplateElement),
+    ("TemplateLiteral", NodeType::TemplateLiteral),
+    (
+        "TaggedTemplateExpression",
+        NodeType::TaggedTemplateExpression,
+    ),
+];
+
+const TYPE_NAMES_2: [(&str, NodeType); 49] = [
+    ("ImportExpression", NodeType::ImportExpression),
     ("ForStatement", NodeType::ForStatement),
     ("ForInStatement", NodeType::ForInStatement),
     ("ForOfStatement", NodeType::ForOfStatement),
     ("WhileStatement", NodeType::WhileStatement),
     ("DoWhileStatement", NodeType::DoWhileStatement),
-];
-
-const TYPE_NAMES_2: [(&str, NodeType); 30] = [
     ("LabelIdentifier", NodeType::LabelIdentifier),
     ("LabeledStatement", NodeType::LabeledStatement),
     ("ContinueStatement", NodeType::ContinueStatement),
@@ -101,6 +110,25 @@ const TYPE_NAMES_2: [(&str, NodeType); 30] = [
     ("StaticBlock", NodeType::StaticBlock),
     ("MethodDefinition", NodeType::MethodDefinition),
     ("PropertyDefinition", NodeType::PropertyDefinition),
+    ("Hashbang", NodeType::Hashbang),
+    ("ImportDeclaration", NodeType::ImportDeclaration),
+    ("ImportDefaultSpecifier", NodeType::ImportDefaultSpecifier),
+    (
+        "ImportNamespaceSpecifier",
+        NodeType::ImportNamespaceSpecifier,
+    ),
+    ("ImportSpecifier", NodeType::ImportSpecifier),
+    ("WithClause", NodeType::WithClause),
+    ("ImportAttribute", NodeType::ImportAttribute),
+    ("ExportDeclaration", NodeType::ExportDeclaration),
+    ("ExportNamedDeclaration", NodeType::ExportNamedDeclaration),
+    ("ExportFromDeclaration", NodeType::ExportFromDeclaration),
+    ("ExportSpecifier", NodeType::ExportSpecifier),
+    ("ExportAllDeclaration", NodeType::ExportAllDeclaration),
+    (
+        "ExportDefaultDeclaration",
+        NodeType::ExportDefaultDeclaration,
+    ),
 ];
 
 fn first_named(names: &[(&str, NodeType)], name: &str) -> Option<NodeType>

@@ -1,90 +1,47 @@
 // Generated from tools/nodes/table.txt; edit that and run tools/nodes/generate.
-// Fields that hold children, by set: a row that calls one of these passes no impl of `Child`, which would be proved at each call.
-ghost use Rattle.std.specs.Prelude.{true, false, map, option_map};
+// Fields that hold single children, by set: a row that calls one of these passes no impl of `Child`, which would be proved at each call.
+ghost use Rattle.std.specs.Prelude.{true, false, option_map};
 ghost use Rattle.serde_json.specs.View.{view};
-ghost use Rattle.jsgen_tree.specs.Tree.{optional, trees, holed};
-ghost use Rattle.jsgen_tree.specs.Table.{needed, may_be_absent, child, children as many, children_or_holes as many_or_holes};
-ghost use Rattle.jsgen_tree.specs.Rows.{in_expression, in_argument, in_array_expression_element, in_chain_element, in_simple_assignment_target, in_assignment_target, in_assignment_target_maybe_default, in_assignment_target_property, in_arrow_function_body, in_for_statement_init, in_for_statement_left, in_object_property_kind, in_property_key, in_statement, in_binding_pattern, in_class_element, comment_row, directive_row, variable_declarator_row, binding_identifier_row, block_statement_row, identifier_reference_row, identifier_name_row, formal_parameter_row, formal_parameter_rest_row, formal_parameters_row, function_row, function_body_row, label_identifier_row, switch_case_row, catch_clause_row, binding_property_row, binding_rest_element_row, assignment_target_rest_row, private_identifier_row, class_body_row};
+ghost use Rattle.jsgen_tree.specs.Tree.{optional};
+ghost use Rattle.jsgen_tree.specs.Table.{needed, may_be_absent, child};
+ghost use Rattle.jsgen_tree.specs.Rows.{in_expression, in_chain_element, in_simple_assignment_target, in_assignment_target, in_assignment_target_maybe_default, in_arrow_function_body, in_for_statement_init, in_for_statement_left, in_property_key, in_declaration, in_statement, in_binding_pattern, in_module_export_name, in_import_attribute_key, in_export_default_declaration_kind, binding_identifier_row, block_statement_row, identifier_reference_row, string_literal_row, identifier_name_row, formal_parameter_rest_row, formal_parameters_row, function_row, function_body_row, template_literal_row, label_identifier_row, catch_clause_row, binding_rest_element_row, assignment_target_rest_row, private_identifier_row, class_body_row, hashbang_row, with_clause_row};
 ghost use Rattle.jsgen_fields.specs.Values.{at, field as value_under};
-ghost use Rattle.jsgen_fields.specs.Meaning.{a_child, a_maybe, a_list};
+ghost use Rattle.jsgen_fields.specs.Meaning.{a_child, a_maybe};
 ghost use Rattle.jsgen_fields.specs.Reads.{Gives, read_children};
 ghost use Rattle.jsgen_pool.specs.Pool.{entries};
 ghost use Rattle.jsgen_tree.specs.declared.types.NodeSet.TheVariants as sets;
 
 use crate::InputFault;
 use crate::asked::{
-    HoldsAssignmentTarget, HoldsBindingPattern, HoldsClassElement, HoldsDeclaration,
-    HoldsExpression, HoldsStatement, PlainNode, RowOf,
+    HoldsAssignmentTarget, HoldsBindingPattern, HoldsDeclaration, HoldsExpression, HoldsStatement,
+    PlainNode, RowOf,
 };
-use crate::fields::{children, children_or_holes, needed_child, optional_child};
+use crate::fields::{needed_child, optional_child};
 use jsgen_pool::Kept;
 use jsgen_tree::{
-    Argument, ArrayExpressionElement, ArrowFunctionBody, AssignmentTargetMaybeDefault,
-    AssignmentTargetNode, AssignmentTargetProperty, AssignmentTargetRest, BindingIdentifier,
-    BindingPatternNode, BindingProperty, BindingRestElement, BlockStatement, CatchClause,
-    ChainElement, ClassBody, ClassElementNode, Comment, Directive, ExpressionNode,
-    ForStatementInit, ForStatementLeft, FormalParameter, FormalParameterRest, FormalParameters,
-    Function, FunctionBody, IdentifierName, IdentifierReference, LabelIdentifier,
-    ObjectPropertyKind, PrivateIdentifier, PropertyKey, SimpleAssignmentTarget, StatementNode,
-    SwitchCase, VariableDeclarator,
+    ArrowFunctionBody, AssignmentTargetMaybeDefault, AssignmentTargetNode, AssignmentTargetRest,
+    BindingIdentifier, BindingPatternNode, BindingRestElement, BlockStatement, CatchClause,
+    ChainElement, ClassBody, DeclarationNode, ExportDefaultDeclarationKind, ExpressionNode,
+    ForStatementInit, ForStatementLeft, FormalParameterRest, FormalParameters, Function,
+    FunctionBody, Hashbang, IdentifierName, IdentifierReference, ImportAttributeKey,
+    LabelIdentifier, ModuleExportName, PrivateIdentifier, PropertyKey, SimpleAssignmentTarget,
+    StatementNode, StringLiteral, TemplateLiteral, WithClause,
 };
 use serde_json::Value;
 use std::alloc::Global;
 
-pub fn comment_list<N: PlainNode + Drop, R: RowOf<N> + Drop>(
+pub fn optional_hashbang<N: PlainNode + Drop, R: RowOf<N> + Drop>(
     alloc: Global,
     kept: &mut Vec<Kept<R>>,
     number: usize,
     field: usize,
     row: &Value,
     name: &str,
-) -> Result<Vec<Comment>, InputFault>
-    ensures { Gives (λ v. a_list (trees (map comment_row v.items))) result (entries R.plain kept.new.items)
-        (read_children (at number field) false may_be_absent (many sets.Comment) (value_under name.now (view row.now)) (entries R.plain kept.old.items)) }
+) -> Result<Option<Box<Hashbang>>, InputFault>
+    ensures { Gives (λ o. a_maybe (optional (option_map (λ b. hashbang_row b.value) o))) result (entries R.plain kept.new.items)
+        (read_children (at number field) false may_be_absent (child sets.Hashbang) (value_under name.now (view row.now)) (entries R.plain kept.old.items)) }
 {
-    children::<N, R, _>(alloc, kept, number, field, row, name)
-}
-
-pub fn directive_list<N: PlainNode + Drop, R: RowOf<N> + Drop>(
-    alloc: Global,
-    kept: &mut Vec<Kept<R>>,
-    number: usize,
-    field: usize,
-    row: &Value,
-    name: &str,
-) -> Result<Vec<Directive>, InputFault>
-    ensures { Gives (λ v. a_list (trees (map directive_row v.items))) result (entries R.plain kept.new.items)
-        (read_children (at number field) false may_be_absent (many sets.Directive) (value_under name.now (view row.now)) (entries R.plain kept.old.items)) }
-{
-    children::<N, R, _>(alloc, kept, number, field, row, name)
-}
-
-pub fn statement_list<N: HoldsDeclaration + HoldsStatement + Drop, R: RowOf<N> + Drop>(
-    alloc: Global,
-    kept: &mut Vec<Kept<R>>,
-    number: usize,
-    field: usize,
-    row: &Value,
-    name: &str,
-) -> Result<Vec<StatementNode<N>>, InputFault>
-    ensures { Gives (λ v. a_list (trees (map (in_statement N.plain) v.items))) result (entries R.plain kept.new.items)
-        (read_children (at number field) false may_be_absent (many sets.Statement) (value_under name.now (view row.now)) (entries R.plain kept.old.items)) }
-{
-    children::<N, R, _>(alloc, kept, number, field, row, name)
-}
-
-pub fn variable_declarator_list<N: PlainNode + Drop, R: RowOf<N> + Drop>(
-    alloc: Global,
-    kept: &mut Vec<Kept<R>>,
-    number: usize,
-    field: usize,
-    row: &Value,
-    name: &str,
-) -> Result<Vec<VariableDeclarator<N>>, InputFault>
-    ensures { Gives (λ v. a_list (trees (map (variable_declarator_row N.plain) v.items))) result (entries R.plain kept.new.items)
-        (read_children (at number field) false may_be_absent (many sets.VariableDeclarator) (value_under name.now (view row.now)) (entries R.plain kept.old.items)) }
-{
-    children::<N, R, _>(alloc, kept, number, field, row, name)
+    optional_child::<N, R, _>(alloc, kept, number, field, row, name)
 }
 
 pub fn needed_binding_pattern<N: HoldsBindingPattern + Drop, R: RowOf<N> + Drop>(
@@ -171,20 +128,6 @@ pub fn needed_identifier_name<N: PlainNode + Drop, R: RowOf<N> + Drop>(
     needed_child::<N, R, _>(alloc, kept, number, field, row, name)
 }
 
-pub fn argument_list<N: HoldsExpression + Drop, R: RowOf<N> + Drop>(
-    alloc: Global,
-    kept: &mut Vec<Kept<R>>,
-    number: usize,
-    field: usize,
-    row: &Value,
-    name: &str,
-) -> Result<Vec<Argument<N>>, InputFault>
-    ensures { Gives (λ v. a_list (trees (map (in_argument N.plain) v.items))) result (entries R.plain kept.new.items)
-        (read_children (at number field) false may_be_absent (many sets.Argument) (value_under name.now (view row.now)) (entries R.plain kept.old.items)) }
-{
-    children::<N, R, _>(alloc, kept, number, field, row, name)
-}
-
 pub fn needed_chain_element<N: PlainNode + Drop, R: RowOf<N> + Drop>(
     alloc: Global,
     kept: &mut Vec<Kept<R>>,
@@ -197,20 +140,6 @@ pub fn needed_chain_element<N: PlainNode + Drop, R: RowOf<N> + Drop>(
         (read_children (at number field) true needed (child sets.ChainElement) (value_under name.now (view row.now)) (entries R.plain kept.old.items)) }
 {
     needed_child::<N, R, _>(alloc, kept, number, field, row, name)
-}
-
-pub fn array_expression_element_or_hole_list<N: HoldsExpression + Drop, R: RowOf<N> + Drop>(
-    alloc: Global,
-    kept: &mut Vec<Kept<R>>,
-    number: usize,
-    field: usize,
-    row: &Value,
-    name: &str,
-) -> Result<Vec<Option<ArrayExpressionElement<N>>>, InputFault>
-    ensures { Gives (λ v. a_list (holed (map (option_map (in_array_expression_element N.plain)) v.items))) result (entries R.plain kept.new.items)
-        (read_children (at number field) false may_be_absent (many_or_holes sets.ArrayExpressionElement) (value_under name.now (view row.now)) (entries R.plain kept.old.items)) }
-{
-    children_or_holes::<N, R, _>(alloc, kept, number, field, row, name)
 }
 
 pub fn needed_property_key<N: HoldsExpression + Drop, R: RowOf<N> + Drop>(
@@ -227,20 +156,6 @@ pub fn needed_property_key<N: HoldsExpression + Drop, R: RowOf<N> + Drop>(
     needed_child::<N, R, _>(alloc, kept, number, field, row, name)
 }
 
-pub fn object_property_kind_list<N: PlainNode + Drop, R: RowOf<N> + Drop>(
-    alloc: Global,
-    kept: &mut Vec<Kept<R>>,
-    number: usize,
-    field: usize,
-    row: &Value,
-    name: &str,
-) -> Result<Vec<ObjectPropertyKind<N>>, InputFault>
-    ensures { Gives (λ v. a_list (trees (map (in_object_property_kind N.plain) v.items))) result (entries R.plain kept.new.items)
-        (read_children (at number field) false may_be_absent (many sets.ObjectPropertyKind) (value_under name.now (view row.now)) (entries R.plain kept.old.items)) }
-{
-    children::<N, R, _>(alloc, kept, number, field, row, name)
-}
-
 pub fn needed_simple_assignment_target<N: PlainNode + Drop, R: RowOf<N> + Drop>(
     alloc: Global,
     kept: &mut Vec<Kept<R>>,
@@ -255,20 +170,6 @@ pub fn needed_simple_assignment_target<N: PlainNode + Drop, R: RowOf<N> + Drop>(
     needed_child::<N, R, _>(alloc, kept, number, field, row, name)
 }
 
-pub fn expression_list<N: HoldsExpression + Drop, R: RowOf<N> + Drop>(
-    alloc: Global,
-    kept: &mut Vec<Kept<R>>,
-    number: usize,
-    field: usize,
-    row: &Value,
-    name: &str,
-) -> Result<Vec<ExpressionNode<N>>, InputFault>
-    ensures { Gives (λ v. a_list (trees (map (in_expression N.plain) v.items))) result (entries R.plain kept.new.items)
-        (read_children (at number field) false may_be_absent (many sets.Expression) (value_under name.now (view row.now)) (entries R.plain kept.old.items)) }
-{
-    children::<N, R, _>(alloc, kept, number, field, row, name)
-}
-
 pub fn needed_assignment_target<N: HoldsAssignmentTarget + Drop, R: RowOf<N> + Drop>(
     alloc: Global,
     kept: &mut Vec<Kept<R>>,
@@ -281,20 +182,6 @@ pub fn needed_assignment_target<N: HoldsAssignmentTarget + Drop, R: RowOf<N> + D
         (read_children (at number field) true needed (child sets.AssignmentTarget) (value_under name.now (view row.now)) (entries R.plain kept.old.items)) }
 {
     needed_child::<N, R, _>(alloc, kept, number, field, row, name)
-}
-
-pub fn formal_parameter_list<N: PlainNode + Drop, R: RowOf<N> + Drop>(
-    alloc: Global,
-    kept: &mut Vec<Kept<R>>,
-    number: usize,
-    field: usize,
-    row: &Value,
-    name: &str,
-) -> Result<Vec<FormalParameter<N>>, InputFault>
-    ensures { Gives (λ v. a_list (trees (map (formal_parameter_row N.plain) v.items))) result (entries R.plain kept.new.items)
-        (read_children (at number field) false may_be_absent (many sets.FormalParameter) (value_under name.now (view row.now)) (entries R.plain kept.old.items)) }
-{
-    children::<N, R, _>(alloc, kept, number, field, row, name)
 }
 
 pub fn optional_formal_parameter_rest<N: PlainNode + Drop, R: RowOf<N> + Drop>(
@@ -367,6 +254,20 @@ pub fn needed_arrow_function_body<N: HoldsExpression + Drop, R: RowOf<N> + Drop>
     needed_child::<N, R, _>(alloc, kept, number, field, row, name)
 }
 
+pub fn needed_template_literal<N: PlainNode + Drop, R: RowOf<N> + Drop>(
+    alloc: Global,
+    kept: &mut Vec<Kept<R>>,
+    number: usize,
+    field: usize,
+    row: &Value,
+    name: &str,
+) -> Result<Box<TemplateLiteral<N>>, InputFault>
+    ensures { Gives (λ c. a_child (template_literal_row N.plain c.value)) result (entries R.plain kept.new.items)
+        (read_children (at number field) true needed (child sets.TemplateLiteral) (value_under name.now (view row.now)) (entries R.plain kept.old.items)) }
+{
+    needed_child::<N, R, _>(alloc, kept, number, field, row, name)
+}
+
 pub fn optional_for_statement_init<N: HoldsExpression + Drop, R: RowOf<N> + Drop>(
     alloc: Global,
     kept: &mut Vec<Kept<R>>,
@@ -421,20 +322,6 @@ pub fn optional_label_identifier<N: PlainNode + Drop, R: RowOf<N> + Drop>(
         (read_children (at number field) false may_be_absent (child sets.LabelIdentifier) (value_under name.now (view row.now)) (entries R.plain kept.old.items)) }
 {
     optional_child::<N, R, _>(alloc, kept, number, field, row, name)
-}
-
-pub fn switch_case_list<N: PlainNode + Drop, R: RowOf<N> + Drop>(
-    alloc: Global,
-    kept: &mut Vec<Kept<R>>,
-    number: usize,
-    field: usize,
-    row: &Value,
-    name: &str,
-) -> Result<Vec<SwitchCase<N>>, InputFault>
-    ensures { Gives (λ v. a_list (trees (map (switch_case_row N.plain) v.items))) result (entries R.plain kept.new.items)
-        (read_children (at number field) false may_be_absent (many sets.SwitchCase) (value_under name.now (view row.now)) (entries R.plain kept.old.items)) }
-{
-    children::<N, R, _>(alloc, kept, number, field, row, name)
 }
 
 pub fn needed_block_statement<N: PlainNode + Drop, R: RowOf<N> + Drop>(
@@ -493,20 +380,6 @@ pub fn optional_binding_pattern<N: HoldsBindingPattern + Drop, R: RowOf<N> + Dro
     optional_child::<N, R, _>(alloc, kept, number, field, row, name)
 }
 
-pub fn binding_property_list<N: PlainNode + Drop, R: RowOf<N> + Drop>(
-    alloc: Global,
-    kept: &mut Vec<Kept<R>>,
-    number: usize,
-    field: usize,
-    row: &Value,
-    name: &str,
-) -> Result<Vec<BindingProperty<N>>, InputFault>
-    ensures { Gives (λ v. a_list (trees (map (binding_property_row N.plain) v.items))) result (entries R.plain kept.new.items)
-        (read_children (at number field) false may_be_absent (many sets.BindingProperty) (value_under name.now (view row.now)) (entries R.plain kept.old.items)) }
-{
-    children::<N, R, _>(alloc, kept, number, field, row, name)
-}
-
 pub fn optional_binding_rest_element<N: PlainNode + Drop, R: RowOf<N> + Drop>(
     alloc: Global,
     kept: &mut Vec<Kept<R>>,
@@ -521,37 +394,6 @@ pub fn optional_binding_rest_element<N: PlainNode + Drop, R: RowOf<N> + Drop>(
     optional_child::<N, R, _>(alloc, kept, number, field, row, name)
 }
 
-pub fn binding_pattern_or_hole_list<N: HoldsBindingPattern + Drop, R: RowOf<N> + Drop>(
-    alloc: Global,
-    kept: &mut Vec<Kept<R>>,
-    number: usize,
-    field: usize,
-    row: &Value,
-    name: &str,
-) -> Result<Vec<Option<BindingPatternNode<N>>>, InputFault>
-    ensures { Gives (λ v. a_list (holed (map (option_map (in_binding_pattern N.plain)) v.items))) result (entries R.plain kept.new.items)
-        (read_children (at number field) false may_be_absent (many_or_holes sets.BindingPattern) (value_under name.now (view row.now)) (entries R.plain kept.old.items)) }
-{
-    children_or_holes::<N, R, _>(alloc, kept, number, field, row, name)
-}
-
-pub fn assignment_target_maybe_default_or_hole_list<
-    N: HoldsAssignmentTarget + Drop,
-    R: RowOf<N> + Drop,
->(
-    alloc: Global,
-    kept: &mut Vec<Kept<R>>,
-    number: usize,
-    field: usize,
-    row: &Value,
-    name: &str,
-) -> Result<Vec<Option<AssignmentTargetMaybeDefault<N>>>, InputFault>
-    ensures { Gives (λ v. a_list (holed (map (option_map (in_assignment_target_maybe_default N.plain)) v.items))) result (entries R.plain kept.new.items)
-        (read_children (at number field) false may_be_absent (many_or_holes sets.AssignmentTargetMaybeDefault) (value_under name.now (view row.now)) (entries R.plain kept.old.items)) }
-{
-    children_or_holes::<N, R, _>(alloc, kept, number, field, row, name)
-}
-
 pub fn optional_assignment_target_rest<N: PlainNode + Drop, R: RowOf<N> + Drop>(
     alloc: Global,
     kept: &mut Vec<Kept<R>>,
@@ -564,20 +406,6 @@ pub fn optional_assignment_target_rest<N: PlainNode + Drop, R: RowOf<N> + Drop>(
         (read_children (at number field) false may_be_absent (child sets.AssignmentTargetRest) (value_under name.now (view row.now)) (entries R.plain kept.old.items)) }
 {
     optional_child::<N, R, _>(alloc, kept, number, field, row, name)
-}
-
-pub fn assignment_target_property_list<N: PlainNode + Drop, R: RowOf<N> + Drop>(
-    alloc: Global,
-    kept: &mut Vec<Kept<R>>,
-    number: usize,
-    field: usize,
-    row: &Value,
-    name: &str,
-) -> Result<Vec<AssignmentTargetProperty<N>>, InputFault>
-    ensures { Gives (λ v. a_list (trees (map (in_assignment_target_property N.plain) v.items))) result (entries R.plain kept.new.items)
-        (read_children (at number field) false may_be_absent (many sets.AssignmentTargetProperty) (value_under name.now (view row.now)) (entries R.plain kept.old.items)) }
-{
-    children::<N, R, _>(alloc, kept, number, field, row, name)
 }
 
 pub fn needed_identifier_reference<N: PlainNode + Drop, R: RowOf<N> + Drop>(
@@ -636,20 +464,6 @@ pub fn needed_class_body<N: PlainNode + Drop, R: RowOf<N> + Drop>(
     needed_child::<N, R, _>(alloc, kept, number, field, row, name)
 }
 
-pub fn class_element_list<N: HoldsClassElement + Drop, R: RowOf<N> + Drop>(
-    alloc: Global,
-    kept: &mut Vec<Kept<R>>,
-    number: usize,
-    field: usize,
-    row: &Value,
-    name: &str,
-) -> Result<Vec<ClassElementNode<N>>, InputFault>
-    ensures { Gives (λ v. a_list (trees (map (in_class_element N.plain) v.items))) result (entries R.plain kept.new.items)
-        (read_children (at number field) false may_be_absent (many sets.ClassElement) (value_under name.now (view row.now)) (entries R.plain kept.old.items)) }
-{
-    children::<N, R, _>(alloc, kept, number, field, row, name)
-}
-
 pub fn needed_function<N: PlainNode + Drop, R: RowOf<N> + Drop>(
     alloc: Global,
     kept: &mut Vec<Kept<R>>,
@@ -660,6 +474,118 @@ pub fn needed_function<N: PlainNode + Drop, R: RowOf<N> + Drop>(
 ) -> Result<Box<Function<N>>, InputFault>
     ensures { Gives (λ c. a_child (function_row N.plain c.value)) result (entries R.plain kept.new.items)
         (read_children (at number field) true needed (child sets.Function) (value_under name.now (view row.now)) (entries R.plain kept.old.items)) }
+{
+    needed_child::<N, R, _>(alloc, kept, number, field, row, name)
+}
+
+pub fn needed_string_literal<N: PlainNode + Drop, R: RowOf<N> + Drop>(
+    alloc: Global,
+    kept: &mut Vec<Kept<R>>,
+    number: usize,
+    field: usize,
+    row: &Value,
+    name: &str,
+) -> Result<Box<StringLiteral>, InputFault>
+    ensures { Gives (λ c. a_child (string_literal_row c.value)) result (entries R.plain kept.new.items)
+        (read_children (at number field) true needed (child sets.StringLiteral) (value_under name.now (view row.now)) (entries R.plain kept.old.items)) }
+{
+    needed_child::<N, R, _>(alloc, kept, number, field, row, name)
+}
+
+pub fn optional_with_clause<N: PlainNode + Drop, R: RowOf<N> + Drop>(
+    alloc: Global,
+    kept: &mut Vec<Kept<R>>,
+    number: usize,
+    field: usize,
+    row: &Value,
+    name: &str,
+) -> Result<Option<Box<WithClause>>, InputFault>
+    ensures { Gives (λ o. a_maybe (optional (option_map (λ b. with_clause_row b.value) o))) result (entries R.plain kept.new.items)
+        (read_children (at number field) false may_be_absent (child sets.WithClause) (value_under name.now (view row.now)) (entries R.plain kept.old.items)) }
+{
+    optional_child::<N, R, _>(alloc, kept, number, field, row, name)
+}
+
+pub fn needed_binding_identifier<N: PlainNode + Drop, R: RowOf<N> + Drop>(
+    alloc: Global,
+    kept: &mut Vec<Kept<R>>,
+    number: usize,
+    field: usize,
+    row: &Value,
+    name: &str,
+) -> Result<Box<BindingIdentifier>, InputFault>
+    ensures { Gives (λ c. a_child (binding_identifier_row c.value)) result (entries R.plain kept.new.items)
+        (read_children (at number field) true needed (child sets.BindingIdentifier) (value_under name.now (view row.now)) (entries R.plain kept.old.items)) }
+{
+    needed_child::<N, R, _>(alloc, kept, number, field, row, name)
+}
+
+pub fn needed_module_export_name<N: PlainNode + Drop, R: RowOf<N> + Drop>(
+    alloc: Global,
+    kept: &mut Vec<Kept<R>>,
+    number: usize,
+    field: usize,
+    row: &Value,
+    name: &str,
+) -> Result<ModuleExportName, InputFault>
+    ensures { Gives (λ c. a_child (in_module_export_name c)) result (entries R.plain kept.new.items)
+        (read_children (at number field) true needed (child sets.ModuleExportName) (value_under name.now (view row.now)) (entries R.plain kept.old.items)) }
+{
+    needed_child::<N, R, _>(alloc, kept, number, field, row, name)
+}
+
+pub fn needed_import_attribute_key<N: PlainNode + Drop, R: RowOf<N> + Drop>(
+    alloc: Global,
+    kept: &mut Vec<Kept<R>>,
+    number: usize,
+    field: usize,
+    row: &Value,
+    name: &str,
+) -> Result<ImportAttributeKey, InputFault>
+    ensures { Gives (λ c. a_child (in_import_attribute_key c)) result (entries R.plain kept.new.items)
+        (read_children (at number field) true needed (child sets.ImportAttributeKey) (value_under name.now (view row.now)) (entries R.plain kept.old.items)) }
+{
+    needed_child::<N, R, _>(alloc, kept, number, field, row, name)
+}
+
+pub fn needed_declaration<N: HoldsDeclaration + Drop, R: RowOf<N> + Drop>(
+    alloc: Global,
+    kept: &mut Vec<Kept<R>>,
+    number: usize,
+    field: usize,
+    row: &Value,
+    name: &str,
+) -> Result<DeclarationNode<N>, InputFault>
+    ensures { Gives (λ c. a_child (in_declaration N.plain c)) result (entries R.plain kept.new.items)
+        (read_children (at number field) true needed (child sets.Declaration) (value_under name.now (view row.now)) (entries R.plain kept.old.items)) }
+{
+    needed_child::<N, R, _>(alloc, kept, number, field, row, name)
+}
+
+pub fn optional_module_export_name<N: PlainNode + Drop, R: RowOf<N> + Drop>(
+    alloc: Global,
+    kept: &mut Vec<Kept<R>>,
+    number: usize,
+    field: usize,
+    row: &Value,
+    name: &str,
+) -> Result<Option<ModuleExportName>, InputFault>
+    ensures { Gives (λ o. a_maybe (optional (option_map in_module_export_name o))) result (entries R.plain kept.new.items)
+        (read_children (at number field) false may_be_absent (child sets.ModuleExportName) (value_under name.now (view row.now)) (entries R.plain kept.old.items)) }
+{
+    optional_child::<N, R, _>(alloc, kept, number, field, row, name)
+}
+
+pub fn needed_export_default_declaration_kind<N: HoldsExpression + Drop, R: RowOf<N> + Drop>(
+    alloc: Global,
+    kept: &mut Vec<Kept<R>>,
+    number: usize,
+    field: usize,
+    row: &Value,
+    name: &str,
+) -> Result<ExportDefaultDeclarationKind<N>, InputFault>
+    ensures { Gives (λ c. a_child (in_export_default_declaration_kind N.plain c)) result (entries R.plain kept.new.items)
+        (read_children (at number field) true needed (child sets.ExportDefaultDeclarationKind) (value_under name.now (view row.now)) (entries R.plain kept.old.items)) }
 {
     needed_child::<N, R, _>(alloc, kept, number, field, row, name)
 }

@@ -1,13 +1,14 @@
 // Fields that hold the value of a string.
-ghost use Rattle.std.specs.Prelude.{◌≡◌, ◌∷◌, true, Ok, map};
+ghost use Rattle.std.specs.Prelude.{◌≡◌, ◌∷◌, true, false, Ok, map};
 ghost use Rattle.serde_json.specs.View.{view};
 ghost use Rattle.jsgen_syntax.specs.Units.{js_units};
 ghost use Rattle.jsgen_tree.specs.Atom.{no_value, units as units_atom};
+ghost use Rattle.jsgen_tree.specs.Characters.{units_if_given};
 ghost use Rattle.jsgen_tree.specs.Table.{units};
 ghost use Rattle.jsgen_fields.specs.Reads.{read_value};
 ghost use Rattle.jsgen_fields.specs.Values.{Same, at, field as value_under, unit_in, units_listed, units_in};
 
-use crate::values::{items_in, needed_value};
+use crate::values::{items_in, needed_value, optional_value};
 use crate::{At, InputFault};
 use jsgen_syntax::JsStr;
 use serde_json::Value;
@@ -64,6 +65,26 @@ pub fn needed_units(
     let at = At::of_row(number, field);
     match needed_value(at, row, name) {
         Ok(value) => units_in(alloc, at, value),
+        Err(fault) => Err(fault),
+    }
+}
+
+/// The value of a string, which may be absent.
+#[tactic(auto, unfolding(crate::specs::Reads::read_value))]
+pub fn optional_units(
+    alloc: Global,
+    number: usize,
+    field: usize,
+    row: &Value,
+    name: &str,
+) -> Result<Option<JsStr>, InputFault>
+    ensures { Same units_if_given result
+        (read_value (at number field) false no_value units (value_under name.now (view row.now))) }
+{
+    let at = At::of_row(number, field);
+    match optional_value(at, row, name) {
+        Ok(Some(value)) => Ok(Some(units_in(alloc, at, value)?)),
+        Ok(None) => Ok(None),
         Err(fault) => Err(fault),
     }
 }

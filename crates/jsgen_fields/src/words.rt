@@ -2,9 +2,9 @@
 // Fields that hold a word.
 ghost use Rattle.std.specs.Prelude.{◌≡◌, true, option_map};
 ghost use Rattle.serde_json.specs.View.{view};
-ghost use Rattle.jsgen_tree.specs.Atom.{no_value, kind_of_comment, content_of_comment, source_kind, declaration_kind, binary_operator, logical_operator, property_kind, unary_operator, update_operator, assignment_operator, kind_of_function, class_form, kind_of_method};
+ghost use Rattle.jsgen_tree.specs.Atom.{no_value, kind_of_comment, content_of_comment, source_kind, declaration_kind, binary_operator, logical_operator, property_kind, unary_operator, update_operator, assignment_operator, kind_of_function, class_form, kind_of_method, kind_of_import, with_keyword};
 ghost use Rattle.jsgen_tree.specs.Table.{word};
-ghost use Rattle.jsgen_tree.specs.Fields.{kind_of_comment_words, content_of_comment_words, source_kind_words, declaration_kind_words, binary_operator_words, logical_operator_words, property_kind_words, unary_operator_words, update_operator_words, assignment_operator_words, kind_of_function_words, class_form_words, kind_of_method_words};
+ghost use Rattle.jsgen_tree.specs.Fields.{kind_of_comment_words, content_of_comment_words, source_kind_words, declaration_kind_words, binary_operator_words, logical_operator_words, property_kind_words, unary_operator_words, update_operator_words, assignment_operator_words, kind_of_function_words, class_form_words, kind_of_method_words, kind_of_import_words, with_keyword_words};
 ghost use Rattle.jsgen_fields.specs.Reads.{read_value};
 ghost use Rattle.jsgen_fields.specs.Values.{Same, at, field as value_under, word_meaning, words_of_length};
 
@@ -14,8 +14,8 @@ use jsgen_syntax::{
     AssignmentOperator, BinaryOperator, LogicalOperator, SourceKind, UnaryOperator, UpdateOperator,
 };
 use jsgen_tree::{
-    ClassKind, CommentContent, CommentKind, FunctionKind, MethodDefinitionKind, PropertyKind,
-    VariableDeclarationKind,
+    ClassKind, CommentContent, CommentKind, FunctionKind, ImportOrExportKind, MethodDefinitionKind,
+    PropertyKind, VariableDeclarationKind, WithKeyword,
 };
 use serde_json::Value;
 
@@ -611,6 +611,60 @@ pub fn needed_kind_of_method(
 {
     match needed_word(number, field, row, name) {
         Ok(word) => match kind_of_method_by_word(word) {
+            Some(found) => Ok(found),
+            None => Err(InputFault::Wrong(At::of_row(number, field))),
+        },
+        Err(fault) => Err(fault),
+    }
+}
+
+fn kind_of_import_by_word(word: &str) -> Option<ImportOrExportKind>
+    ensures { option_map kind_of_import result ≡ word_meaning kind_of_import_words word.now }
+{
+    match word {
+        "value" => Some(ImportOrExportKind::Value),
+        _ => None,
+    }
+}
+
+pub fn needed_kind_of_import(
+    number: usize,
+    field: usize,
+    row: &Value,
+    name: &str,
+) -> Result<ImportOrExportKind, InputFault>
+    ensures { Same (λ o. kind_of_import o) result
+        (read_value (at number field) true no_value (word kind_of_import_words) (value_under name.now (view row.now))) }
+{
+    match needed_word(number, field, row, name) {
+        Ok(word) => match kind_of_import_by_word(word) {
+            Some(found) => Ok(found),
+            None => Err(InputFault::Wrong(At::of_row(number, field))),
+        },
+        Err(fault) => Err(fault),
+    }
+}
+
+fn with_keyword_by_word(word: &str) -> Option<WithKeyword>
+    ensures { option_map with_keyword result ≡ word_meaning with_keyword_words word.now }
+{
+    match word {
+        "with" => Some(WithKeyword::With),
+        _ => None,
+    }
+}
+
+pub fn needed_with_keyword(
+    number: usize,
+    field: usize,
+    row: &Value,
+    name: &str,
+) -> Result<WithKeyword, InputFault>
+    ensures { Same (λ o. with_keyword o) result
+        (read_value (at number field) true no_value (word with_keyword_words) (value_under name.now (view row.now))) }
+{
+    match needed_word(number, field, row, name) {
+        Ok(word) => match with_keyword_by_word(word) {
             Some(found) => Ok(found),
             None => Err(InputFault::Wrong(At::of_row(number, field))),
         },

@@ -4,7 +4,7 @@ ghost use Rattle.jsgen_syntax.specs.declared.precedence.Precedence.TheVariants.{
 ghost use Rattle.jsgen_tree.specs.Tree.{Tree, trees, optional};
 ghost use Rattle.jsgen_tree.specs.Rows.{in_property_key, in_expression, in_statement, function_row};
 ghost use Rattle.jsgen_place.specs.Place.{in_brackets};
-ghost use Rattle.jsgen_model.specs.Spell.{spell, key_items, spell_value, spell_method, braces, spell_statements};
+ghost use Rattle.jsgen_model.specs.Spell.{spell, key_items, spell_value, method_words, spell_method, braces, spell_statements};
 ghost use Rattle.jsgen_printer.specs.Steps.{Lays};
 
 use jsgen_place::Place;
@@ -23,6 +23,10 @@ pub trait PrintInClass<N> {
     /// The value of a field, behind `=`.
     fn print_initializer(value: &Option<ExpressionNode<N>>, p: &mut Printer<'_>, place: Place)
         ensures { Lays p.old p.new (spell_value (optional (option_map (in_expression plain) value.now)) place) };
+
+    /// What stands before the key of a method, by its function.
+    fn print_method_words(function: &Function<N>, p: &mut Printer<'_>)
+        ensures { Lays p.old p.new (method_words (function_row plain function.now)) };
 
     /// The function of a method, behind its key.
     fn print_method(function: &Function<N>, p: &mut Printer<'_>, place: Place)

@@ -3,4 +3,5 @@ pub mod Holes
 pub mod Turns
 pub mod Braced
 pub mod NotOne
+mod Pieces
 pub mod Left

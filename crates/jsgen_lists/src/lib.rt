@@ -13,6 +13,7 @@ mod maybe;
 mod members;
 mod patterns;
 mod statements;
+mod templates;
 mod updates;
 
 pub use arguments::{PlainQuotes, print_arguments};
@@ -23,9 +24,11 @@ pub use elements_of_class::print_class_braces;
 pub use heads::{print_accessor_word, print_behind_word, print_in_parentheses, print_key_word};
 pub use links::{print_bracket_link, print_name_link, print_named_member};
 pub use maybe::{
-    print_apart, print_behind_space, print_caught, print_comma_between, print_if_given, print_value,
+    print_apart, print_behind_comma, print_behind_space, print_caught, print_comma_between,
+    print_if_given, print_value,
 };
 pub use members::{PrintMember, print_in_brackets, print_list, print_more};
 pub use patterns::{print_pattern_braces, print_pattern_brackets};
 pub use statements::{PrintStatement, print_body, print_deeper_body, print_statements};
+pub use templates::print_template;
 pub use updates::print_update;

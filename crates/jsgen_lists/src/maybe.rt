@@ -3,7 +3,7 @@ ghost use Rattle.std.specs.Prelude.{map, option_map};
 ghost use Rattle.jsgen_tree.specs.Tree.{Tree, given, trees, optional};
 ghost use Rattle.jsgen_model.specs.Items.{◌⊕◌, soft_space, punctuator};
 ghost use Rattle.jsgen_model.specs.Punctuator.{comma, equal};
-ghost use Rattle.jsgen_model.specs.Spell.{spell, spell_value, spell_if_given, spell_apart, spell_caught, spell_test, comma_between};
+ghost use Rattle.jsgen_model.specs.Spell.{spell, spell_value, spell_if_given, spell_behind_comma, spell_apart, spell_caught, spell_test, comma_between};
 ghost use Rattle.jsgen_printer.specs.Steps.{Lays};
 
 use crate::heads::{print_apart_in_parentheses, print_behind_word};
@@ -68,6 +68,28 @@ pub fn print_if_given<E, L: PrintMember<E>>(member: &Option<E>, p: &mut Printer<
         Some(member) => L::print_member(member, p, place),
         None => {}
     }
+}
+
+/// A second argument, if there is one, behind a comma.
+pub fn print_behind_comma<E, L: PrintMember<E>>(
+    member: &Option<E>,
+    p: &mut Printer<'_>,
+    place: Place,
+)
+    ensures { Lays p.old p.new (spell_behind_comma (optional (option_map L.plain member.now)) place) }
+{
+    match member {
+        Some(member) => print_second::<E, L>(member, p, place),
+        None => {}
+    }
+}
+
+fn print_second<E, L: PrintMember<E>>(member: &E, p: &mut Printer<'_>, place: Place)
+    ensures { Lays p.old p.new (punctuator comma ⊕ (soft_space ⊕ spell (L.plain member.now) place)) }
+{
+    p.print_comma();
+    p.print_soft_space();
+    L::print_member(member, p, place);
 }
 
 /// A member, if there is one, behind a space.

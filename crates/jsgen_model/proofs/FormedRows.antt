@@ -7,14 +7,16 @@ use Rattle.jsgen_syntax.specs.declared.span.SourceKind.TheVariants as source_kin
 use Rattle.jsgen_syntax.specs.declared.js_str.JsStr.{JsStr}
 use Rattle.jsgen_syntax.specs.Units.{js_units}
 use Rattle.jsgen_syntax.specs.Wtf8.{are_units}
-use Rattle.jsgen_tree.specs.Tree.{Tree, trees, holed, optional}
+use Rattle.std.specs.declared.alloc.Global.{Global}
+use Rattle.std.specs.declared.vec.Vec.{Vec}
+use Rattle.jsgen_tree.specs.Tree.{Tree, trees, holed, optional, optional_list}
 use Rattle.jsgen_tree.specs.Nodes.{numeric_literal}
 use Rattle.jsgen_tree.specs.Characters.{numeric_values}
 use Rattle.jsgen_tree.specs.Width.{is_wide}
-use Rattle.jsgen_tree.specs.Everywhere.{Everywhere, EverywhereInTrees, EverywhereIfGiven}
+use Rattle.jsgen_tree.specs.Everywhere.{Everywhere, EverywhereInTrees, EverywhereIfGiven, EverywhereIfListed}
 use Rattle.jsgen_tree.specs.declared.numbers.NumericValue.{NumericValue}
 use Rattle.jsgen_tree.specs.declared.numbers.NumericValue.TheVariants as numeric
-use Rattle.jsgen_model.specs.Plain.{is_formed, is_module, has_no_hole}
+use Rattle.jsgen_model.specs.Plain.{is_formed, is_module, has_no_hole, has_no_hole_if_listed}
 
 abbrev pub IsFormed : Tree → Type 0
 IsFormed t = Everywhere is_formed t
@@ -53,6 +55,16 @@ first_or_hole (Some t) os h k = (h, k)
 pub all_changed_or_holes : {A B C : Type 0} (f : C → Option Tree) (g : B → C) (k : A → B) → ((x : A) → FormedOrHole (f (g (k x)))) → (xs : List A) → EverywhereInTrees is_formed (holed (map f (map g (map k xs))))
 all_changed_or_holes f g k h [] = tt
 all_changed_or_holes f g k h (x ∷ xs) = first_or_hole (f (g (k x))) (map f (map g (map k xs))) (h x) (all_changed_or_holes f g k h xs)
+
+-- ---- a list that may be absent, in which nothing nests
+
+pub no_hole_if_listed : {A : Type 0} (f : A → Tree) (o : Option (Vec A Global)) → has_no_hole_if_listed (optional_list (option_map (λ v. map f v.items) o)) ≡ true
+no_hole_if_listed f None = refl
+no_hole_if_listed f (Some v) = no_hole f v.items
+
+pub all_formed_if_listed : {A : Type 0} (f : A → Tree) → ((x : A) → IsFormed (f x)) → (o : Option (Vec A Global)) → EverywhereIfListed is_formed (optional_list (option_map (λ v. map f v.items) o))
+all_formed_if_listed f h None = tt
+all_formed_if_listed f h (Some v) = all_formed f h v.items
 
 -- ---- an optional child in which nothing nests
 

@@ -543,4 +543,4 @@ mutual
     statements : {c : Allowed} {last : Bool} {ts : Tokens} {ss : Trees} → starts_with_directive ts ≡ false → ReadsStatements c last ts ss → ReadsBody c last ts no_trees ss
 
 pub data ReadsModule : Tokens → Tree → Type 0 where
-  a_module : {ts : Tokens} {directives body : Trees} → ReadsBody in_module false ts directives body → ReadsModule ts (tree.program (nothing_of 4) no_trees directives body)
+  a_module : {ts : Tokens} {directives body : Trees} → ReadsBody in_module false ts directives body → ReadsModule ts (tree.program (nothing_of 4) no_trees absent directives body)

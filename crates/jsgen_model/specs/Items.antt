@@ -16,6 +16,10 @@ pub data Manner : Type 0 where
 pub data Annotation : Type 0 where
   is_pure no_side_effects : Annotation
 
+-- which part of a template a piece is, by what stands on each side of it: the whole, or what is before, between and behind its expressions (ECMA-262, 12.9.6)
+pub data TemplatePart : Type 0 where
+  whole_part head_part middle_part tail_part : TemplatePart
+
 infixr 60 ◌⊕◌
 pub data Items : Type 0 where
   nothing : Items
@@ -32,6 +36,8 @@ pub data Items : Type 0 where
   literal : List ℕ → Items
   -- a regular expression by its pattern and its flags, apart from what it would make a comment or the end of a script with
   regular_expression : List ℕ → List ℕ → Items
+  -- a part of a template by the raw text of its piece, whose mark stands behind a brace before it; the test holds where a tag sees that text
+  template_part : TemplatePart → Bool → Span → List ℕ → Items
   -- a string by its units, in backticks only where the test holds
   string : Bool → List ℕ → Items
   -- a string that is a whole first statement, and mustn't be read as a directive

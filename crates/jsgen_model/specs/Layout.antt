@@ -6,7 +6,7 @@ use Rattle.jsgen_syntax.specs.Buffer.{indent_code}
 use Rattle.jsgen_syntax.specs.Name.{goes_in_word}
 use Rattle.jsgen_syntax.specs.Escapes.{name_text, has_escapes}
 use Rattle.jsgen_syntax.specs.Strings.{quote_char, quoted, cheapest, begins_script}
-use Rattle.jsgen_syntax.specs.Raw.{directive_text, directive_quote, pattern_text}
+use Rattle.jsgen_syntax.specs.Raw.{directive_text, directive_quote, pattern_text, template_text}
 use Rattle.jsgen_syntax.specs.declared.quote.Quote.{Quote}
 use Rattle.jsgen_syntax.specs.declared.quote.Quote.TheVariants.{Single, Double, Backtick}
 use Rattle.std.specs.Str.{bytes_eq}
@@ -14,7 +14,7 @@ use Rattle.jsgen_tree.specs.Options.{Options}
 use Rattle.jsgen_tree.specs.Job.{Tables}
 use Rattle.jsgen_tree.specs.Named.{Named, printed_name}
 use Rattle.jsgen_model.specs.Punctuator.{Punctuator, plus, plus_plus, minus, minus_minus, bang, equal_equal, equal_equal_equal, punctuator_text, Round, opening, closing}
-use Rattle.jsgen_model.specs.Items.{Items, nothing, ◌⊕◌, word, name, private_name, number, literal, regular_expression, string, first_string, directive, punctuator, operator, member_dot, soft_space, soft_line, hard_space, indentation, body_space, deeper, in_class, brackets, wrapped, wrapped_at_start, Opener, a_brace, a_declaration, parentheses_unless_minified, where_same, statement_end, due_semicolon, drop_semicolon, statement_begins, arrow_body_begins, default_export_begins, mark, end_mark, link_mark, marked_word, comments, orphans, annotation, unless_minified}
+use Rattle.jsgen_model.specs.Items.{Items, TemplatePart, whole_part, head_part, middle_part, tail_part, nothing, ◌⊕◌, word, name, private_name, number, literal, regular_expression, template_part, string, first_string, directive, punctuator, operator, member_dot, soft_space, soft_line, hard_space, indentation, body_space, deeper, in_class, brackets, wrapped, wrapped_at_start, Opener, a_brace, a_declaration, parentheses_unless_minified, where_same, statement_end, due_semicolon, drop_semicolon, statement_begins, arrow_body_begins, default_export_begins, mark, end_mark, link_mark, marked_word, comments, orphans, annotation, unless_minified}
 use Rattle.jsgen_model.specs.Private.{classes_within, printed_private}
 
 -- what never changes: whether the text is minified and whether it is ASCII, the quote of pretty text and of directives, what a level of indentation is made of, and the tables by which names are printed
@@ -204,6 +204,15 @@ joins_pattern code pattern = option_map_or (is_barred_before pattern) (last_or N
 abbrev pub regular_expression_text : Bool → List ℕ → List ℕ → List ℕ
 regular_expression_text ascii pattern flags = 47 ∷ (pattern_text ascii pattern ++ 47 ∷ flags)
 
+-- ---- templates
+
+-- the raw text of a piece, as it is printed, between what opens and what closes the part
+abbrev pub part_text : TemplatePart → List ℕ → List ℕ
+part_text whole_part raw = 96 ∷ (raw ++ 96 ∷ [])
+part_text head_part raw = 96 ∷ (raw ++ codes "${")
+part_text middle_part raw = 125 ∷ (raw ++ codes "${")
+part_text tail_part raw = 125 ∷ (raw ++ 96 ∷ [])
+
 -- ---- strings
 
 -- where no backticks may stand, double quotes stand in their place
@@ -235,6 +244,7 @@ layout (private_name span w) pen = with_private_name (printed_private pen.style.
 layout (number dot_is_its_own w) pen = written (space_if (is_apart pen.ending pen.code) ++ w) (number_ending dot_is_its_own) pen
 layout (literal w) pen = written w other_end pen
 layout (regular_expression pattern flags) pen = written (space_if (joins_pattern pen.code pattern) ++ regular_expression_text pen.style.ascii pattern flags) regular_expression_end pen
+layout (template_part part tagged span raw) pen = written (part_text part (template_text tagged pen.style.minified pen.style.ascii raw)) other_end pen
 layout (string backticks units) pen = written (quoted (chosen_quote pen.style backticks units) pen.style.ascii units) other_end pen
 layout (first_string units) pen = written (first_text pen.style units) other_end pen
 layout (directive raw) pen = written (directive_quoted pen.style raw) other_end pen

@@ -8,6 +8,7 @@ pub mod Spell
 pub mod Valid
 pub mod Numbers
 pub mod RegularExpressions
+pub mod Templates
 pub mod Operators
 pub mod Tokens
 pub mod Normal

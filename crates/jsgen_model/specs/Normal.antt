@@ -1,13 +1,14 @@
 -- What two trees of one meaning have in common.
-use Rattle.std.specs.Prelude.{ℕ, List, [], ◌∷◌, Bool, true, false, not, Option, Some, None, decimal, if◌then◌else◌, ◌&&◌, ◌||◌}
-use Rattle.jsgen_tree.specs.Atom.{Atom, no_value, text, units, flag, numeric_kind, declaration_kind, kind_of_function, binary_operator, logical_operator, unary_operator, update_operator, property_kind, assignment_operator}
+use Rattle.std.specs.Prelude.{ℕ, List, [], ◌∷◌, Bool, true, false, not, Option, Some, None, decimal, if◌then◌else◌, ◌&&◌, ◌||◌, nat_lt}
+use Rattle.jsgen_tree.specs.Atom.{Atom, no_value, text, units, flag, numeric_kind, declaration_kind, kind_of_function, binary_operator, logical_operator, unary_operator, update_operator, property_kind, assignment_operator, kind_of_method}
+use Rattle.std.specs.List.{list_all}
 use Rattle.std.specs.Option.{option_map_or}
 use Rattle.jsgen_tree.specs.Number.{NumericKind, Whole, Raw}
 use Rattle.jsgen_tree.specs.Tree.{Tree, node, Slots, no_slots, one, maybe, many, maybe_many, Maybe, absent, given, Trees, no_trees, more, hole, MaybeTrees, no_list, listed, Atoms}
 use Rattle.jsgen_tree.specs.declared.types.NodeType.TheVariants as types
 use Rattle.jsgen_tree.specs.Places.{bare, absent_values}
-use Rattle.jsgen_tree.specs.Values.{directive_directive, variable_declaration_kind, binding_identifier_name, identifier_reference_name, identifier_name_name, label_identifier_name, for_of_statement_is_await, boolean_literal_value, numeric_literal_kind, numeric_literal_negative, numeric_literal_digits, numeric_literal_text, big_int_literal_value, string_literal_value, binary_expression_operator, logical_expression_operator, unary_expression_operator, update_expression_operator, update_expression_prefix, variable_declaration_declare, variable_declarator_definite, static_member_expression_optional, computed_member_expression_optional, call_expression_optional, object_property_kind, object_property_method, object_property_shorthand, object_property_computed, assignment_expression_operator, function_kind, function_is_async, function_generator, function_declare, formal_parameter_is_override, formal_parameter_readonly, formal_parameter_optional, arrow_function_expression_is_async}
-use Rattle.jsgen_syntax.specs.Raw.{directive_value}
+use Rattle.jsgen_tree.specs.Values.{directive_directive, variable_declaration_kind, binding_identifier_name, identifier_reference_name, identifier_name_name, label_identifier_name, for_of_statement_is_await, boolean_literal_value, numeric_literal_kind, numeric_literal_negative, numeric_literal_digits, numeric_literal_text, big_int_literal_value, string_literal_value, binary_expression_operator, logical_expression_operator, unary_expression_operator, update_expression_operator, update_expression_prefix, variable_declaration_declare, variable_declarator_definite, static_member_expression_optional, computed_member_expression_optional, call_expression_optional, object_property_kind, object_property_method, object_property_shorthand, object_property_computed, assignment_expression_operator, function_kind, function_is_async, function_generator, function_declare, formal_parameter_is_override, formal_parameter_readonly, formal_parameter_optional, arrow_function_expression_is_async, reg_exp_literal_pattern, reg_exp_literal_flags, method_definition_kind, method_definition_computed, method_definition_is_static, method_definition_is_override, method_definition_is_abstract, method_definition_optional}
+use Rattle.jsgen_syntax.specs.Raw.{directive_value, pattern_text}
 use Rattle.jsgen_syntax.specs.declared.operator.LogicalOperator.{LogicalOperator}
 use Rattle.jsgen_syntax.specs.declared.operator.UnaryOperator.TheVariants.{UnaryNegation}
 use Rattle.jsgen_syntax.specs.declared.operator.LogicalOperator.TheVariants.{Or, And, Coalesce}
@@ -16,7 +17,10 @@ use Rattle.jsgen_tree.specs.declared.collections.PropertyKind.{PropertyKind}
 use Rattle.jsgen_tree.specs.declared.collections.PropertyKind.TheVariants as property_kinds
 use Rattle.jsgen_tree.specs.declared.functions.FunctionKind.{FunctionKind}
 use Rattle.jsgen_tree.specs.Inside.{ends_open, written_name_in, is_proto, is_method, behind_minus, is_negative_number}
+use Rattle.jsgen_tree.specs.declared.classes.MethodDefinitionKind.{MethodDefinitionKind}
+use Rattle.jsgen_tree.specs.declared.classes.MethodDefinitionKind.TheVariants as method_kinds
 use Rattle.jsgen_tree.specs.Nodes as tree
+use Rattle.jsgen_model.specs.Renamed.{written_out}
 
 -- ---- what a normal form holds: one value for each field, and none of a field that doesn't count
 
@@ -83,6 +87,22 @@ directive_units (units us) = us
 directive_units (text raw) = or_none (directive_value raw)
 directive_units v = []
 
+abbrev pub is_code_point : ℕ → Bool
+is_code_point c = nat_lt c 0x11_0000
+
+-- a pattern of a regular expression in ASCII, where it is a text of code points
+abbrev pub ascii_pattern : List ℕ → List ℕ
+ascii_pattern w = if list_all is_code_point w then pattern_text true w else w
+
+-- a constructor is known by its key
+abbrev pub as_method : MethodDefinitionKind → MethodDefinitionKind
+as_method method_kinds.Constructor = method_kinds.Method
+as_method kind = kind
+
+-- of a member of a class: what it is, whether its key is computed, whether it is static, and what TypeScript adds
+abbrev pub method_values : MethodDefinitionKind → Bool → Bool → Atom → Atom → Atom → Atoms
+method_values kind computed is_static is_override is_abstract optional = bare (kind_of_method kind ∷ flag computed ∷ flag is_static ∷ is_override ∷ is_abstract ∷ optional ∷ [])
+
 -- ---- chains of one logical operator
 
 -- operands of one operator, from left to right
@@ -147,10 +167,10 @@ property_form a key = property_values (object_property_kind a) (is_written_as_me
 
 -- Parentheses, spans, the source and the kind of a program are away, and whether a call, `new` or a function is pure, or is marked as called; a flag such as `is_async` that is false counts like one that is absent; a directive is its value; a
 -- whole number is its digits, and a minus before a number is an operation; a negative number that is a key is a computed one; a chain of one logical operator is one list, however it was grouped, and so is a sequence; braces round a consequent
--- that ends in an `if` without `else` are away; a property that its value alone says is written out, but for `__proto__`.
+-- that ends in an `if` without `else` are away; a property that its value alone says is written out, but for `__proto__`, and so is one of a target; a pattern of a regular expression is in ASCII; a constructor is a method.
 abbrev mutual
   pub normal : Tree → Tree
-  normal (tree.program a comments directives body) = tree.program (nothing_of 4) no_trees (normal_trees directives) (normal_trees body)
+  normal (tree.program a comments hashbang directives body) = tree.program (nothing_of 4) no_trees (normal_maybe hashbang) (normal_trees directives) (normal_trees body)
   normal (tree.directive a) = tree.directive (bare (units (directive_units (directive_directive a)) ∷ []))
   normal (tree.binding_identifier a) = tree.binding_identifier (unnumbered (binding_identifier_name a))
   normal (tree.identifier_reference a) = tree.identifier_reference (unnumbered (identifier_reference_name a))
@@ -167,6 +187,9 @@ abbrev mutual
   normal (tree.object_property a key value) = tree.object_property (property_form a key) (normal key) (normal value)
   normal (tree.sequence a expressions) = tree.sequence (nothing_of 0) (flattened (normal_trees expressions))
   normal (tree.function a id params body) = tree.function (function_values (function_kind a) (if_set (function_is_async a)) (if_set (function_generator a)) (if_set (function_declare a))) (normal_maybe id) (normal params) (normal_maybe body)
+  normal (tree.reg_exp_literal a) = tree.reg_exp_literal (bare (text (ascii_pattern (reg_exp_literal_pattern a)) ∷ text (reg_exp_literal_flags a) ∷ []))
+  normal (tree.method_definition a key value) = tree.method_definition (method_values (as_method (method_definition_kind a)) (method_definition_computed a) (method_definition_is_static a) (if_set (method_definition_is_override a)) (if_set (method_definition_is_abstract a)) (if_set (method_definition_optional a))) (normal key) (normal value)
+  normal (tree.target_property_identifier a binding init) = written_out (nothing_of 0) (normal binding) (normal binding) (normal_maybe init)
   normal (tree.comment a) = tree.comment (bare a.values)
   -- generated from tools/nodes/table.txt: clauses
   normal (tree.variable_declaration a declarations) = tree.variable_declaration (bare (declaration_kind (variable_declaration_kind a) ∷ if_set (variable_declaration_declare a) ∷ [])) (normal_trees declarations)

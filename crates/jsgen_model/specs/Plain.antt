@@ -5,7 +5,7 @@ use Rattle.jsgen_syntax.specs.declared.span.SourceKind.{SourceKind}
 use Rattle.jsgen_syntax.specs.declared.span.SourceKind.TheVariants as source_kinds
 use Rattle.jsgen_tree.specs.Atom.{Atom, text}
 use Rattle.jsgen_tree.specs.Number.{NumericKind, Whole, Raw}
-use Rattle.jsgen_tree.specs.Tree.{Tree, node, Trees, no_trees, more, hole, Atoms}
+use Rattle.jsgen_tree.specs.Tree.{Tree, node, Trees, no_trees, more, hole, MaybeTrees, no_list, listed, Atoms}
 use Rattle.jsgen_tree.specs.Nodes as tree
 use Rattle.jsgen_tree.specs.declared.types.NodeType.{NodeType}
 use Rattle.jsgen_tree.specs.declared.types.NodeType.TheVariants as types
@@ -23,6 +23,12 @@ abbrev pub is_plain_type : NodeType → Bool
 -- generated from tools/nodes/table.txt: types
 is_plain_type types.RegExpLiteral = false
 is_plain_type types.ImportMeta = false
+is_plain_type types.AwaitExpression = false
+is_plain_type types.YieldExpression = false
+is_plain_type types.TemplateElement = false
+is_plain_type types.TemplateLiteral = false
+is_plain_type types.TaggedTemplateExpression = false
+is_plain_type types.ImportExpression = false
 is_plain_type types.ObjectPattern = false
 is_plain_type types.BindingProperty = false
 is_plain_type types.BindingRestElement = false
@@ -42,6 +48,19 @@ is_plain_type types.ClassBody = false
 is_plain_type types.StaticBlock = false
 is_plain_type types.MethodDefinition = false
 is_plain_type types.PropertyDefinition = false
+is_plain_type types.Hashbang = false
+is_plain_type types.ImportDeclaration = false
+is_plain_type types.ImportDefaultSpecifier = false
+is_plain_type types.ImportNamespaceSpecifier = false
+is_plain_type types.ImportSpecifier = false
+is_plain_type types.WithClause = false
+is_plain_type types.ImportAttribute = false
+is_plain_type types.ExportDeclaration = false
+is_plain_type types.ExportNamedDeclaration = false
+is_plain_type types.ExportFromDeclaration = false
+is_plain_type types.ExportSpecifier = false
+is_plain_type types.ExportAllDeclaration = false
+is_plain_type types.ExportDefaultDeclaration = false
 -- end of what is generated: types
 is_plain_type type = true
 
@@ -84,9 +103,13 @@ has_no_hole no_trees = true
 has_no_hole (more t ts) = has_no_hole ts
 has_no_hole (hole ts) = false
 
+abbrev pub has_no_hole_if_listed : MaybeTrees → Bool
+has_no_hole_if_listed no_list = true
+has_no_hole_if_listed (listed ts) = has_no_hole ts
+
 -- The node has the children that its type has, and no hole stands in a list but an array's; a program is a module, a whole number is of 128 bits, a string is of units of 16 bits, and a directive has its raw text. Each node that is built in Rust is so.
 abbrev pub is_formed : Tree → Bool
-is_formed (tree.program a comments directives body) = is_module (program_kind a) && has_no_hole directives && has_no_hole body
+is_formed (tree.program a comments hashbang directives body) = is_module (program_kind a) && has_no_hole directives && has_no_hole body
 is_formed (tree.directive a) = is_raw (directive_directive a)
 is_formed (tree.numeric_literal a) = is_number (numeric_literal_kind a) a
 is_formed (tree.string_literal a) = are_units (string_literal_value a)
@@ -132,6 +155,12 @@ is_formed (tree.formal_parameters a items rest) = has_no_hole items
 is_formed (tree.function a id params body) = true
 is_formed (tree.function_body a directives statements) = has_no_hole directives && has_no_hole statements
 is_formed (tree.arrow_function a params body) = true
+is_formed (tree.await_expression a argument) = true
+is_formed (tree.yield_expression a argument) = true
+is_formed (tree.template_element a) = true
+is_formed (tree.template_literal a quasis expressions) = has_no_hole quasis && has_no_hole expressions
+is_formed (tree.tagged_template a tag quasi) = true
+is_formed (tree.import_call a source options) = true
 is_formed (tree.for_statement a init test update body) = true
 is_formed (tree.for_in_statement a left right body) = true
 is_formed (tree.for_of_statement a left right body) = true
@@ -167,6 +196,19 @@ is_formed (tree.class_body a body) = has_no_hole body
 is_formed (tree.static_block a body) = has_no_hole body
 is_formed (tree.method_definition a key value) = true
 is_formed (tree.property_definition a key value) = true
+is_formed (tree.hashbang a) = true
+is_formed (tree.import_declaration a specifiers source with_clause) = has_no_hole_if_listed specifiers
+is_formed (tree.import_default_specifier a local) = true
+is_formed (tree.import_namespace_specifier a local) = true
+is_formed (tree.import_specifier a imported local) = true
+is_formed (tree.with_clause a entries) = has_no_hole entries
+is_formed (tree.import_attribute a key value) = true
+is_formed (tree.export_declaration a declaration) = true
+is_formed (tree.export_named_declaration a specifiers) = has_no_hole specifiers
+is_formed (tree.export_from_declaration a specifiers source with_clause) = has_no_hole specifiers
+is_formed (tree.export_specifier a local exported) = true
+is_formed (tree.export_all_declaration a exported source with_clause) = true
+is_formed (tree.export_default_declaration a declaration) = true
 -- end of what is generated: formed
 is_formed t = false
 

@@ -1,6 +1,7 @@
 -- How each node is spelled: one row, one clause.
-use Rattle.std.specs.Prelude.{ℕ, suc, List, ◌++◌, Bool, true, false, not, ◌||◌, nat_lt, codes, decimal, Option, Some, None, if◌then◌else◌}
+use Rattle.std.specs.Prelude.{ℕ, suc, List, ◌++◌, Bool, true, false, not, ◌||◌, nat_lt, bytes_eq, codes, decimal, Option, Some, None, if◌then◌else◌}
 use Rattle.std.specs.Str.{encode_utf8_all}
+use Rattle.jsgen_syntax.specs.Wtf8.{joined_units, has_lone}
 use Rattle.jsgen_syntax.specs.Operator.{binary_level, lower_level, logical_level, logical_lower_level}
 use Rattle.jsgen_syntax.specs.declared.span.Span.{Span}
 use Rattle.jsgen_syntax.specs.declared.precedence.Precedence.{Precedence}
@@ -8,7 +9,7 @@ use Rattle.jsgen_syntax.specs.declared.precedence.Precedence.TheVariants.{Lowest
 use Rattle.jsgen_place.specs.declared.place.Place.{Place}
 use Rattle.jsgen_place.specs.declared.shape.Shape.{Shape}
 use Rattle.jsgen_place.specs.declared.shape.Shape.TheVariants as shapes
-use Rattle.jsgen_place.specs.Place.{child, left_operand, in_brackets, loop_head, among_statements, within_statement, member, behind_private, with_calls, quoted_plainly, linked, called, constructed, within, wraps, binary_wraps, logical_wraps, call_wraps, chain_wraps, chain_place, arrow_wraps, update_level}
+use Rattle.jsgen_place.specs.Place.{child, left_operand, in_brackets, loop_head, among_statements, within_statement, member, behind_private, with_calls, quoted_plainly, linked, called, tag, tagged, constructed, within, wraps, binary_wraps, logical_wraps, call_wraps, chain_wraps, chain_place, arrow_wraps, update_level, plainly}
 use Rattle.jsgen_syntax.specs.declared.operator.BinaryOperator.{BinaryOperator}
 use Rattle.jsgen_syntax.specs.declared.operator.BinaryOperator.TheVariants as operators
 use Rattle.jsgen_syntax.specs.declared.operator.LogicalOperator.{LogicalOperator}
@@ -25,20 +26,21 @@ use Rattle.jsgen_tree.specs.declared.types.NodeType.{NodeType}
 use Rattle.jsgen_tree.specs.declared.types.NodeType.TheVariants as types
 use Rattle.jsgen_tree.specs.Named.{Named, as_written, own_name}
 use Rattle.jsgen_tree.specs.Inside.{without_parentheses, ends_open, reference_named, binding_named, looked_up_in, bound_in, written_name_in, is_proto, is_method, behind_minus, is_negative_number}
-use Rattle.jsgen_tree.specs.Words.{declaration_word}
+use Rattle.jsgen_tree.specs.Words.{declaration_word, with_word}
 use Rattle.jsgen_tree.specs.Number.{NumericKind, Whole, Raw}
-use Rattle.jsgen_tree.specs.Tree.{Tree, Maybe, absent, given, Trees, no_trees, more, hole, Atoms, type_of}
-use Rattle.jsgen_tree.specs.Values.{as_text, directive_directive, variable_declaration_kind, identifier_name_name, label_identifier_name, boolean_literal_value, numeric_literal_kind, numeric_literal_negative, numeric_literal_digits, numeric_literal_text, big_int_literal_value, string_literal_value, binary_expression_operator, logical_expression_operator, unary_expression_operator, update_expression_operator, update_expression_prefix, object_property_kind, object_property_method, object_property_shorthand, object_property_computed, function_kind, function_pife, assignment_expression_operator, static_member_expression_optional, computed_member_expression_optional, call_expression_optional, arrow_function_expression_pife, binding_property_computed, private_identifier_name, private_field_expression_optional, class_kind, method_definition_kind, method_definition_computed, method_definition_is_static, property_definition_computed, property_definition_is_static, assignment_target_property_property_computed}
+use Rattle.jsgen_tree.specs.Tree.{Tree, Maybe, absent, given, Trees, no_trees, more, hole, Atoms, type_of, atoms_of, span_of, MaybeTrees, no_list, listed}
+use Rattle.jsgen_tree.specs.Values.{as_text, directive_directive, variable_declaration_kind, identifier_name_name, label_identifier_name, boolean_literal_value, numeric_literal_kind, numeric_literal_negative, numeric_literal_digits, numeric_literal_text, big_int_literal_value, string_literal_value, binary_expression_operator, logical_expression_operator, unary_expression_operator, update_expression_operator, update_expression_prefix, object_property_kind, object_property_method, object_property_shorthand, object_property_computed, function_kind, function_is_async, function_generator, function_pife, assignment_expression_operator, static_member_expression_optional, computed_member_expression_optional, call_expression_optional, for_of_statement_is_await, arrow_function_expression_is_async, arrow_function_expression_pife, binding_property_computed, private_identifier_name, private_field_expression_optional, class_kind, method_definition_kind, method_definition_computed, method_definition_is_static, property_definition_computed, property_definition_is_static, assignment_target_property_property_computed, template_element_raw, hashbang_value, with_clause_keyword}
 use Rattle.jsgen_tree.specs.Job.{JobData}
 use Rattle.jsgen_tree.specs.Nodes as tree
 use Rattle.jsgen_model.specs.Numbers.{takes_no_dot}
-use Rattle.jsgen_model.specs.Punctuator.{ellipsis, comma, semicolon, equal, minus, Round, Square, Brace, colon, question, question_dot, arrow}
+use Rattle.jsgen_model.specs.Punctuator.{ellipsis, comma, semicolon, equal, minus, Round, Square, Brace, colon, question, question_dot, arrow, star}
 use Rattle.jsgen_model.specs.Quotes.{is_require_call, is_definition_call, is_key_of_exports, is_export_mark}
-use Rattle.jsgen_model.specs.Items.{Items, nothing, ◌⊕◌, word, name, private_name, number, string, first_string, directive, punctuator, operator, member_dot, brackets, soft_space, soft_line, hard_space, body_space, deeper, in_class, indentation, wrapped, wrapped_at_start, a_brace, a_declaration, parentheses_unless_minified, where_same, statement_end, due_semicolon, drop_semicolon, statement_begins, arrow_body_begins, unless_minified}
+use Rattle.jsgen_model.specs.Items.{Items, TemplatePart, whole_part, head_part, middle_part, tail_part, nothing, ◌⊕◌, word, name, private_name, number, template_part, with_key_annotation, string, first_string, directive, punctuator, operator, member_dot, brackets, soft_space, soft_line, hard_space, body_space, deeper, in_class, indentation, wrapped, wrapped_at_start, a_brace, a_declaration, parentheses_unless_minified, where_same, statement_end, due_semicolon, drop_semicolon, statement_begins, arrow_body_begins, unless_minified, literal, default_export_begins}
+use Rattle.jsgen_tree.specs.Nodes as tree
 use Rattle.jsgen_model.specs.Layout.{layout, empty_pen, style_of}
 use Rattle.jsgen_model.specs.Operators.{operator_item, logical_item, unary_sign, behind_unary, update_item, assignment_item}
 -- generated from tools/nodes/table.txt: names
-use Rattle.jsgen_tree.specs.Values.{reg_exp_literal_pattern, reg_exp_literal_flags}
+use Rattle.jsgen_tree.specs.Values.{reg_exp_literal_pattern, reg_exp_literal_flags, yield_expression_delegate}
 use Rattle.jsgen_model.specs.Items.{marked_word, comments, all_of_them, mark, regular_expression}
 
 -- end of what is generated: names
@@ -58,11 +60,12 @@ update_items false item first last = first ⊕ item
 abbrev pub operation : Bool → Items → Items → Items → Items
 operation test item left right = wrapped test (left ⊕ (soft_space ⊕ (item ⊕ (soft_space ⊕ right))))
 
--- what a prefix operator may begin: a unary operation, and a number, whose minus is one
+-- what a prefix operator or `await` may begin: a unary operation, and a number, whose minus is one
 abbrev pub is_prefixed : Tree → Bool
 is_prefixed (tree.numeric_literal a) = true
 is_prefixed (tree.big_int_literal a) = true
 is_prefixed (tree.unary a argument) = true
+is_prefixed (tree.await_expression a argument) = true
 is_prefixed t = false
 
 abbrev pub is_or_or_and : LogicalOperator → Bool
@@ -74,7 +77,7 @@ abbrev pub mixes : Tree → Bool
 mixes (tree.logical a left right) = is_or_or_and (logical_expression_operator a)
 mixes t = false
 
--- the level of a left operand: just below the operator's, but of `**` its own, and where a prefix operator may begin the
+-- the level of a left operand: just below the operator's, but of `**` its own, and where a prefix operator or `await` may begin the
 -- operand a call's (ECMA-262, 13.6)
 abbrev pub left_level : BinaryOperator → Tree → Precedence
 left_level operators.Exponential left = if is_prefixed (without_parentheses left) then Call else Exponentiation
@@ -202,6 +205,11 @@ case_items ts only statements = soft_line ⊕ deeper statements
 abbrev pub apart_from_of : Option Named → Items → Items
 apart_from_of None items = items
 apart_from_of (Some n) items = where_same n (as_written (codes "async")) (brackets Round items) items
+
+-- what stands before `of`: where `await` stands before it, nothing else begins so
+abbrev pub before_of : Bool → Option Named → Items → Items
+before_of true named items = items
+before_of false named items = apart_from_of named items
 
 abbrev pub is_given : Maybe → Bool
 is_given absent = false
@@ -346,6 +354,10 @@ big_integer_items value None place = number false (big_text value)
 
 -- ---- functions
 
+-- a word before a key, or before the parameters of an arrow function
+abbrev pub key_word : List ℕ → Items
+key_word w = word w ⊕ soft_space
+
 -- in minified text a parameter may stand without parentheses, where it is the only one, and a name alone (ECMA-262, 15.3)
 abbrev pub is_name_alone : Tree → Bool
 is_name_alone (tree.formal_parameters a (more (tree.formal_parameter b (tree.binding_identifier i) absent) no_trees) absent) = true
@@ -360,6 +372,15 @@ abbrev pub function_items : FunctionKind → Bool → Place → Items → Items
 function_items function_kinds.Declaration pife place items = block_items place.in_list items
 -- an expression stands in parentheses where it is marked so, and where a statement or a default export begins with it
 function_items function_kinds.Expression pife place items = wrapped_at_start pife a_declaration items
+
+-- the words before a function's name (ECMA-262, 15.2, 15.5, 15.6 and 15.8); the tests tell that it is `async`, and a generator
+abbrev pub function_words : Bool → Bool → Items
+function_words is_async generator = items_if is_async (word (codes "async") ⊕ hard_space) ⊕ (word (codes "function") ⊕ items_if generator (punctuator star ⊕ soft_space))
+
+-- what stands before the key of a method, by its function (ECMA-262, 15.4 to 15.8)
+abbrev pub method_words : Tree → Items
+method_words (tree.function a id params body) = items_if (function_is_async a) (key_word (codes "async")) ⊕ items_if (function_generator a) (punctuator star)
+method_words t = nothing
 
 -- the braces of a function's body, in which an empty one has nothing
 abbrev pub body_braces : Trees → Trees → Items → Items
@@ -393,10 +414,6 @@ element_end type = soft_line
 -- among others a member is a line of its own
 abbrev pub element_items : Bool → ℕ → Items → Items → Items
 element_items in_list start items end = items_if in_list (comments all_of_them start ⊕ indentation) ⊕ (items ⊕ items_if in_list end)
-
--- a word before a key
-abbrev pub key_word : List ℕ → Items
-key_word w = word w ⊕ soft_space
 
 abbrev pub method_kind_word : MethodDefinitionKind → Items
 method_kind_word method_kinds.Get = key_word (codes "get")
@@ -433,11 +450,128 @@ abbrev pub assignment_items : NodeType → Bool → Items → Items
 assignment_items types.ObjectAssignmentTarget test items = wrapped_at_start test a_brace items
 assignment_items type test items = wrapped test items
 
+-- ---- templates
+
+-- the first of the pieces that are left, and those behind it
+abbrev pub first_piece : Bool → (Trees → TemplatePart) → Trees → Items
+first_piece is_tagged part no_trees = nothing
+first_piece is_tagged part (more piece pieces) = template_part (part pieces) is_tagged (span_of piece) (template_element_raw (atoms_of piece))
+first_piece is_tagged part (hole pieces) = nothing
+
+abbrev pub other_pieces : Trees → Trees
+other_pieces no_trees = no_trees
+other_pieces (more piece pieces) = pieces
+other_pieces (hole pieces) = pieces
+
+-- what the first piece of a template is, and what another is, by the pieces behind it
+abbrev pub opening_part : Trees → TemplatePart
+opening_part no_trees = whole_part
+opening_part pieces = head_part
+
+abbrev pub further_part : Trees → TemplatePart
+further_part no_trees = tail_part
+further_part pieces = middle_part
+
+-- a template of one piece may be a property's name, with an annotation before it
+abbrev pub is_one : Trees → Bool
+is_one (more piece no_trees) = true
+is_one pieces = false
+
+-- ---- imports and exports
+
+-- the characters of a string, where each of its surrogates is in a pair
+abbrev pub string_named : List ℕ → Option Named
+string_named units = if has_lone units then None else Some (as_written (joined_units units))
+
+-- what an export is known by, or a binding: a name as it is printed, or the text of a string
+abbrev pub export_named : Tree → Option Named
+export_named (tree.identifier_name a) = Some (as_written (identifier_name_name a))
+export_named (tree.identifier_reference a) = Some (reference_named a)
+export_named (tree.binding_identifier a) = Some (binding_named a)
+export_named (tree.string_literal a) = string_named (string_literal_value a)
+export_named t = None
+
+-- nothing where two names are printed the same
+abbrev pub unless_named : Option Named → Option Named → Items → Items
+unless_named (Some m) (Some n) items = where_same m n nothing items
+unless_named m n items = items
+
+-- and nothing where two strings are the same
+abbrev pub unless_same : Tree → Tree → Items → Items
+unless_same (tree.string_literal a) (tree.string_literal b) items = items_unless (bytes_eq (string_literal_value a) (string_literal_value b)) items
+unless_same t u items = unless_named (export_named t) (export_named u) items
+
+-- `as`, and a name behind it
+abbrev pub as_name : Items → Items
+as_name items = soft_space ⊕ (word (codes "as") ⊕ (soft_space ⊕ items))
+
+-- An import by its name: what is imported, and behind `as` the name that it has here, where the two differ. Of a string that says
+-- the same the name alone is left
+abbrev pub import_items : Tree → Tree → Items → Items → Items
+import_items (tree.string_literal a) local imported bound = unless_same (tree.string_literal a) local (imported ⊕ (soft_space ⊕ (word (codes "as") ⊕ soft_space))) ⊕ bound
+import_items t local imported bound = imported ⊕ unless_same t local (as_name bound)
+
+-- what is imported behind a default, or without one: all exports, or in braces some by their names. The items are of the first, and of all
+abbrev pub others_items : NodeType → Items → Items → Items
+others_items types.ImportNamespaceSpecifier first every = first ⊕ hard_space
+others_items type first every = brackets Brace (soft_space ⊕ (every ⊕ soft_space)) ⊕ soft_space
+
+-- an import begins with a default, or with what may stand behind one
+abbrev pub clause_items : NodeType → Items → Items → Items → Items
+clause_items types.ImportDefaultSpecifier first behind others = hard_space ⊕ (first ⊕ behind)
+clause_items type first behind others = soft_space ⊕ others
+
+-- braces with a space on each side of what is in them, and nothing in empty ones
+abbrev pub spaced_braces : Trees → Items → Items
+spaced_braces no_trees items = brackets Brace nothing
+spaced_braces ts items = brackets Brace (soft_space ⊕ (items ⊕ soft_space))
+
+-- a key of an attribute: a name without a mark, or a string
+abbrev pub attribute_key : Tree → Items → Items
+attribute_key (tree.identifier_name a) items = name unmarked (as_written (identifier_name_name a))
+attribute_key key items = items
+
+abbrev pub space_by : Bool → Items
+space_by true = hard_space
+space_by false = soft_space
+
+abbrev pub is_empty_list : MaybeTrees → Bool
+is_empty_list (listed no_trees) = true
+is_empty_list ts = false
+
+-- what an import or an export begins with
+abbrev pub module_word : Span → List ℕ → Items
+module_word s w = comments all_of_them s.start ⊕ (indentation ⊕ (mark s ⊕ word w))
+
+-- what ends a declaration that is exported
+abbrev pub exported_end : NodeType → Items
+exported_end types.VariableDeclaration = statement_end
+exported_end type = soft_line ⊕ drop_semicolon
+
+abbrev pub is_declared_function : FunctionKind → Bool
+is_declared_function function_kinds.Declaration = true
+is_declared_function function_kinds.Expression = false
+
+abbrev pub is_declared_class : ClassKind → Bool
+is_declared_class class_kinds.Declaration = true
+is_declared_class class_kinds.Expression = false
+
+-- a function or a class that is declared
+abbrev pub is_declared : Tree → Bool
+is_declared (tree.function a id params body) = is_declared_function (function_kind a)
+is_declared (tree.class a id heritage body) = is_declared_class (class_kind a)
+is_declared t = false
+
+-- what is exported by default: a declaration, or an expression, which may begin with neither a function nor a class (ECMA-262, 16.2.3)
+abbrev pub default_items : Bool → Items → Items → Items
+default_items true declaration expression = declaration ⊕ soft_line
+default_items false declaration expression = default_export_begins ⊕ (expression ⊕ statement_end)
+
 -- ---- the whole
 
 abbrev mutual
   pub spell : Tree → Place → Items
-  spell (tree.program a _ directives body) place = spell_directives directives ⊕ (spell_body body ⊕ due_semicolon)
+  spell (tree.program a _ hashbang directives body) place = spell_if_given hashbang place ⊕ (spell_directives directives ⊕ (spell_body body ⊕ due_semicolon))
   spell (tree.directive a) place = indentation ⊕ (directive (as_text (directive_directive a)) ⊕ (punctuator semicolon ⊕ soft_line))
   spell (tree.binding_identifier a) place = name a.span (binding_named a)
   spell (tree.identifier_reference a) place = name a.span (reference_named a)
@@ -467,9 +601,10 @@ abbrev mutual
       ⊕ (soft_space ⊕ (word (codes "in") ⊕ (soft_space ⊕ spell right (in_brackets Lowest)))))
       ⊕ body_items (shape body) (spell body within_statement) (spell body among_statements))))
   spell (tree.for_of_statement a left right body) place =
-      indentation ⊕ (word (codes "for") ⊕ (soft_space ⊕ (brackets Round (apart_from_of (looked_up_in left) (spell left (left_place (type_of left)))
+      indentation ⊕ (word (codes "for") ⊕ (items_if (for_of_statement_is_await a) (hard_space ⊕ word (codes "await")) ⊕ (soft_space
+      ⊕ (brackets Round (before_of (for_of_statement_is_await a) (looked_up_in left) (spell left (left_place (type_of left)))
       ⊕ (soft_space ⊕ (word (codes "of") ⊕ (soft_space ⊕ spell right (in_brackets Comma)))))
-      ⊕ body_items (shape body) (spell body within_statement) (spell body among_statements))))
+      ⊕ body_items (shape body) (spell body within_statement) (spell body among_statements)))))
   spell (tree.do_while_statement a body test) place =
       indentation ⊕ (word (codes "do") ⊕ (do_items (shape body) (spell body within_statement) (spell body among_statements)
       ⊕ (word (codes "while") ⊕ (soft_space ⊕ (brackets Round (spell test (in_brackets Lowest)) ⊕ statement_end)))))
@@ -499,7 +634,7 @@ abbrev mutual
   spell (tree.object_expression a properties) place = wrapped_at_start false a_brace (brackets Brace (object_inside properties (spell_elements (are_more 1 properties) properties (in_brackets Comma) ⊕ comma_if (ends_in_hole properties))))
   spell (tree.object_property a key value) place =
       method_or_property (is_method (object_property_kind a) (object_property_method a))
-      (accessor_word (object_property_kind a) ⊕ (key_items (needs_brackets (object_property_computed a) key) key (spell key (in_brackets Comma)) ⊕ spell_method value place))
+      (accessor_word (object_property_kind a) ⊕ (method_words value ⊕ (key_items (needs_brackets (object_property_computed a) key) key (spell key (in_brackets Comma)) ⊕ spell_method value place)))
       (before_value (object_property_shorthand a) (written_name_in key) (looked_up_in (without_parentheses value)) (key_items (needs_brackets (object_property_computed a) key) key (spell key (in_brackets Comma)))
       ⊕ spell value (in_brackets Comma))
   -- an assignment binds to the right, and hands on what is forbidden
@@ -517,10 +652,11 @@ abbrev mutual
   spell (tree.formal_parameters a items rest) place = spell_list items place ⊕ (comma_between items rest ⊕ spell_if_given rest place)
   -- no line end stands before the arrow (ECMA-262, 15.3)
   spell (tree.arrow_function a params body) place =
-      wrapped (arrow_wraps (arrow_function_expression_pife a) place) (parameter_items (is_name_alone params) (spell params (child Comma (within true place)))
-      ⊕ (soft_space ⊕ (punctuator arrow ⊕ (soft_space ⊕ (body_begins (type_of body) ⊕ spell body (child Comma (within (arrow_wraps (arrow_function_expression_pife a) place) place)))))))
+      wrapped (arrow_wraps (arrow_function_expression_pife a) place) (items_if (arrow_function_expression_is_async a) (key_word (codes "async"))
+      ⊕ (parameter_items (is_name_alone params) (spell params (child Comma (within true place)))
+      ⊕ (soft_space ⊕ (punctuator arrow ⊕ (soft_space ⊕ (body_begins (type_of body) ⊕ spell body (child Comma (within (arrow_wraps (arrow_function_expression_pife a) place) place))))))))
   spell (tree.function a id params body) place =
-      function_items (function_kind a) (function_pife a) place (word (codes "function") ⊕ (spell_if_given id (child Lowest place)
+      function_items (function_kind a) (function_pife a) place (function_words (function_is_async a) (function_generator a) ⊕ (spell_if_given id (child Lowest place)
       ⊕ (brackets Round (spell params (with_calls (child Comma place))) ⊕ spell_apart body within_statement)))
   spell (tree.function_body a directives statements) place =
       body_braces directives statements (spell_directives directives ⊕ spell_body statements)
@@ -544,10 +680,41 @@ abbrev mutual
       element_items place.in_list a.span.start (mark a.span ⊕ (key_word (codes "static") ⊕ braces body (spell_statements body))) soft_line
   spell (tree.method_definition a key value) place =
       element_items place.in_list a.span.start (mark a.span ⊕ (items_if (method_definition_is_static a) (key_word (codes "static")) ⊕ (method_kind_word (method_definition_kind a)
-      ⊕ (key_items (method_definition_computed a) key (spell key (in_brackets Comma)) ⊕ spell_method value place)))) soft_line
+      ⊕ (method_words value ⊕ (key_items (method_definition_computed a) key (spell key (in_brackets Comma)) ⊕ spell_method value place))))) soft_line
   spell (tree.property_definition a key value) place =
       element_items place.in_list a.span.start (mark a.span ⊕ (items_if (property_definition_is_static a) (key_word (codes "static"))
       ⊕ (key_items (property_definition_computed a) key (spell key (in_brackets Comma)) ⊕ spell_value value (in_brackets Comma)))) statement_end
+  spell (tree.template_literal a quasis expressions) place =
+      items_if (is_one quasis) (comments with_key_annotation a.span.start) ⊕ (mark a.span
+      ⊕ (first_piece place.context.is_tagged opening_part quasis ⊕ spell_substitutions place.context.is_tagged expressions (other_pieces quasis)))
+  spell (tree.tagged_template a callee quasi) place = mark a.span ⊕ (spell callee (tag place) ⊕ spell quasi (tagged place))
+  spell (tree.import_call a source options) place =
+      wrapped (call_wraps place) (marked_word a.span (codes "import") ⊕ brackets Round (spell source (in_brackets Comma) ⊕ spell_behind_comma options (in_brackets Comma)))
+  -- the line end stays in minified text (ECMA-262, 12.5)
+  spell (tree.hashbang a) place = literal (codes "#!") ⊕ (literal (hashbang_value a) ⊕ literal (codes "\n"))
+  spell (tree.import_declaration a specifiers source with_attributes) place =
+      module_word a.span (codes "import") ⊕ (spell_specifiers specifiers ⊕ (spell source plainly ⊕ (spell_attributes (is_empty_list specifiers) with_attributes ⊕ statement_end)))
+  spell (tree.import_default_specifier a local) place = spell local plainly
+  spell (tree.import_namespace_specifier a local) place = punctuator star ⊕ (soft_space ⊕ (word (codes "as") ⊕ (hard_space ⊕ spell local plainly)))
+  spell (tree.import_specifier a imported local) place = import_items imported local (spell imported plainly) (spell local plainly)
+  spell (tree.with_clause a entries) place =
+      mark a.span ⊕ (word (with_word (with_clause_keyword a)) ⊕ (soft_space ⊕ (mark a.span ⊕ spaced_braces entries (spell_list entries plainly))))
+  spell (tree.import_attribute a key value) place = attribute_key key (spell key plainly) ⊕ (punctuator colon ⊕ (soft_space ⊕ spell value plainly))
+  spell (tree.export_declaration a declaration) place =
+      module_word a.span (codes "export") ⊕ (hard_space ⊕ (spell declaration within_statement ⊕ exported_end (type_of declaration)))
+  spell (tree.export_named_declaration a specifiers) place =
+      module_word a.span (codes "export") ⊕ (soft_space ⊕ (spaced_braces specifiers (spell_list specifiers plainly) ⊕ statement_end))
+  spell (tree.export_from_declaration a specifiers source with_attributes) place =
+      module_word a.span (codes "export") ⊕ (soft_space ⊕ (spaced_braces specifiers (spell_list specifiers plainly) ⊕ (soft_space ⊕ (word (codes "from")
+      ⊕ (soft_space ⊕ (spell source plainly ⊕ (spell_attributes false with_attributes ⊕ statement_end)))))))
+  spell (tree.export_specifier a local exported) place =
+      spell local plainly ⊕ unless_same local exported (as_name (spell exported plainly))
+  spell (tree.export_all_declaration a exported source with_attributes) place =
+      module_word a.span (codes "export") ⊕ (soft_space ⊕ (punctuator star ⊕ (spell_exported exported ⊕ (word (codes "from")
+      ⊕ (soft_space ⊕ (spell source plainly ⊕ (spell_attributes true with_attributes ⊕ statement_end)))))))
+  spell (tree.export_default_declaration a declaration) place =
+      module_word a.span (codes "export") ⊕ (hard_space ⊕ (word (codes "default") ⊕ (soft_space
+      ⊕ default_items (is_declared declaration) (spell declaration within_statement) (spell declaration (in_brackets Comma)))))
   -- generated from tools/nodes/table.txt: clauses
   spell (tree.variable_declaration a declarations) place =
       as_statement place.in_list (mark a.span ⊕ (word (declaration_word (variable_declaration_kind a)) ⊕ (soft_space
@@ -576,6 +743,12 @@ abbrev mutual
   spell (tree.formal_parameter a pattern initializer) place =
       mark a.span ⊕ (spell pattern (child Lowest place) ⊕ spell_value initializer (child Comma place))
   spell (tree.formal_parameter_rest a argument) place = mark a.span ⊕ (punctuator ellipsis ⊕ spell argument (child Lowest place))
+  spell (tree.await_expression a argument) place =
+      wrapped (wraps Prefix place) (marked_word a.span (codes "await") ⊕ (soft_space
+      ⊕ spell argument (child Exponentiation (within (wraps Prefix place) place))))
+  spell (tree.yield_expression a argument) place =
+      wrapped (wraps Assign place) (marked_word a.span (codes "yield") ⊕ (items_if (yield_expression_delegate a) (punctuator star)
+      ⊕ spell_apart argument (with_calls (child Yield (within (wraps Assign place) place)))))
   spell (tree.while_statement a test body) place =
       comments all_of_them a.span.start ⊕ (indentation ⊕ (marked_word a.span (codes "while") ⊕ (soft_space
       ⊕ (brackets Round (spell test (in_brackets Lowest)) ⊕ body_items (shape body) (spell body within_statement) (spell body among_statements)))))
@@ -635,6 +808,17 @@ abbrev mutual
   spell_elements_of_class (more t ts) place = due_semicolon ⊕ (spell t place ⊕ spell_elements_of_class ts place)
   spell_elements_of_class (hole ts) place = spell_elements_of_class ts place
 
+  -- the expressions of a template, each with the piece behind it
+  pub spell_substitutions : Bool → Trees → Trees → Items
+  spell_substitutions is_tagged no_trees pieces = nothing
+  spell_substitutions is_tagged (more t ts) pieces = spell t (in_brackets Lowest) ⊕ (first_piece is_tagged further_part pieces ⊕ spell_substitutions is_tagged ts (other_pieces pieces))
+  spell_substitutions is_tagged (hole ts) pieces = spell_substitutions is_tagged ts pieces
+
+  -- a second argument
+  pub spell_behind_comma : Maybe → Place → Items
+  spell_behind_comma absent place = nothing
+  spell_behind_comma (given t) place = punctuator comma ⊕ (soft_space ⊕ spell t place)
+
   -- what a class extends
   pub spell_heritage : Maybe → Items
   spell_heritage absent = nothing
@@ -644,6 +828,31 @@ abbrev mutual
   pub spell_behind_word : Maybe → Place → Items
   spell_behind_word absent place = nothing
   spell_behind_word (given t) place = hard_space ⊕ spell t place
+
+  -- what an import takes, up to its source
+  pub spell_specifiers : MaybeTrees → Items
+  spell_specifiers no_list = soft_space
+  spell_specifiers (listed ts) = spell_clause ts ⊕ (word (codes "from") ⊕ soft_space)
+
+  pub spell_clause : Trees → Items
+  spell_clause no_trees = soft_space ⊕ (brackets Brace nothing ⊕ soft_space)
+  spell_clause (more t ts) = clause_items (type_of t) (spell t plainly) (spell_behind_default ts) (others_items (type_of t) (spell t plainly) (spell t plainly ⊕ spell_more ts plainly))
+  spell_clause (hole ts) = spell_clause ts
+
+  pub spell_behind_default : Trees → Items
+  spell_behind_default no_trees = hard_space
+  spell_behind_default (more t ts) = punctuator comma ⊕ (soft_space ⊕ others_items (type_of t) (spell t plainly) (spell t plainly ⊕ spell_more ts plainly))
+  spell_behind_default (hole ts) = spell_behind_default ts
+
+  -- attributes, behind a space that minified text keeps where the test holds
+  pub spell_attributes : Bool → Maybe → Items
+  spell_attributes test absent = nothing
+  spell_attributes test (given t) = space_by test ⊕ spell t plainly
+
+  -- the name of all exports of a module, up to its source
+  pub spell_exported : Maybe → Items
+  spell_exported absent = soft_space
+  spell_exported (given t) = soft_space ⊕ (word (codes "as") ⊕ (soft_space ⊕ (spell t plainly ⊕ hard_space)))
 
   -- a list with commas
   pub spell_list : Trees → Place → Items

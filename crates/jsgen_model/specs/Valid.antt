@@ -30,24 +30,30 @@ use Rattle.jsgen_tree.specs.Table.{child_sets}
 use Rattle.jsgen_tree.specs.Fields.{fields}
 use Rattle.jsgen_tree.specs.Sets.{in_set, is_expression}
 use Rattle.jsgen_tree.specs.Number.{NumericKind, Whole, Raw}
-use Rattle.jsgen_tree.specs.Inside.{without_parentheses, looked_up_in, reference_named, binding_named, declared_kind, function_in, class_kind_in, written_name_in, is_proto, is_method, is_negative_number, is_negative_big_integer, has_optional_link}
+use Rattle.jsgen_tree.specs.Inside.{without_parentheses, looked_up_in, reference_named, binding_named, declared_kind, function_in, class_head_in, has_name, written_name_in, is_proto, is_method, is_negative_number, is_negative_big_integer, has_optional_link}
 use Rattle.jsgen_tree.specs.Tree.{Tree, node, Slots, no_slots, one, maybe, many, maybe_many, Maybe, absent, given, Trees, no_trees, more, hole, MaybeTrees, no_list, listed, type_of, span_of}
 use Rattle.jsgen_tree.specs.Nodes as tree
-use Rattle.jsgen_tree.specs.Values.{as_text, program_source, comment_kind, directive_directive, identifier_name_name, label_identifier_name, numeric_literal_kind, numeric_literal_text, big_int_literal_value, reg_exp_literal_pattern, reg_exp_literal_flags, object_property_kind, object_property_method, object_property_shorthand, object_property_computed, function_kind, static_member_expression_optional, computed_member_expression_optional, call_expression_optional, binding_property_computed, private_identifier_name, class_kind, method_definition_kind, method_definition_computed, property_definition_computed, assignment_expression_operator, identifier_reference_name, assignment_target_property_property_computed}
+use Rattle.jsgen_tree.specs.Values.{as_text, program_source, comment_kind, directive_directive, identifier_name_name, label_identifier_name, numeric_literal_kind, numeric_literal_text, big_int_literal_value, reg_exp_literal_pattern, reg_exp_literal_flags, object_property_kind, object_property_method, object_property_shorthand, object_property_computed, function_kind, static_member_expression_optional, computed_member_expression_optional, call_expression_optional, binding_property_computed, private_identifier_name, class_kind, method_definition_kind, method_definition_computed, property_definition_computed, assignment_expression_operator, identifier_reference_name, assignment_target_property_property_computed, template_element_raw, template_element_cooked, hashbang_value, function_is_async, function_generator, arrow_function_expression_is_async, for_of_statement_is_await, yield_expression_delegate}
 use Rattle.jsgen_model.specs.Numbers.{is_raw_number, is_big_integer}
 use Rattle.jsgen_model.specs.RegularExpressions.{is_body, are_flags}
+use Rattle.jsgen_model.specs.Templates.{is_raw, is_cooked}
 use Rattle.jsgen_model.specs.Tokens.{has_line_end}
-use Rattle.jsgen_model.specs.Private.{name_in}
+use Rattle.jsgen_model.specs.Private.{classes_within, printed_private}
+use Rattle.jsgen_model.specs.Resolved.{after, after_maybe, after_trees, after_maybe_trees}
 use Rattle.jsgen_model.specs.declared.fault.TreeFault.{TreeFault}
 use Rattle.jsgen_model.specs.declared.fault.TreeFault.TheVariants as faults
 
--- what surrounds a node: the options, the tables, the program's source, whether spans have to be of that source, and whether a function's body is round it
+-- What surrounds a node: the options, the tables, the program's source, whether spans have to be of that source, the classes with a
+-- table round it, the innermost first, and whether `return`, `yield` and `await` may stand there (ECMA-262, 14.10, 15.5 and 15.8)
 pub record Surroundings : Type 0 where
   pub options : Options
   pub tables : Tables
   pub source : List ℕ
   pub is_mapped : Bool
+  pub classes : List ℕ
   pub in_function : Bool
+  pub may_yield : Bool
+  pub may_await : Bool
 
 -- a child's place: the set that its field asks for, and what surrounds it
 pub record ChildPlace : Type 0 where
@@ -67,18 +73,53 @@ asked_sets types.CallExpression = linked (child_sets (fields types.CallExpressio
 asked_sets types.BindingProperty = sets.PropertyKey ∷ sets.BindingElement ∷ []
 asked_sets types.ArrayPattern = sets.BindingElement ∷ sets.BindingRestElement ∷ []
 asked_sets types.PrivateFieldExpression = linked (child_sets (fields types.PrivateFieldExpression))
+asked_sets types.Program = sets.Comment ∷ sets.Hashbang ∷ sets.Directive ∷ sets.ModuleItem ∷ []
 asked_sets type = child_sets (fields type)
 
--- what surrounds the children of a node: what surrounds it, but of a function's body, where `return` may stand (ECMA-262, 15.2), and of a
--- static block, where it may not (15.7)
-abbrev pub around_children : Surroundings → NodeType → Surroundings
-around_children around types.FunctionBody = record around { in_function = true }
-around_children around types.StaticBlock = record around { in_function = false }
-around_children around type = around
+-- neither parameters nor a class's members take what the function round them may do: of the three nothing stands there
+abbrev pub within_nothing : Surroundings → Surroundings
+within_nothing around = record around { in_function = false; may_yield = false; may_await = false }
+
+-- the body of a function by its two flags (ECMA-262, 15.2, 15.5, 15.6 and 15.8)
+abbrev pub within_function : Bool → Bool → Surroundings → Surroundings
+within_function is_async generator around = record around { in_function = true; may_yield = generator; may_await = is_async }
+
+-- what follows the arrow, be it an expression or a body in braces, of which the latter takes `return` (ECMA-262, 15.3 and 15.9)
+abbrev pub within_arrow : Bool → Surroundings → Surroundings
+within_arrow is_async around = record around { in_function = false; may_yield = false; may_await = is_async }
+
+abbrev pub within_braces : Surroundings → Surroundings
+within_braces around = record around { in_function = true }
+
+-- the members of the class with this number
+abbrev pub within_class : ℕ → Surroundings → Surroundings
+within_class number around = record around { classes = classes_within around.tables number around.classes }
+
+-- What surrounds a node's children, field by field, where the next class has this number. Behind the last that is given, it is what
+-- surrounds the node: so of a class's heritage and of computed keys.
+abbrev pub around_fields : Surroundings → ℕ → Tree → List Surroundings
+around_fields around next (tree.function a id params body) = around ∷ within_nothing around ∷ within_function (function_is_async a) (function_generator a) around ∷ []
+around_fields around next (tree.arrow_function a params body) = within_nothing around ∷ within_arrow (arrow_function_expression_is_async a) around ∷ []
+around_fields around next (tree.function_body a directives statements) = within_braces around ∷ within_braces around ∷ []
+around_fields around next (tree.class_body a members) = within_class next around ∷ []
+around_fields around next (tree.property_definition a key value) = around ∷ within_nothing around ∷ []
+around_fields around next (tree.static_block a statements) = within_nothing around ∷ []
+around_fields around next t = []
+
+-- the number of the first class among a node's children, where the next one has this
+abbrev pub first_number : Tree → ℕ → ℕ
+first_number (tree.class_body a members) next = suc next
+first_number t next = next
+
+-- what these sets ask for, in what surrounds each of them
+abbrev pub places_of : Surroundings → List NodeSet → List Surroundings → List ChildPlace
+places_of around [] inside = []
+places_of around (s ∷ sets) [] = record { set = s; around = around } ∷ places_of around sets []
+places_of around (s ∷ sets) (within ∷ inside) = record { set = s; around = within } ∷ places_of around sets inside
 
 -- the places of a node's children, field by field
-abbrev pub child_places : Surroundings → Tree → List ChildPlace
-child_places around t = map (λ set. record { set = set; around = around_children around (type_of t) }) (asked_sets (type_of t))
+abbrev pub child_places : Surroundings → ℕ → Tree → List ChildPlace
+child_places around next t = places_of around (asked_sets (type_of t)) (around_fields around next t)
 
 abbrev pub fault_if : Bool → TreeFault → List TreeFault
 fault_if true f = f ∷ []
@@ -142,6 +183,19 @@ big_integer_faults s value = fault_if (not (is_big_integer value)) (faults.Liter
 abbrev pub regular_expression_faults : Span → List ℕ → List ℕ → List TreeFault
 regular_expression_faults s pattern flags = fault_if (not (is_body pattern && are_flags flags)) (faults.Literal s.start)
 
+-- a piece of a template is its raw text, and what that stands for (ECMA-262, 12.9.6)
+abbrev pub piece_faults : Span → List ℕ → Option (List ℕ) → List TreeFault
+piece_faults s raw cooked = fault_if (not (is_raw raw && is_cooked raw cooked)) (faults.Template s.start)
+
+-- a template has one piece more than expressions (ECMA-262, 13.2.8)
+abbrev pub is_one_more : Trees → Trees → Bool
+is_one_more (more piece no_trees) no_trees = true
+is_one_more (more piece pieces) (more t ts) = is_one_more pieces ts
+is_one_more pieces ts = false
+
+abbrev pub template_faults : Span → Trees → Trees → List TreeFault
+template_faults s quasis expressions = fault_if (not (is_one_more quasis expressions)) (faults.Template s.start)
+
 -- a member's name is a name, be it reserved or not
 abbrev pub written_name_faults : Span → List ℕ → List TreeFault
 written_name_faults s name = fault_if (not (spells_name name)) (faults.Name s.start)
@@ -162,7 +216,7 @@ is_lexical_word kinds.Var = false
 is_lexical_word kind = true
 
 abbrev pub is_declaration : Tree → Bool
-is_declaration t = option_map_or is_lexical_word (declared_kind t) (is_some (function_in t) || is_some (class_kind_in t))
+is_declaration t = option_map_or is_lexical_word (declared_kind t) (is_some (function_in t) || is_some (class_head_in t))
 
 abbrev pub body_faults : Tree → List TreeFault
 body_faults t = fault_if (is_declaration t) (faults.Place (span_of t).start)
@@ -171,15 +225,23 @@ abbrev pub alternate_faults : Maybe → List TreeFault
 alternate_faults absent = []
 alternate_faults (given t) = body_faults t
 
--- a function has a body, and one that is declared has a name (ECMA-262, 15.2)
-abbrev pub function_faults : Span → FunctionKind → Maybe → Maybe → List TreeFault
-function_faults s function_kinds.Declaration absent body = faults.Place s.start ∷ []
-function_faults s kind id absent = faults.Place s.start ∷ []
-function_faults s kind id (given body) = []
+-- a function has a body (ECMA-262, 15.2)
+abbrev pub function_faults : Span → Maybe → List TreeFault
+function_faults s absent = faults.Place s.start ∷ []
+function_faults s (given body) = []
 
 -- `return` stands in a function's body (ECMA-262, 14.10)
 abbrev pub return_faults : Bool → Span → List TreeFault
 return_faults in_function s = fault_if (not in_function) (faults.Place s.start)
+
+-- `await`, also that of a loop, stands in the body of an `async` function and among a module's statements (ECMA-262, 14.7.5 and 15.8)
+abbrev pub await_faults : Bool → Bool → Span → List TreeFault
+await_faults waits may_await s = fault_if (waits && not may_await) (faults.Place s.start)
+
+-- `yield` stands in a generator's body, and has an argument where it hands on all values of another (ECMA-262, 15.5)
+abbrev pub yield_faults : Bool → Bool → Maybe → Span → List TreeFault
+yield_faults may_yield delegate absent s = fault_if (delegate || not may_yield) (faults.Place s.start)
+yield_faults may_yield delegate (given t) s = fault_if (not may_yield) (faults.Place s.start)
 
 -- a getter has no parameter, and a setter has one, which doesn't take the rest (ECMA-262, 15.4)
 abbrev pub fits_accessor : PropertyKind → Tree → Bool
@@ -188,9 +250,14 @@ fits_accessor property_kinds.Get (tree.formal_parameters a no_trees absent) = tr
 fits_accessor property_kinds.Set (tree.formal_parameters a (more p no_trees) absent) = true
 fits_accessor kind params = false
 
+-- and is neither `async` nor a generator
+abbrev pub fits_words : PropertyKind → Bool → Bool → Bool
+fits_words property_kinds.Init is_async generator = true
+fits_words kind is_async generator = not (is_async || generator)
+
 -- the value of a method or an accessor is a function without a name
 abbrev pub fits_method : PropertyKind → Tree → Bool
-fits_method kind (tree.function a absent params body) = fits_accessor kind params
+fits_method kind (tree.function a absent params body) = fits_accessor kind params && fits_words kind (function_is_async a) (function_generator a)
 fits_method kind t = false
 
 -- and its key, where it isn't computed, is no negative number
@@ -262,22 +329,9 @@ as_property kind = property_kinds.Init
 abbrev pub class_method_faults : MethodDefinitionKind → Tree → List TreeFault
 class_method_faults kind value = fault_if (not (fits_method (as_property kind) value)) (faults.Place (span_of value).start)
 
--- a class that is declared has a name (ECMA-262, 15.7)
-abbrev pub class_faults : Span → ClassKind → Maybe → List TreeFault
-class_faults s class_kinds.Declaration absent = faults.Place s.start ∷ []
-class_faults s kind id = []
-
--- the new name that a class's table gives the name, if it gives one, is a name
-abbrev pub renames_well : List ℕ → List (List ℕ × List ℕ) → Bool
-renames_well w table = option_map_or spells_name (name_in table w) true
-
-abbrev pub all_rename_well : List ℕ → List (List (List ℕ × List ℕ)) → Bool
-all_rename_well w [] = true
-all_rename_well w (table ∷ tables) = renames_well w table && all_rename_well w tables
-
--- A private name is a name, and so is each new one that the table of a class gives it, be it a class that is round it or not
-abbrev pub private_name_faults : Tables → Span → List ℕ → List TreeFault
-private_name_faults tables s w = fault_if (not (spells_name w && option_map_or (all_rename_well w) tables.private true)) (faults.Name s.start)
+-- what is printed for a private name is a name (ECMA-262, 12.7): by the innermost class round it whose table holds it
+abbrev pub private_name_faults : Tables → List ℕ → Span → List ℕ → List TreeFault
+private_name_faults tables classes s w = fault_if (not (spells_name (printed_private tables classes w))) (faults.Name s.start)
 
 -- the value of a property `__proto__` that it alone says is a reference that is printed so
 abbrev pub named_faults : Tables → Span → Option Named → List TreeFault
@@ -368,6 +422,57 @@ abbrev pub init_faults : Maybe → List TreeFault
 init_faults absent = []
 init_faults (given t) = fault_if (binds_nothing t) (faults.Place (span_of t).start)
 
+-- ---- imports, exports and hashbangs (ECMA-262, 16.2 and 12.5)
+
+-- a hashbang is one line
+abbrev pub hashbang_faults : Span → List ℕ → List TreeFault
+hashbang_faults s value = fault_if (has_line_end value) (faults.Literal s.start)
+
+abbrev pub is_named_import : NodeType → Bool
+is_named_import types.ImportSpecifier = true
+is_named_import type = false
+
+abbrev pub are_named : Trees → Bool
+are_named no_trees = true
+are_named (more t ts) = is_named_import (type_of t) && are_named ts
+are_named (hole ts) = are_named ts
+
+abbrev pub is_empty : Trees → Bool
+is_empty no_trees = true
+is_empty ts = false
+
+-- all exports by one name, or some by theirs
+abbrev pub are_behind_default : Trees → Bool
+are_behind_default (more (tree.import_namespace_specifier a local) ts) = is_empty ts
+are_behind_default ts = are_named ts
+
+-- a default stands first
+abbrev pub are_specifiers : Trees → Bool
+are_specifiers (more (tree.import_default_specifier a local) ts) = are_behind_default ts
+are_specifiers ts = are_behind_default ts
+
+abbrev pub import_faults : Span → MaybeTrees → List TreeFault
+import_faults s no_list = []
+import_faults s (listed ts) = fault_if (not (are_specifiers ts)) (faults.Place s.start)
+
+abbrev pub is_reference : NodeType → Bool
+is_reference types.IdentifierReference = true
+is_reference type = false
+
+-- what an export of another module is of is no reference, and that of this module is one
+abbrev pub fits_source : Bool → NodeType → Bool
+fits_source true type = not (is_reference type)
+fits_source false type = is_reference type
+
+abbrev pub fit_source : Bool → Trees → Bool
+fit_source has_source no_trees = true
+fit_source has_source (more (tree.export_specifier a local exported) ts) = fits_source has_source (type_of local) && fit_source has_source ts
+fit_source has_source (more t ts) = fit_source has_source ts
+fit_source has_source (hole ts) = fit_source has_source ts
+
+abbrev pub export_faults : Bool → Span → Trees → List TreeFault
+export_faults has_source s specifiers = fault_if (not (fit_source has_source specifiers)) (faults.Place s.start)
+
 -- ---- comments (ECMA-262, 12.4 and B.1.1)
 
 -- the text begins so, and what follows holds
@@ -443,7 +548,7 @@ indent_faults options t = fault_if (if options.minify then false else passes_lev
 
 -- a row's rules of its own
 abbrev pub own_faults : Surroundings → Tree → List TreeFault
-own_faults around (tree.program a comments directives body) = source_faults a.span around.source ++ indent_faults around.options (tree.program a comments directives body)
+own_faults around (tree.program a comments hashbang directives body) = source_faults a.span around.source ++ indent_faults around.options (tree.program a comments hashbang directives body)
 own_faults around (tree.comment a) = comment_faults around.source a.span (comment_kind a)
 own_faults around (tree.directive a) = directive_faults a.span (as_text (directive_directive a))
 own_faults around (tree.variable_declaration a declarations) = declaration_faults a.span declarations
@@ -455,7 +560,7 @@ own_faults around (tree.reg_exp_literal a) = regular_expression_faults a.span (r
 own_faults around (tree.if_statement a test consequent alternate) = body_faults consequent ++ alternate_faults alternate
 own_faults around (tree.for_statement a init test update body) = init_faults init ++ body_faults body
 own_faults around (tree.for_in_statement a left right body) = left_faults left ++ body_faults body
-own_faults around (tree.for_of_statement a left right body) = left_faults left ++ body_faults body
+own_faults around (tree.for_of_statement a left right body) = await_faults (for_of_statement_is_await a) around.may_await a.span ++ (left_faults left ++ body_faults body)
 own_faults around (tree.while_statement a test body) = body_faults body
 own_faults around (tree.do_while_statement a body test) = body_faults body
 own_faults around (tree.label_identifier a) = label_faults a.span (label_identifier_name a)
@@ -471,13 +576,14 @@ own_faults around (tree.update a argument) = target_faults argument
 own_faults around (tree.assignment a left right) = assigned_faults (assignment_expression_operator a) left
 own_faults around (tree.object_property a key value) = key_faults (object_property_computed a) key
     ++ (if is_method (object_property_kind a) (object_property_method a) then method_faults (object_property_kind a) (object_property_computed a) key value else shorthand_faults around.tables (object_property_shorthand a) key value)
-own_faults around (tree.function a id params body) = function_faults a.span (function_kind a) id body
-own_faults around (tree.private_identifier a) = private_name_faults around.tables a.span (private_identifier_name a)
+own_faults around (tree.function a id params body) = function_faults a.span body
+own_faults around (tree.private_identifier a) = private_name_faults around.tables around.classes a.span (private_identifier_name a)
 -- `super` has no private member (ECMA-262, 13.3.5)
 own_faults around (tree.private_member a object field) = super_faults true object
-own_faults around (tree.class a id heritage body) = class_faults a.span (class_kind a) id
 own_faults around (tree.method_definition a key value) = member_key_faults (method_definition_computed a) key ++ class_method_faults (method_definition_kind a) value
 own_faults around (tree.property_definition a key value) = member_key_faults (property_definition_computed a) key
+own_faults around (tree.await_expression a argument) = await_faults true around.may_await a.span
+own_faults around (tree.yield_expression a argument) = yield_faults around.may_yield (yield_expression_delegate a) argument a.span
 own_faults around (tree.return_statement a argument) = return_faults around.in_function a.span
 own_faults around (tree.sequence a expressions) = sequence_faults a.span expressions
 own_faults around (tree.object_pattern a properties rest) = rest_faults rest
@@ -487,6 +593,12 @@ own_faults around (tree.target_with_default a binding init) = target_faults bind
 own_faults around (tree.target_property_identifier a binding init) = shorthand_name_faults binding
 own_faults around (tree.target_property a key binding) = pattern_key_faults (assignment_target_property_property_computed a) key
 own_faults around (tree.target_rest a target) = target_faults target
+own_faults around (tree.template_element a) = piece_faults a.span (template_element_raw a) (template_element_cooked a)
+own_faults around (tree.template_literal a quasis expressions) = template_faults a.span quasis expressions
+own_faults around (tree.hashbang a) = hashbang_faults a.span (hashbang_value a)
+own_faults around (tree.import_declaration a specifiers source attributes) = import_faults a.span specifiers
+own_faults around (tree.export_named_declaration a specifiers) = export_faults false a.span specifiers
+own_faults around (tree.export_from_declaration a specifiers source attributes) = export_faults true a.span specifiers
 own_faults around t = []
 
 abbrev pub takes_super : NodeSet → Bool
@@ -502,9 +614,23 @@ abbrev pub takes_default : NodeSet → Bool
 takes_default sets.BindingElement = true
 takes_default set = false
 
--- of these two a node is neither, or the place takes it
+-- an import or an export stands among the statements of a module, and of nothing else (ECMA-262, 16.2)
+abbrev pub is_module_item : NodeType → Bool
+is_module_item types.ImportDeclaration = true
+is_module_item types.ExportDeclaration = true
+is_module_item types.ExportNamedDeclaration = true
+is_module_item types.ExportFromDeclaration = true
+is_module_item types.ExportAllDeclaration = true
+is_module_item types.ExportDefaultDeclaration = true
+is_module_item type = false
+
+abbrev pub takes_module_items : NodeSet → Bool
+takes_module_items sets.ModuleItem = true
+takes_module_items set = false
+
+-- of these three a node is none, or the place takes it
 abbrev pub has_place : NodeSet → NodeType → Bool
-has_place set type = (takes_super set || not (is_super type)) && (takes_default set || not (is_default type))
+has_place set type = (takes_super set || not (is_super type)) && ((takes_default set || not (is_default type)) && (takes_module_items set || not (is_module_item type)))
 
 abbrev pub may_stand : NodeSet → NodeType → Bool
 may_stand set type = in_set set type && has_place set type
@@ -521,9 +647,32 @@ takes_optional_link set = false
 abbrev pub link_faults : NodeSet → Tree → List TreeFault
 link_faults set t = fault_if (not (takes_optional_link set) && has_optional_link t) (faults.Place (span_of t).start)
 
--- a function or a class is a declaration where it stands among statements, and an expression everywhere else
+-- a piece stands for nothing only in a template behind its tag (ECMA-262, 13.2.8.1)
+abbrev pub is_uncooked : Tree → Bool
+is_uncooked (tree.template_element a) = not (is_some (template_element_cooked a))
+is_uncooked t = false
+
+abbrev pub any_uncooked : Trees → Bool
+any_uncooked no_trees = false
+any_uncooked (more t ts) = is_uncooked t || any_uncooked ts
+any_uncooked (hole ts) = any_uncooked ts
+
+abbrev pub has_uncooked : Tree → Bool
+has_uncooked (tree.template_literal a quasis expressions) = any_uncooked quasis
+has_uncooked t = false
+
+abbrev pub takes_uncooked : NodeSet → Bool
+takes_uncooked sets.TemplateLiteral = true
+takes_uncooked set = false
+
+abbrev pub uncooked_faults : NodeSet → Tree → List TreeFault
+uncooked_faults set t = fault_if (not (takes_uncooked set) && has_uncooked t) (faults.Template (span_of t).start)
+
+-- a function or a class is a declaration where it stands among statements or is exported, and an expression everywhere else
 abbrev pub stands_among : NodeSet → FunctionKind
 stands_among sets.Statement = function_kinds.Declaration
+stands_among sets.ModuleItem = function_kinds.Declaration
+stands_among sets.Declaration = function_kinds.Declaration
 stands_among set = function_kinds.Expression
 
 abbrev pub same_kind : FunctionKind → FunctionKind → Bool
@@ -533,21 +682,32 @@ same_kind k l = false
 
 abbrev pub is_among_statements : NodeSet → Bool
 is_among_statements sets.Statement = true
+is_among_statements sets.ModuleItem = true
+is_among_statements sets.Declaration = true
 is_among_statements set = false
+
+abbrev pub is_default_export : NodeSet → Bool
+is_default_export sets.ExportDefaultDeclarationKind = true
+is_default_export set = false
+
+-- A function or a class of this kind, with a name or without one, fits a place: as a declaration it has a name (ECMA-262, 15.2 and
+-- 15.7). What is exported by default is either, and needs none (16.2.3)
+abbrev pub fits_place : NodeSet → FunctionKind → Bool → Bool
+fits_place set kind named = is_default_export set || (same_kind kind (stands_among set) && (named || same_kind kind function_kinds.Expression))
 
 abbrev pub as_function_kind : ClassKind → FunctionKind
 as_function_kind class_kinds.Declaration = function_kinds.Declaration
 as_function_kind class_kinds.Expression = function_kinds.Expression
 
 abbrev pub fits_kind : NodeSet → Tree → Bool
-fits_kind set (tree.function a id params body) = same_kind (function_kind a) (stands_among set)
-fits_kind set (tree.class a id heritage body) = same_kind (as_function_kind (class_kind a)) (stands_among set)
+fits_kind set (tree.function a id params body) = fits_place set (function_kind a) (has_name id)
+fits_kind set (tree.class a id heritage body) = fits_place set (as_function_kind (class_kind a)) (has_name id)
 fits_kind set (tree.variable_declaration a declarations) = not (is_among_statements set && any_lacks_value declarations)
 fits_kind set t = true
 
--- a child is of the set that its field asks for, and `super`, defaults, optional links, functions, classes and declarations only where they may be
+-- a child is of the set that its field asks for, and `super`, defaults, optional links, pieces that stand for nothing, functions, classes and declarations only where they may be
 abbrev pub set_faults : NodeSet → Tree → List TreeFault
-set_faults set t = fault_if (not (may_stand set (type_of t) && fits_kind set t)) (faults.Place (span_of t).start) ++ link_faults set t
+set_faults set t = fault_if (not (may_stand set (type_of t) && fits_kind set t)) (faults.Place (span_of t).start) ++ (link_faults set t ++ uncooked_faults set t)
 
 -- no field asks for a child that has no place
 abbrev pub place_faults : List ChildPlace → Tree → List TreeFault
@@ -566,41 +726,46 @@ other_places (p ∷ ps) = ps
 -- ---- the whole
 
 abbrev mutual
-  -- what is asked of a tree: its span, its own rules, and its children, each at its place
-  pub breaches : Surroundings → Tree → List TreeFault
-  breaches around (node type a slots) = span_faults around a.span ++ own_faults around (node type a slots) ++ in_slots around (child_places around (node type a slots)) slots
+  -- What is asked of a tree: its span, its own rules, and its children, each at its place. Classes are numbered in the order in which
+  -- their bodies begin, and the next one has this number.
+  pub breaches : Surroundings → ℕ → Tree → List TreeFault
+  breaches around next (node type a slots) = span_faults around a.span ++ own_faults around (node type a slots) ++ in_slots around (child_places around next (node type a slots)) (first_number (node type a slots) next) slots
 
-  pub in_slots : Surroundings → List ChildPlace → Slots → List TreeFault
-  in_slots around places no_slots = []
-  in_slots around places (one t slots) = place_faults places t ++ breaches (around_first around places) t ++ in_slots around (other_places places) slots
-  in_slots around places (maybe m slots) = in_maybe around places m ++ in_slots around (other_places places) slots
-  in_slots around places (many ts slots) = in_trees around places ts ++ in_slots around (other_places places) slots
-  in_slots around places (maybe_many ts slots) = in_maybe_trees around places ts ++ in_slots around (other_places places) slots
+  pub in_slots : Surroundings → List ChildPlace → ℕ → Slots → List TreeFault
+  in_slots around places next no_slots = []
+  in_slots around places next (one t slots) = place_faults places t ++ breaches (around_first around places) next t ++ in_slots around (other_places places) (after t next) slots
+  in_slots around places next (maybe m slots) = in_maybe around places next m ++ in_slots around (other_places places) (after_maybe m next) slots
+  in_slots around places next (many ts slots) = in_trees around places next ts ++ in_slots around (other_places places) (after_trees ts next) slots
+  in_slots around places next (maybe_many ts slots) = in_maybe_trees around places next ts ++ in_slots around (other_places places) (after_maybe_trees ts next) slots
 
-  pub in_maybe : Surroundings → List ChildPlace → Maybe → List TreeFault
-  in_maybe around places absent = []
-  in_maybe around places (given t) = place_faults places t ++ breaches (around_first around places) t
+  pub in_maybe : Surroundings → List ChildPlace → ℕ → Maybe → List TreeFault
+  in_maybe around places next absent = []
+  in_maybe around places next (given t) = place_faults places t ++ breaches (around_first around places) next t
 
-  pub in_trees : Surroundings → List ChildPlace → Trees → List TreeFault
-  in_trees around places no_trees = []
-  in_trees around places (more t ts) = place_faults places t ++ breaches (around_first around places) t ++ in_trees around places ts
-  in_trees around places (hole ts) = in_trees around places ts
+  pub in_trees : Surroundings → List ChildPlace → ℕ → Trees → List TreeFault
+  in_trees around places next no_trees = []
+  in_trees around places next (more t ts) = place_faults places t ++ breaches (around_first around places) next t ++ in_trees around places (after t next) ts
+  in_trees around places next (hole ts) = in_trees around places next ts
 
-  pub in_maybe_trees : Surroundings → List ChildPlace → MaybeTrees → List TreeFault
-  in_maybe_trees around places no_list = []
-  in_maybe_trees around places (listed ts) = in_trees around places ts
+  pub in_maybe_trees : Surroundings → List ChildPlace → ℕ → MaybeTrees → List TreeFault
+  in_maybe_trees around places next no_list = []
+  in_maybe_trees around places next (listed ts) = in_trees around places next ts
 
 -- ---- jobs
 
 abbrev pub source_of : Tree → List ℕ
-source_of (tree.program a comments directives body) = program_source a
+source_of (tree.program a comments hashbang directives body) = program_source a
 source_of t = []
 
+-- what surrounds a module's statements: no class and no function, and `await` may stand there (ECMA-262, 16.2)
+abbrev pub at_top : Options → Tables → List ℕ → Bool → Surroundings
+at_top options tables source is_mapped = record { options = options; tables = tables; source = source; is_mapped = is_mapped; classes = []; in_function = false; may_yield = false; may_await = true }
+
 abbrev pub surroundings_of : JobData → Surroundings
-surroundings_of job = record { options = job.options; tables = job.tables; source = source_of job.program; is_mapped = is_some job.options.source_map_path; in_function = false }
+surroundings_of job = at_top job.options job.tables (source_of job.program) (is_some job.options.source_map_path)
 
 abbrev pub job_breaches : JobData → List TreeFault
-job_breaches job = breaches (surroundings_of job) job.program
+job_breaches job = breaches (surroundings_of job) 0 job.program
 
 -- no rule is broken by the program, under the job's options and tables
 abbrev pub IsValid : JobData → Type 0
@@ -608,10 +773,10 @@ IsValid job = job_breaches job ≡ []
 
 -- ---- expressions by themselves
 
--- An expression by itself is checked as that of the one statement of a module, where `super` has no place. It has no source, and
--- its own height counts
+-- An expression by itself is checked as that of the one statement of a module, where `super` has no place, and its classes are
+-- numbered from 0. It has no source, and its own height counts
 abbrev pub expression_breaches : Options → Tables → Tree → List TreeFault
-expression_breaches options tables t = set_faults sets.Expression t ++ breaches (record { options = options; tables = tables; source = []; is_mapped = false; in_function = false }) t ++ indent_faults options t
+expression_breaches options tables t = set_faults sets.Expression t ++ breaches (at_top options tables [] false) 0 t ++ indent_faults options t
 
 -- no rule is broken by the expression, under these options and tables
 abbrev pub IsValidExpression : Options → Tables → Tree → Type 0

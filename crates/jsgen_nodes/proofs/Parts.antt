@@ -107,38 +107,40 @@ expression_past_3 (expressions.SequenceExpression b) later no_0 no_1 no_2 = absu
 expression_past_3 (expressions.AssignmentExpression b) later no_0 no_1 no_2 = absurd (no_2 b refl)
 expression_past_3 n later no_0 no_1 no_2 = refl
 
-pub expression_past_4 : {N : Type 0} (n : Expression N) → nat_le 4 (expression_part n) ≡ true → IsNot n expressions.Function → IsNot n expressions.ArrowFunctionExpression → nat_le 5 (expression_part n) ≡ true
-expression_past_4 (expressions.IdentifierReference b) later no_0 no_1 = let no : false ≡ true = later in cc
-expression_past_4 (expressions.ThisExpression b) later no_0 no_1 = let no : false ≡ true = later in cc
-expression_past_4 (expressions.NullLiteral b) later no_0 no_1 = let no : false ≡ true = later in cc
-expression_past_4 (expressions.BooleanLiteral b) later no_0 no_1 = let no : false ≡ true = later in cc
-expression_past_4 (expressions.NumericLiteral b) later no_0 no_1 = let no : false ≡ true = later in cc
-expression_past_4 (expressions.BigIntLiteral b) later no_0 no_1 = let no : false ≡ true = later in cc
-expression_past_4 (expressions.StringLiteral b) later no_0 no_1 = let no : false ≡ true = later in cc
-expression_past_4 (expressions.RegExpLiteral b) later no_0 no_1 = let no : false ≡ true = later in cc
-expression_past_4 (expressions.ParenthesizedExpression b) later no_0 no_1 = let no : false ≡ true = later in cc
-expression_past_4 (expressions.BinaryExpression b) later no_0 no_1 = let no : false ≡ true = later in cc
-expression_past_4 (expressions.LogicalExpression b) later no_0 no_1 = let no : false ≡ true = later in cc
-expression_past_4 (expressions.StaticMemberExpression b) later no_0 no_1 = let no : false ≡ true = later in cc
-expression_past_4 (expressions.ComputedMemberExpression b) later no_0 no_1 = let no : false ≡ true = later in cc
-expression_past_4 (expressions.CallExpression b) later no_0 no_1 = let no : false ≡ true = later in cc
-expression_past_4 (expressions.ChainExpression b) later no_0 no_1 = let no : false ≡ true = later in cc
-expression_past_4 (expressions.ArrayExpression b) later no_0 no_1 = let no : false ≡ true = later in cc
-expression_past_4 (expressions.ObjectExpression b) later no_0 no_1 = let no : false ≡ true = later in cc
-expression_past_4 (expressions.UnaryExpression b) later no_0 no_1 = let no : false ≡ true = later in cc
-expression_past_4 (expressions.NewTarget b) later no_0 no_1 = let no : false ≡ true = later in cc
-expression_past_4 (expressions.UpdateExpression b) later no_0 no_1 = let no : false ≡ true = later in cc
-expression_past_4 (expressions.NewExpression b) later no_0 no_1 = let no : false ≡ true = later in cc
-expression_past_4 (expressions.Super b) later no_0 no_1 = let no : false ≡ true = later in cc
-expression_past_4 (expressions.ImportMeta b) later no_0 no_1 = let no : false ≡ true = later in cc
-expression_past_4 (expressions.ConditionalExpression b) later no_0 no_1 = let no : false ≡ true = later in cc
-expression_past_4 (expressions.SequenceExpression b) later no_0 no_1 = let no : false ≡ true = later in cc
-expression_past_4 (expressions.AssignmentExpression b) later no_0 no_1 = let no : false ≡ true = later in cc
-expression_past_4 (expressions.Function b) later no_0 no_1 = absurd (no_0 b refl)
-expression_past_4 (expressions.ArrowFunctionExpression b) later no_0 no_1 = absurd (no_1 b refl)
-expression_past_4 n later no_0 no_1 = refl
+pub expression_past_4 : {N : Type 0} (n : Expression N) → nat_le 4 (expression_part n) ≡ true → IsNot n expressions.Function → IsNot n expressions.ArrowFunctionExpression → IsNot n expressions.AwaitExpression → IsNot n expressions.YieldExpression → nat_le 5 (expression_part n) ≡ true
+expression_past_4 (expressions.IdentifierReference b) later no_0 no_1 no_2 no_3 = let no : false ≡ true = later in cc
+expression_past_4 (expressions.ThisExpression b) later no_0 no_1 no_2 no_3 = let no : false ≡ true = later in cc
+expression_past_4 (expressions.NullLiteral b) later no_0 no_1 no_2 no_3 = let no : false ≡ true = later in cc
+expression_past_4 (expressions.BooleanLiteral b) later no_0 no_1 no_2 no_3 = let no : false ≡ true = later in cc
+expression_past_4 (expressions.NumericLiteral b) later no_0 no_1 no_2 no_3 = let no : false ≡ true = later in cc
+expression_past_4 (expressions.BigIntLiteral b) later no_0 no_1 no_2 no_3 = let no : false ≡ true = later in cc
+expression_past_4 (expressions.StringLiteral b) later no_0 no_1 no_2 no_3 = let no : false ≡ true = later in cc
+expression_past_4 (expressions.RegExpLiteral b) later no_0 no_1 no_2 no_3 = let no : false ≡ true = later in cc
+expression_past_4 (expressions.ParenthesizedExpression b) later no_0 no_1 no_2 no_3 = let no : false ≡ true = later in cc
+expression_past_4 (expressions.BinaryExpression b) later no_0 no_1 no_2 no_3 = let no : false ≡ true = later in cc
+expression_past_4 (expressions.LogicalExpression b) later no_0 no_1 no_2 no_3 = let no : false ≡ true = later in cc
+expression_past_4 (expressions.StaticMemberExpression b) later no_0 no_1 no_2 no_3 = let no : false ≡ true = later in cc
+expression_past_4 (expressions.ComputedMemberExpression b) later no_0 no_1 no_2 no_3 = let no : false ≡ true = later in cc
+expression_past_4 (expressions.CallExpression b) later no_0 no_1 no_2 no_3 = let no : false ≡ true = later in cc
+expression_past_4 (expressions.ChainExpression b) later no_0 no_1 no_2 no_3 = let no : false ≡ true = later in cc
+expression_past_4 (expressions.ArrayExpression b) later no_0 no_1 no_2 no_3 = let no : false ≡ true = later in cc
+expression_past_4 (expressions.ObjectExpression b) later no_0 no_1 no_2 no_3 = let no : false ≡ true = later in cc
+expression_past_4 (expressions.UnaryExpression b) later no_0 no_1 no_2 no_3 = let no : false ≡ true = later in cc
+expression_past_4 (expressions.NewTarget b) later no_0 no_1 no_2 no_3 = let no : false ≡ true = later in cc
+expression_past_4 (expressions.UpdateExpression b) later no_0 no_1 no_2 no_3 = let no : false ≡ true = later in cc
+expression_past_4 (expressions.NewExpression b) later no_0 no_1 no_2 no_3 = let no : false ≡ true = later in cc
+expression_past_4 (expressions.Super b) later no_0 no_1 no_2 no_3 = let no : false ≡ true = later in cc
+expression_past_4 (expressions.ImportMeta b) later no_0 no_1 no_2 no_3 = let no : false ≡ true = later in cc
+expression_past_4 (expressions.ConditionalExpression b) later no_0 no_1 no_2 no_3 = let no : false ≡ true = later in cc
+expression_past_4 (expressions.SequenceExpression b) later no_0 no_1 no_2 no_3 = let no : false ≡ true = later in cc
+expression_past_4 (expressions.AssignmentExpression b) later no_0 no_1 no_2 no_3 = let no : false ≡ true = later in cc
+expression_past_4 (expressions.Function b) later no_0 no_1 no_2 no_3 = absurd (no_0 b refl)
+expression_past_4 (expressions.ArrowFunctionExpression b) later no_0 no_1 no_2 no_3 = absurd (no_1 b refl)
+expression_past_4 (expressions.AwaitExpression b) later no_0 no_1 no_2 no_3 = absurd (no_2 b refl)
+expression_past_4 (expressions.YieldExpression b) later no_0 no_1 no_2 no_3 = absurd (no_3 b refl)
+expression_past_4 n later no_0 no_1 no_2 no_3 = refl
 
-pub expression_past_5 : {N : Type 0} (n : Expression N) → nat_le 5 (expression_part n) ≡ true → IsNot n expressions.PrivateFieldExpression → IsNot n expressions.PrivateInExpression → IsNot n expressions.Class → ⊥
+pub expression_past_5 : {N : Type 0} (n : Expression N) → nat_le 5 (expression_part n) ≡ true → IsNot n expressions.TemplateLiteral → IsNot n expressions.TaggedTemplateExpression → IsNot n expressions.ImportExpression → nat_le 6 (expression_part n) ≡ true
 expression_past_5 (expressions.IdentifierReference b) later no_0 no_1 no_2 = let no : false ≡ true = later in cc
 expression_past_5 (expressions.ThisExpression b) later no_0 no_1 no_2 = let no : false ≡ true = later in cc
 expression_past_5 (expressions.NullLiteral b) later no_0 no_1 no_2 = let no : false ≡ true = later in cc
@@ -167,9 +169,50 @@ expression_past_5 (expressions.SequenceExpression b) later no_0 no_1 no_2 = let 
 expression_past_5 (expressions.AssignmentExpression b) later no_0 no_1 no_2 = let no : false ≡ true = later in cc
 expression_past_5 (expressions.Function b) later no_0 no_1 no_2 = let no : false ≡ true = later in cc
 expression_past_5 (expressions.ArrowFunctionExpression b) later no_0 no_1 no_2 = let no : false ≡ true = later in cc
-expression_past_5 (expressions.PrivateFieldExpression b) later no_0 no_1 no_2 = absurd (no_0 b refl)
-expression_past_5 (expressions.PrivateInExpression b) later no_0 no_1 no_2 = absurd (no_1 b refl)
-expression_past_5 (expressions.Class b) later no_0 no_1 no_2 = absurd (no_2 b refl)
+expression_past_5 (expressions.AwaitExpression b) later no_0 no_1 no_2 = let no : false ≡ true = later in cc
+expression_past_5 (expressions.YieldExpression b) later no_0 no_1 no_2 = let no : false ≡ true = later in cc
+expression_past_5 (expressions.TemplateLiteral b) later no_0 no_1 no_2 = absurd (no_0 b refl)
+expression_past_5 (expressions.TaggedTemplateExpression b) later no_0 no_1 no_2 = absurd (no_1 b refl)
+expression_past_5 (expressions.ImportExpression b) later no_0 no_1 no_2 = absurd (no_2 b refl)
+expression_past_5 n later no_0 no_1 no_2 = refl
+
+pub expression_past_6 : {N : Type 0} (n : Expression N) → nat_le 6 (expression_part n) ≡ true → IsNot n expressions.PrivateFieldExpression → IsNot n expressions.PrivateInExpression → IsNot n expressions.Class → ⊥
+expression_past_6 (expressions.IdentifierReference b) later no_0 no_1 no_2 = let no : false ≡ true = later in cc
+expression_past_6 (expressions.ThisExpression b) later no_0 no_1 no_2 = let no : false ≡ true = later in cc
+expression_past_6 (expressions.NullLiteral b) later no_0 no_1 no_2 = let no : false ≡ true = later in cc
+expression_past_6 (expressions.BooleanLiteral b) later no_0 no_1 no_2 = let no : false ≡ true = later in cc
+expression_past_6 (expressions.NumericLiteral b) later no_0 no_1 no_2 = let no : false ≡ true = later in cc
+expression_past_6 (expressions.BigIntLiteral b) later no_0 no_1 no_2 = let no : false ≡ true = later in cc
+expression_past_6 (expressions.StringLiteral b) later no_0 no_1 no_2 = let no : false ≡ true = later in cc
+expression_past_6 (expressions.RegExpLiteral b) later no_0 no_1 no_2 = let no : false ≡ true = later in cc
+expression_past_6 (expressions.ParenthesizedExpression b) later no_0 no_1 no_2 = let no : false ≡ true = later in cc
+expression_past_6 (expressions.BinaryExpression b) later no_0 no_1 no_2 = let no : false ≡ true = later in cc
+expression_past_6 (expressions.LogicalExpression b) later no_0 no_1 no_2 = let no : false ≡ true = later in cc
+expression_past_6 (expressions.StaticMemberExpression b) later no_0 no_1 no_2 = let no : false ≡ true = later in cc
+expression_past_6 (expressions.ComputedMemberExpression b) later no_0 no_1 no_2 = let no : false ≡ true = later in cc
+expression_past_6 (expressions.CallExpression b) later no_0 no_1 no_2 = let no : false ≡ true = later in cc
+expression_past_6 (expressions.ChainExpression b) later no_0 no_1 no_2 = let no : false ≡ true = later in cc
+expression_past_6 (expressions.ArrayExpression b) later no_0 no_1 no_2 = let no : false ≡ true = later in cc
+expression_past_6 (expressions.ObjectExpression b) later no_0 no_1 no_2 = let no : false ≡ true = later in cc
+expression_past_6 (expressions.UnaryExpression b) later no_0 no_1 no_2 = let no : false ≡ true = later in cc
+expression_past_6 (expressions.NewTarget b) later no_0 no_1 no_2 = let no : false ≡ true = later in cc
+expression_past_6 (expressions.UpdateExpression b) later no_0 no_1 no_2 = let no : false ≡ true = later in cc
+expression_past_6 (expressions.NewExpression b) later no_0 no_1 no_2 = let no : false ≡ true = later in cc
+expression_past_6 (expressions.Super b) later no_0 no_1 no_2 = let no : false ≡ true = later in cc
+expression_past_6 (expressions.ImportMeta b) later no_0 no_1 no_2 = let no : false ≡ true = later in cc
+expression_past_6 (expressions.ConditionalExpression b) later no_0 no_1 no_2 = let no : false ≡ true = later in cc
+expression_past_6 (expressions.SequenceExpression b) later no_0 no_1 no_2 = let no : false ≡ true = later in cc
+expression_past_6 (expressions.AssignmentExpression b) later no_0 no_1 no_2 = let no : false ≡ true = later in cc
+expression_past_6 (expressions.Function b) later no_0 no_1 no_2 = let no : false ≡ true = later in cc
+expression_past_6 (expressions.ArrowFunctionExpression b) later no_0 no_1 no_2 = let no : false ≡ true = later in cc
+expression_past_6 (expressions.AwaitExpression b) later no_0 no_1 no_2 = let no : false ≡ true = later in cc
+expression_past_6 (expressions.YieldExpression b) later no_0 no_1 no_2 = let no : false ≡ true = later in cc
+expression_past_6 (expressions.TemplateLiteral b) later no_0 no_1 no_2 = let no : false ≡ true = later in cc
+expression_past_6 (expressions.TaggedTemplateExpression b) later no_0 no_1 no_2 = let no : false ≡ true = later in cc
+expression_past_6 (expressions.ImportExpression b) later no_0 no_1 no_2 = let no : false ≡ true = later in cc
+expression_past_6 (expressions.PrivateFieldExpression b) later no_0 no_1 no_2 = absurd (no_0 b refl)
+expression_past_6 (expressions.PrivateInExpression b) later no_0 no_1 no_2 = absurd (no_1 b refl)
+expression_past_6 (expressions.Class b) later no_0 no_1 no_2 = absurd (no_2 b refl)
 
 pub assignment_target_past_0 : {N : Type 0} (n : AssignmentTarget N) → IsNot n assignment_targets.IdentifierReference → IsNot n assignment_targets.StaticMemberExpression → IsNot n assignment_targets.ComputedMemberExpression → nat_le 1 (assignment_target_part n) ≡ true
 assignment_target_past_0 (assignment_targets.IdentifierReference b) no_0 no_1 no_2 = absurd (no_0 b refl)
@@ -238,7 +281,7 @@ statement_past_2 (statements.ThrowStatement b) later no_0 no_1 no_2 no_3 no_4 no
 statement_past_2 (statements.DebuggerStatement b) later no_0 no_1 no_2 no_3 no_4 no_5 no_6 no_7 no_8 no_9 no_10 = absurd (no_10 b refl)
 statement_past_2 n later no_0 no_1 no_2 no_3 no_4 no_5 no_6 no_7 no_8 no_9 no_10 = refl
 
-pub statement_past_3 : {N : Type 0} (n : Statement N) → nat_le 3 (statement_part n) ≡ true → IsNot n statements.SwitchStatement → IsNot n statements.TryStatement → ⊥
+pub statement_past_3 : {N : Type 0} (n : Statement N) → nat_le 3 (statement_part n) ≡ true → IsNot n statements.SwitchStatement → IsNot n statements.TryStatement → nat_le 4 (statement_part n) ≡ true
 statement_past_3 (statements.Declaration b) later no_0 no_1 = let no : false ≡ true = later in cc
 statement_past_3 (statements.ExpressionStatement b) later no_0 no_1 = let no : false ≡ true = later in cc
 statement_past_3 (statements.BlockStatement b) later no_0 no_1 = let no : false ≡ true = later in cc
@@ -257,6 +300,33 @@ statement_past_3 (statements.ThrowStatement b) later no_0 no_1 = let no : false 
 statement_past_3 (statements.DebuggerStatement b) later no_0 no_1 = let no : false ≡ true = later in cc
 statement_past_3 (statements.SwitchStatement b) later no_0 no_1 = absurd (no_0 b refl)
 statement_past_3 (statements.TryStatement b) later no_0 no_1 = absurd (no_1 b refl)
+statement_past_3 n later no_0 no_1 = refl
+
+pub statement_past_4 : {N : Type 0} (n : Statement N) → nat_le 4 (statement_part n) ≡ true → IsNot n statements.ImportDeclaration → IsNot n statements.ExportDeclaration → IsNot n statements.ExportNamedDeclaration → IsNot n statements.ExportFromDeclaration → IsNot n statements.ExportAllDeclaration → IsNot n statements.ExportDefaultDeclaration → ⊥
+statement_past_4 (statements.Declaration b) later no_0 no_1 no_2 no_3 no_4 no_5 = let no : false ≡ true = later in cc
+statement_past_4 (statements.ExpressionStatement b) later no_0 no_1 no_2 no_3 no_4 no_5 = let no : false ≡ true = later in cc
+statement_past_4 (statements.BlockStatement b) later no_0 no_1 no_2 no_3 no_4 no_5 = let no : false ≡ true = later in cc
+statement_past_4 (statements.IfStatement b) later no_0 no_1 no_2 no_3 no_4 no_5 = let no : false ≡ true = later in cc
+statement_past_4 (statements.EmptyStatement b) later no_0 no_1 no_2 no_3 no_4 no_5 = let no : false ≡ true = later in cc
+statement_past_4 (statements.ForStatement b) later no_0 no_1 no_2 no_3 no_4 no_5 = let no : false ≡ true = later in cc
+statement_past_4 (statements.ForInStatement b) later no_0 no_1 no_2 no_3 no_4 no_5 = let no : false ≡ true = later in cc
+statement_past_4 (statements.ForOfStatement b) later no_0 no_1 no_2 no_3 no_4 no_5 = let no : false ≡ true = later in cc
+statement_past_4 (statements.WhileStatement b) later no_0 no_1 no_2 no_3 no_4 no_5 = let no : false ≡ true = later in cc
+statement_past_4 (statements.DoWhileStatement b) later no_0 no_1 no_2 no_3 no_4 no_5 = let no : false ≡ true = later in cc
+statement_past_4 (statements.LabeledStatement b) later no_0 no_1 no_2 no_3 no_4 no_5 = let no : false ≡ true = later in cc
+statement_past_4 (statements.ContinueStatement b) later no_0 no_1 no_2 no_3 no_4 no_5 = let no : false ≡ true = later in cc
+statement_past_4 (statements.BreakStatement b) later no_0 no_1 no_2 no_3 no_4 no_5 = let no : false ≡ true = later in cc
+statement_past_4 (statements.ReturnStatement b) later no_0 no_1 no_2 no_3 no_4 no_5 = let no : false ≡ true = later in cc
+statement_past_4 (statements.ThrowStatement b) later no_0 no_1 no_2 no_3 no_4 no_5 = let no : false ≡ true = later in cc
+statement_past_4 (statements.DebuggerStatement b) later no_0 no_1 no_2 no_3 no_4 no_5 = let no : false ≡ true = later in cc
+statement_past_4 (statements.SwitchStatement b) later no_0 no_1 no_2 no_3 no_4 no_5 = let no : false ≡ true = later in cc
+statement_past_4 (statements.TryStatement b) later no_0 no_1 no_2 no_3 no_4 no_5 = let no : false ≡ true = later in cc
+statement_past_4 (statements.ImportDeclaration b) later no_0 no_1 no_2 no_3 no_4 no_5 = absurd (no_0 b refl)
+statement_past_4 (statements.ExportDeclaration b) later no_0 no_1 no_2 no_3 no_4 no_5 = absurd (no_1 b refl)
+statement_past_4 (statements.ExportNamedDeclaration b) later no_0 no_1 no_2 no_3 no_4 no_5 = absurd (no_2 b refl)
+statement_past_4 (statements.ExportFromDeclaration b) later no_0 no_1 no_2 no_3 no_4 no_5 = absurd (no_3 b refl)
+statement_past_4 (statements.ExportAllDeclaration b) later no_0 no_1 no_2 no_3 no_4 no_5 = absurd (no_4 b refl)
+statement_past_4 (statements.ExportDefaultDeclaration b) later no_0 no_1 no_2 no_3 no_4 no_5 = absurd (no_5 b refl)
 
 pub binding_pattern_past_0 : {N : Type 0} (n : BindingPattern N) → IsNot n binding_patterns.BindingIdentifier → nat_le 1 (binding_pattern_part n) ≡ true
 binding_pattern_past_0 (binding_patterns.BindingIdentifier b) no_0 = absurd (no_0 b refl)

@@ -41,9 +41,14 @@ expression_part (expression.SequenceExpression b) = 3
 expression_part (expression.AssignmentExpression b) = 3
 expression_part (expression.Function b) = 4
 expression_part (expression.ArrowFunctionExpression b) = 4
-expression_part (expression.PrivateFieldExpression b) = 5
-expression_part (expression.PrivateInExpression b) = 5
-expression_part (expression.Class b) = 5
+expression_part (expression.AwaitExpression b) = 4
+expression_part (expression.YieldExpression b) = 4
+expression_part (expression.TemplateLiteral b) = 5
+expression_part (expression.TaggedTemplateExpression b) = 5
+expression_part (expression.ImportExpression b) = 5
+expression_part (expression.PrivateFieldExpression b) = 6
+expression_part (expression.PrivateInExpression b) = 6
+expression_part (expression.Class b) = 6
 
 abbrev pub assignment_target_part : {N : Type 0} → AssignmentTarget N → ℕ
 assignment_target_part (assignment_target.IdentifierReference b) = 0
@@ -77,6 +82,12 @@ statement_part (statement.ThrowStatement b) = 2
 statement_part (statement.DebuggerStatement b) = 2
 statement_part (statement.SwitchStatement b) = 3
 statement_part (statement.TryStatement b) = 3
+statement_part (statement.ImportDeclaration b) = 4
+statement_part (statement.ExportDeclaration b) = 4
+statement_part (statement.ExportNamedDeclaration b) = 4
+statement_part (statement.ExportFromDeclaration b) = 4
+statement_part (statement.ExportAllDeclaration b) = 4
+statement_part (statement.ExportDefaultDeclaration b) = 4
 
 abbrev pub binding_pattern_part : {N : Type 0} → BindingPattern N → ℕ
 binding_pattern_part (binding_pattern.BindingIdentifier b) = 0

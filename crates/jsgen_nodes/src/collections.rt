@@ -9,7 +9,7 @@ ghost use Rattle.jsgen_tree.specs.Rows.{array_expression_row, in_array_expressio
 ghost use Rattle.jsgen_place.specs.Place.{in_brackets};
 ghost use Rattle.jsgen_model.specs.Punctuator.{Square, Brace, colon};
 ghost use Rattle.jsgen_model.specs.Items.{◌⊕◌, brackets, punctuator, soft_space};
-ghost use Rattle.jsgen_model.specs.Spell.{spell, spell_method, are_more, object_inside, spell_elements, ends_in_hole, comma_if, key_text, key_items, accessor_word, before_value, string_in};
+ghost use Rattle.jsgen_model.specs.Spell.{spell, method_words, spell_method, are_more, object_inside, spell_elements, ends_in_hole, comma_if, key_text, key_items, accessor_word, before_value, string_in};
 ghost use Rattle.jsgen_printer.specs.Printer.{pen_of};
 ghost use Rattle.jsgen_printer.specs.Steps.{Lays};
 ghost use Rattle.jsgen_nodes.specs.Keys.{is_string, is_number, is_said, is_value_alone, key_of};
@@ -136,9 +136,10 @@ pub fn print_object_property<N: PrintNode>(
 
 // A method or an accessor, whose function follows its key.
 fn print_method_property<N: PrintNode>(node: &ObjectProperty<N>, p: &mut Printer<'_>, place: Place)
-    ensures { Lays p.old p.new (accessor_word node.now.kind ⊕ (key_of node.now.computed (in_property_key N.plain node.now.key) ⊕ spell_method (in_expression N.plain node.now.value) place)) }
+    ensures { Lays p.old p.new (accessor_word node.now.kind ⊕ (method_words (in_expression N.plain node.now.value) ⊕ (key_of node.now.computed (in_property_key N.plain node.now.key) ⊕ spell_method (in_expression N.plain node.now.value) place))) }
 {
     print_accessor_word(node.kind, p);
+    node.value.get().print_method_words(p);
     print_key(&node.key, node.computed, p);
     node.value.get().print_as_method(p, place);
 }

@@ -1,12 +1,12 @@
 // Parameters and arrow functions (ECMA-262, 15.1 and 15.3), one function for each row.
-ghost use Rattle.std.specs.Prelude.{◌≡◌, true, ◌==◌, ◌&&◌, ◌||◌, length, map};
+ghost use Rattle.std.specs.Prelude.{◌≡◌, codes, true, ◌==◌, ◌&&◌, ◌||◌, length, map};
 ghost use Rattle.jsgen_syntax.specs.declared.precedence.Precedence.TheVariants.{Comma};
 ghost use Rattle.jsgen_tree.specs.Tree.{type_of, trees};
 ghost use Rattle.jsgen_tree.specs.Rows.{formal_parameters_row, formal_parameter_row, formal_parameter_rest_row, arrow_function_expression_row, in_arrow_function_body, function_row, function_body_row, binding_identifier_row, directive_row, in_statement};
 ghost use Rattle.jsgen_place.specs.Place.{child, within};
-ghost use Rattle.jsgen_model.specs.Punctuator.{Round};
-ghost use Rattle.jsgen_model.specs.Items.{brackets, parentheses_unless_minified, ◌⊕◌, a_declaration};
-ghost use Rattle.jsgen_model.specs.Spell.{spell, is_name_alone, parameter_items, body_begins, spell_method, spell_directives, spell_body, filled_braces};
+ghost use Rattle.jsgen_model.specs.Punctuator.{Round, star};
+ghost use Rattle.jsgen_model.specs.Items.{word, punctuator, brackets, soft_space, hard_space, parentheses_unless_minified, ◌⊕◌, a_declaration};
+ghost use Rattle.jsgen_model.specs.Spell.{spell, items_if, key_word, function_words, method_words, is_name_alone, parameter_items, body_begins, spell_method, spell_directives, spell_body, filled_braces};
 ghost use Rattle.jsgen_printer.specs.Steps.{Lays};
 ghost use Rattle.jsgen_questions.specs.Names.{is_name_parameter};
 ghost use Rattle.jsgen_model.specs.Layout.{is_barred};
@@ -19,7 +19,7 @@ use crate::statements::{Statements, print_directives};
 use jsgen_inside::print_binding_identifier;
 use jsgen_lists::{
     PrintMember, close_braces, open_braces, print_apart, print_body, print_comma_between,
-    print_empty_braces, print_if_given, print_list,
+    print_empty_braces, print_if_given, print_key_word, print_list,
 };
 use jsgen_place::Place;
 use jsgen_printer::{Bracket, Printer};
@@ -79,6 +79,7 @@ pub fn print_arrow_function_expression<N: PrintNode>(
     let wrap = place.wraps_arrow(node.pife);
     p.print_opening_if(wrap);
     let within = place.within(wrap);
+    print_async_if(node.is_async, p);
     print_arrow_parameters(&node.params, p, place);
     p.print_soft_space();
     p.print_arrow();
@@ -86,6 +87,15 @@ pub fn print_arrow_function_expression<N: PrintNode>(
     begin_body(body_type(&node.body), p);
     print_arrow_function_body(&node.body, p, within.child(Precedence::Comma));
     p.print_closing_if(wrap);
+}
+
+// The word before what is `async`.
+fn print_async_if(test: bool, p: &mut Printer<'_>)
+    ensures { Lays p.old p.new (items_if test (key_word (codes "async"))) }
+{
+    if test {
+        print_key_word("async", p);
+    }
 }
 
 // A name alone, or parameters in parentheses.
@@ -211,9 +221,44 @@ fn is_in_parentheses(pife: bool, p: &Printer<'_>) -> bool
 fn print_from_word<N: PrintNode>(node: &Function<N>, p: &mut Printer<'_>, place: Place)
     ensures { Lays p.old p.new (from_word (function_row N.plain node.now) place) }
 {
-    p.print_word("function");
+    print_function_words(node.is_async, node.generator, p);
     print_if_given::<_, Names>(&node.id, p, place.child(Precedence::Lowest));
     print_behind_name(node, p, place);
+}
+
+// The words before the name, of what is `async` and of a generator too.
+fn print_function_words(is_async: bool, generator: bool, p: &mut Printer<'_>)
+    ensures { Lays p.old p.new (function_words is_async generator) }
+{
+    print_async_apart_if(is_async, p);
+    p.print_word("function");
+    print_star_apart_if(generator, p);
+}
+
+fn print_async_apart_if(test: bool, p: &mut Printer<'_>)
+    ensures { Lays p.old p.new (items_if test (word (codes "async") ⊕ hard_space)) }
+{
+    if test {
+        p.print_word("async");
+        p.print_hard_space();
+    }
+}
+
+fn print_star_apart_if(test: bool, p: &mut Printer<'_>)
+    ensures { Lays p.old p.new (items_if test (punctuator star ⊕ soft_space)) }
+{
+    if test {
+        p.print_star();
+        p.print_soft_space();
+    }
+}
+
+/// What stands before the key of a method.
+pub fn print_method_words<N: PrintNode>(node: &Function<N>, p: &mut Printer<'_>)
+    ensures { Lays p.old p.new (method_words (function_row N.plain node.now)) }
+{
+    print_async_if(node.is_async, p);
+    p.print_star_if(node.generator);
 }
 
 /// The names of functions.

@@ -3,7 +3,7 @@ ghost use Rattle.jsgen_model.specs.Spell.{spell};
 
 use crate::PrintNode;
 use crate::collections::print_key_if;
-use crate::functions::print_behind_name;
+use crate::functions::{print_behind_name, print_method_words};
 use crate::statements::Statements;
 use jsgen_inside::{Nested, PrintInClass, PrintInside};
 use jsgen_lists::{print_braces, print_value};
@@ -38,6 +38,10 @@ impl<N: PrintNode> PrintInClass<N> for InClass {
 
     fn print_initializer(value: &Option<ExpressionNode<N>>, p: &mut Printer<'_>, place: Place) {
         print_value::<_, Nested<Inside>>(value, p, place);
+    }
+
+    fn print_method_words(function: &Function<N>, p: &mut Printer<'_>) {
+        print_method_words(function, p);
     }
 
     fn print_method(function: &Function<N>, p: &mut Printer<'_>, place: Place) {

@@ -9,12 +9,14 @@ pub mod expressions;
 pub mod functions;
 mod inside;
 pub mod loops;
+pub mod modules;
 pub mod operations;
 pub mod patterns;
 pub mod quotes;
 pub mod sets;
 pub mod statements;
 pub mod targets;
+pub mod templates;
 
 ghost use Rattle.std.specs.Prelude.{◌≡◌, option_map};
 ghost use Rattle.std.specs.Str.{chars};
@@ -23,12 +25,12 @@ ghost use Rattle.jsgen_tree.specs.Tree.{Tree, type_of};
 ghost use Rattle.jsgen_tree.specs.Inside.{without_parentheses, ends_open, looked_up_in, named_by, bound_in, bound_by, written_name_in, is_negative};
 ghost use Rattle.jsgen_tree.specs.Plain.{node_plain};
 ghost use Rattle.jsgen_model.specs.Quotes.{is_member_of, is_named, is_key_of_exports};
-ghost use Rattle.jsgen_model.specs.Spell.{spell, spell_method, string_in, string_statement, target_named};
+ghost use Rattle.jsgen_model.specs.Spell.{spell, method_words, spell_method, string_in, string_statement, target_named, is_declared};
 ghost use Rattle.jsgen_printer.specs.Steps.{Lays};
 ghost use Rattle.jsgen_questions.specs.Names.{is_binding_name};
 ghost use Rattle.jsgen_questions.specs.Operands.{operand_of};
 
-use functions::print_behind_name;
+use functions::{print_behind_name, print_method_words};
 pub use inside::{InClass, Inside};
 use jsgen_place::Place;
 use jsgen_printer::Printer;
@@ -40,6 +42,7 @@ use jsgen_syntax::JsStr;
 use jsgen_tree::{
     BindingIdentifier, Declaration, Expression, IdentifierReference, Node, NodeType, Statement,
 };
+use modules::{is_declared_class, is_declared_function};
 use quotes::{is_key_of_exports, member_is_key_of_exports};
 use sets::{
     print_assignment_target, print_binding_pattern, print_class_element, print_declaration,
@@ -55,6 +58,10 @@ pub trait PrintNode {
 
     fn print(&self, p: &mut Printer<'_>, place: Place)
         ensures { Lays p.old p.new (spell (plain self.now) place) };
+
+    /// What stands before the key of a method, by its function. Nothing is printed of what is no function.
+    fn print_method_words(&self, p: &mut Printer<'_>)
+        ensures { Lays p.old p.new (method_words (plain self.now)) };
 
     /// The function of a method or an accessor, behind its key. Nothing is printed of what is no function.
     fn print_as_method(&self, p: &mut Printer<'_>, place: Place)
@@ -109,6 +116,10 @@ pub trait PrintNode {
     fn is_binding_name(&self) -> bool
         ensures { result ≡ is_binding_name (plain self.now) };
 
+    /// Whether it is a function or a class that is declared.
+    fn is_declared(&self) -> bool
+        ensures { result ≡ is_declared (plain self.now) };
+
     /// Whether it is a number or a big integer with a minus before it, without the parentheses that it may have round it.
     fn is_negative(&self) -> bool
         ensures { result ≡ is_negative (without_parentheses (plain self.now)) };
@@ -131,6 +142,27 @@ impl PrintNode for Node {
             Node::Declaration(node) => print_declaration(node, p, place),
             Node::BindingPattern(node) => print_binding_pattern(node, p, place),
             Node::ClassElement(node) => print_class_element(node, p, place),
+        }
+    }
+
+    #[cycle(node)]
+    fn print_method_words(&self, p: &mut Printer<'_>) {
+        match self {
+            Node::Expression(expression) => match expression {
+                Expression::Function(function) => print_method_words(function, p),
+                _ => {}
+            },
+            Node::AssignmentTarget(_) => {}
+            Node::Statement(statement) => match statement {
+                Statement::Declaration(declaration) => declaration.get().print_method_words(p),
+                _ => {}
+            },
+            Node::Declaration(declaration) => match declaration {
+                Declaration::Function(function) => print_method_words(function, p),
+                _ => {}
+            },
+            Node::BindingPattern(_) => {}
+            Node::ClassElement(_) => {}
         }
     }
 
@@ -215,6 +247,16 @@ impl PrintNode for Node {
 
     fn written_name(&self) -> Option<&str> {
         self.written_name()
+    }
+
+    fn is_declared(&self) -> bool {
+        match self.as_function() {
+            Some(function) => is_declared_function(function.kind),
+            None => match self.class_head() {
+                Some((kind, _)) => is_declared_class(kind),
+                None => false,
+            },
+        }
     }
 
     fn is_negative(&self) -> bool {

@@ -1,13 +1,13 @@
 // Loops (ECMA-262, 14.7), one function for each row.
 ghost use Rattle.jsgen_tree.specs.Rows.{for_statement_row, do_while_statement_row, in_for_statement_init, in_statement, for_in_statement_row, for_of_statement_row, in_for_statement_left};
 ghost use Rattle.jsgen_place.specs.Place.{within_statement, among_statements};
-ghost use Rattle.jsgen_model.specs.Spell.{spell, shape, do_items, left_place, apart_from_of};
+ghost use Rattle.jsgen_model.specs.Spell.{spell, shape, do_items, left_place, items_if, before_of, apart_from_of};
 ghost use Rattle.jsgen_printer.specs.Steps.{Lays};
 ghost use Rattle.std.specs.Prelude.{◌≡◌, codes};
 ghost use Rattle.jsgen_tree.specs.Tree.{type_of};
 ghost use Rattle.jsgen_tree.specs.Inside.{looked_up_in};
 ghost use Rattle.jsgen_model.specs.Punctuator.{Round};
-ghost use Rattle.jsgen_model.specs.Items.{brackets};
+ghost use Rattle.jsgen_model.specs.Items.{◌⊕◌, word, hard_space, brackets};
 ghost use Rattle.jsgen_printer.specs.Printer.{pen_of};
 ghost use Rattle.jsgen_nodes.specs.Keys.{is_said};
 
@@ -137,9 +137,10 @@ pub fn print_for_of_statement<N: PrintNode>(
     let _ = place;
     p.print_indentation();
     p.print_word("for");
+    print_await_if(node.is_await, p);
     p.print_soft_space();
     p.print_opening(Bracket::Round);
-    print_apart_from_of(&node.left, p);
+    print_before_of(&node.left, node.is_await, p);
     p.print_soft_space();
     p.print_word("of");
     p.print_soft_space();
@@ -148,6 +149,15 @@ pub fn print_for_of_statement<N: PrintNode>(
         .print(p, Place::in_brackets(Precedence::Comma));
     p.print_closing(Bracket::Round);
     print_body::<_, Inside>(node.body.get(), p);
+}
+
+fn print_await_if(test: bool, p: &mut Printer<'_>)
+    ensures { Lays p.old p.new (items_if test (hard_space ⊕ word (codes "await"))) }
+{
+    if test {
+        p.print_hard_space();
+        p.print_word("await");
+    }
 }
 
 // ---- what the loop gives each of them
@@ -177,6 +187,17 @@ fn left_place(node_type: NodeType) -> Place
     match node_type {
         NodeType::VariableDeclaration => Place::loop_head(),
         _ => Place::in_brackets(Precedence::Comma),
+    }
+}
+
+// Where `await` stands before it, nothing else begins as the loop does.
+fn print_before_of<N: PrintNode>(left: &ForStatementLeft<N>, is_await: bool, p: &mut Printer<'_>)
+    ensures { Lays p.old p.new (before_of is_await (looked_up_in (in_for_statement_left N.plain left.now)) (spell (in_for_statement_left N.plain left.now) (left_place (type_of (in_for_statement_left N.plain left.now))))) }
+{
+    if is_await {
+        print_left(left, p);
+    } else {
+        print_apart_from_of(left, p);
     }
 }
 

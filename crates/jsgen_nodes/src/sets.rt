@@ -18,26 +18,35 @@ use crate::functions::{print_arrow_function_expression, print_function};
 use crate::loops::{
     print_do_while_statement, print_for_in_statement, print_for_of_statement, print_for_statement,
 };
+use crate::modules::print_export_default_declaration;
 use crate::operations::{print_new_expression, print_update_expression};
 use crate::patterns::{print_array_pattern, print_object_pattern};
 use crate::statements::{print_block_statement, print_if_statement};
 use crate::targets::{print_array_assignment_target, print_object_assignment_target};
+use crate::templates::{
+    print_import_expression, print_tagged_template_expression, print_template_literal,
+};
 use crate::{InClass, Inside, PrintNode};
 use jsgen_classes::{
     print_class, print_method_definition, print_private_field_expression,
     print_private_in_expression, print_property_definition, print_static_block,
 };
 use jsgen_inside::{print_binding_identifier, print_identifier_reference};
+use jsgen_modules::{
+    print_export_all_declaration, print_export_declaration, print_export_from_declaration,
+    print_export_named_declaration, print_import_declaration,
+};
 use jsgen_patterns::print_assignment_pattern;
 use jsgen_place::Place;
 use jsgen_printer::Printer;
 use jsgen_spelled::{
-    print_break_statement, print_conditional_expression, print_continue_statement,
-    print_debugger_statement, print_empty_statement, print_expression_statement, print_import_meta,
-    print_labeled_statement, print_new_target, print_null_literal, print_parenthesized_expression,
-    print_reg_exp_literal, print_return_statement, print_sequence_expression, print_super,
-    print_this_expression, print_throw_statement, print_unary_expression,
-    print_variable_declaration, print_while_statement,
+    print_await_expression, print_break_statement, print_conditional_expression,
+    print_continue_statement, print_debugger_statement, print_empty_statement,
+    print_expression_statement, print_import_meta, print_labeled_statement, print_new_target,
+    print_null_literal, print_parenthesized_expression, print_reg_exp_literal,
+    print_return_statement, print_sequence_expression, print_super, print_this_expression,
+    print_throw_statement, print_unary_expression, print_variable_declaration,
+    print_while_statement, print_yield_expression,
 };
 use jsgen_tree::{
     AssignmentTarget, BindingPattern, ClassElement, Declaration, Expression,
@@ -138,6 +147,26 @@ fn print_expression_in_functions<N: PrintNode>(
         Expression::ArrowFunctionExpression(node) => print_arrow_function_expression(
             node, p, place,
         ),
+        Expression::AwaitExpression(node) => print_await_expression::<_, Inside>(node, p, place),
+        Expression::YieldExpression(node) => print_yield_expression::<_, Inside>(node, p, place),
+        _ => print_expression_in_templates(node, p, place),
+    }
+}
+
+fn print_expression_in_templates<N: PrintNode>(
+    node: &Expression<N>,
+    p: &mut Printer<'_>,
+    place: Place,
+)
+    requires { nat_le 5 (expression_part node.now) ≡ true }
+    ensures { Lays p.old p.new (spell (expression_plain N.plain node.now) place) }
+{
+    match node {
+        Expression::TemplateLiteral(node) => print_template_literal(node, p, place),
+        Expression::TaggedTemplateExpression(node) => print_tagged_template_expression(
+            node, p, place,
+        ),
+        Expression::ImportExpression(node) => print_import_expression(node, p, place),
         _ => print_expression_in_classes(node, p, place),
     }
 }
@@ -147,7 +176,7 @@ fn print_expression_in_classes<N: PrintNode>(
     p: &mut Printer<'_>,
     place: Place,
 )
-    requires { nat_le 5 (expression_part node.now) ≡ true }
+    requires { nat_le 6 (expression_part node.now) ≡ true }
     ensures { Lays p.old p.new (spell (expression_plain N.plain node.now) place) }
 {
     match node {
@@ -311,6 +340,23 @@ fn print_statement_in_choices<N: PrintNode>(node: &Statement<N>, p: &mut Printer
     match node {
         Statement::SwitchStatement(node) => print_switch_statement(node, p, place),
         Statement::TryStatement(node) => print_try_statement(node, p, place),
+        _ => print_statement_in_modules(node, p, place),
+    }
+}
+
+fn print_statement_in_modules<N: PrintNode>(node: &Statement<N>, p: &mut Printer<'_>, place: Place)
+    requires { nat_le 4 (statement_part node.now) ≡ true }
+    ensures { Lays p.old p.new (spell (statement_plain N.plain node.now) place) }
+{
+    match node {
+        Statement::ImportDeclaration(node) => print_import_declaration(node, p, place),
+        Statement::ExportDeclaration(node) => print_export_declaration::<_, Inside>(node, p, place),
+        Statement::ExportNamedDeclaration(node) => print_export_named_declaration(node, p, place),
+        Statement::ExportFromDeclaration(node) => print_export_from_declaration(node, p, place),
+        Statement::ExportAllDeclaration(node) => print_export_all_declaration(node, p, place),
+        Statement::ExportDefaultDeclaration(node) => print_export_default_declaration(
+            node, p, place,
+        ),
         _ => unreachable!(),
     }
 }

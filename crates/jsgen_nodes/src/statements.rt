@@ -1,7 +1,7 @@
 // Programs and directives (ECMA-262, 11.2.1 and clause 16), one function for each row.
 ghost use Rattle.std.specs.Prelude.{map, ◌≡◌, false, option_map};
 ghost use Rattle.jsgen_tree.specs.Tree.{trees, optional};
-ghost use Rattle.jsgen_tree.specs.Rows.{program_row, directive_row, in_statement, block_statement_row, if_statement_row};
+ghost use Rattle.jsgen_tree.specs.Rows.{program_row, hashbang_row, directive_row, in_statement, block_statement_row, if_statement_row};
 ghost use Rattle.jsgen_model.specs.Spell.{spell, spell_directives, first_statement, spell_alternate, shape, consequent_items, alternate_items, filled_braces, braces_end, body_end, is_given};
 ghost use Rattle.jsgen_printer.specs.Steps.{Lays};
 ghost use Rattle.jsgen_tree.specs.Inside.{ends_open};
@@ -12,19 +12,33 @@ ghost use Rattle.jsgen_model.specs.Items.{◌⊕◌, punctuator, soft_space, sof
 use crate::PrintNode;
 use crate::inside::Inside;
 use jsgen_inside::{print_body, shape_of};
-use jsgen_lists::{PrintMember, PrintStatement, close_braces, open_braces, print_braces};
+use jsgen_lists::{
+    PrintMember, PrintStatement, close_braces, open_braces, print_braces, print_if_given,
+};
+use jsgen_modules::print_hashbang;
 use jsgen_place::{Place, Shape};
 use jsgen_printer::{Bracket, Printer};
 use jsgen_syntax::Precedence;
-use jsgen_tree::{BlockStatement, Directive, IfStatement, Program, StatementNode};
+use jsgen_tree::{BlockStatement, Directive, Hashbang, IfStatement, Program, StatementNode};
 
 pub fn print_program<N: PrintNode>(node: &Program<N>, p: &mut Printer<'_>, place: Place)
     ensures { Lays p.old p.new (spell (program_row N.plain node.now) place) }
 {
-    let _ = place;
+    print_if_given::<_, Hashbangs>(&node.hashbang, p, place);
     print_directives(&node.directives, p);
     jsgen_lists::print_body::<_, Statements>(&node.body, p);
     p.print_due_semicolon();
+}
+
+/// The first line of a program.
+struct Hashbangs;
+
+impl PrintMember<Box<Hashbang>> for Hashbangs {
+    ghost plain = { λ b. hashbang_row b.value };
+
+    fn print_member(hashbang: &Box<Hashbang>, p: &mut Printer<'_>, place: Place) {
+        print_hashbang(hashbang, p, place);
+    }
 }
 
 pub fn print_directives(directives: &[Directive], p: &mut Printer<'_>)

@@ -105,7 +105,7 @@ pub record NormalSamples : Type 0 where
   pub number_of_a_reference : AreOne (tree.identifier_reference (bare (text (codes "a") ∷ number 7 ∷ []))) a
   pub number_of_a_binding : AreOne (tree.binding_identifier (bare (text (codes "a") ∷ number 7 ∷ []))) (tree.binding_identifier (unnumbered (codes "a")))
   -- the text and the kind of a program, and its comments
-  pub source_of_a_program : AreOne (tree.program (bare (text (codes "//\n;") ∷ source_kind Module ∷ no_value ∷ no_value ∷ [])) (alone (tree.comment (bare (kind_of_comment Line ∷ content_of_comment Normal ∷ flag true ∷ number 3 ∷ flag false ∷ flag true ∷ [])))) no_trees (alone empty)) (module_of (alone empty))
+  pub source_of_a_program : AreOne (tree.program (bare (text (codes "//\n;") ∷ source_kind Module ∷ no_value ∷ no_value ∷ [])) (alone (tree.comment (bare (kind_of_comment Line ∷ content_of_comment Normal ∷ flag true ∷ number 3 ∷ flag false ∷ flag true ∷ [])))) absent no_trees (alone empty)) (module_of (alone empty))
   -- that a call, `new` or a function is pure, and that one is called where it stands
   pub pure_call : AreOne (tree.call (bare (flag false ∷ flag true ∷ [])) a no_trees) (call_of a no_trees)
   pub pure_construction : AreOne (tree.new_expression (bare (flag true ∷ [])) a no_trees) (new_of a no_trees)

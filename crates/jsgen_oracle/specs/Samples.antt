@@ -21,10 +21,10 @@ IsRead source t = (ts : Tokens) × AreTokensOf source ts × ReadsModule ts t
 -- ---- trees
 
 abbrev pub module_of : Trees → Tree
-module_of statements = tree.program (nothing_of 4) no_trees no_trees statements
+module_of statements = tree.program (nothing_of 4) no_trees absent no_trees statements
 
 abbrev pub directed : List ℕ → Trees → Tree
-directed value statements = tree.program (nothing_of 4) no_trees (more (tree.directive (bare (units value ∷ []))) no_trees) statements
+directed value statements = tree.program (nothing_of 4) no_trees absent (more (tree.directive (bare (units value ∷ []))) no_trees) statements
 
 abbrev pub a : Tree
 a = tree.identifier_reference (unnumbered (codes "a"))

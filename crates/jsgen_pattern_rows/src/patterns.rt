@@ -14,9 +14,9 @@ use jsgen_fields::fields::boxed;
 use jsgen_fields::kept::{
     row_of_binding_pattern, row_of_binding_property, row_of_binding_rest_element,
 };
+use jsgen_fields::list_fields::{binding_pattern_or_hole_list, binding_property_list};
 use jsgen_fields::set_fields::{
-    binding_pattern_or_hole_list, binding_property_list, needed_binding_pattern, needed_expression,
-    needed_property_key, optional_binding_rest_element,
+    needed_binding_pattern, needed_expression, needed_property_key, optional_binding_rest_element,
 };
 use jsgen_fields::values::optional_flag;
 use jsgen_pool::Kept;

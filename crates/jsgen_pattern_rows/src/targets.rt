@@ -16,9 +16,11 @@ use jsgen_fields::kept::{
     row_of_assignment_target_property_property, row_of_assignment_target_rest,
     row_of_assignment_target_with_default,
 };
+use jsgen_fields::list_fields::{
+    assignment_target_maybe_default_or_hole_list, assignment_target_property_list,
+};
 use jsgen_fields::others::OtherAssignmentTarget;
 use jsgen_fields::set_fields::{
-    assignment_target_maybe_default_or_hole_list, assignment_target_property_list,
     needed_assignment_target, needed_assignment_target_maybe_default, needed_expression,
     needed_identifier_reference, needed_property_key, optional_assignment_target_rest,
     optional_expression,

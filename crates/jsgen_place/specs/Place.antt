@@ -11,7 +11,7 @@ use Rattle.jsgen_place.specs.declared.place.Context.{Context}
 use Rattle.jsgen_place.specs.declared.place.Place.{Place}
 
 abbrev pub free : Context
-free = record { forbids_in = false; forbids_call = false }
+free = record { forbids_in = false; forbids_call = false; is_tagged = false }
 
 abbrev pub at_level : Precedence → Context → Place
 at_level level context = record { level = level; context = context; in_list = false; left_operand = false; plain_quotes = false }
@@ -39,6 +39,10 @@ within_statement = in_brackets Lowest
 abbrev pub loop_head : Place
 loop_head = at_level Lowest (record free { forbids_in = true })
 
+-- a string that is never in backticks, and names beside it
+abbrev pub plainly : Place
+plainly = record (in_brackets Lowest) { plain_quotes = true }
+
 -- a member of a class, among others
 abbrev pub member : Place → Place
 member place = record (child Lowest place) { in_list = true }
@@ -62,6 +66,14 @@ linked place = child Postfix place
 -- what is called: calls may stand in it
 abbrev pub called : Place → Place
 called place = with_calls (child Postfix place)
+
+-- what stands before a template that it is handed: of what is forbidden, calls alone stay forbidden
+abbrev pub tag : Place → Place
+tag place = at_level Postfix (record free { forbids_call = place.context.forbids_call })
+
+-- a template behind its tag, which sees its raw text
+abbrev pub tagged : Place → Place
+tagged place = record place { context = record place.context { is_tagged = true } }
 
 -- what `new` stands before: no call may stand in it
 abbrev pub constructed : Place → Place

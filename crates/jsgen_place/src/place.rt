@@ -1,6 +1,6 @@
 // Where a node is printed.
 ghost use Rattle.std.specs.Prelude.{◌≡◌};
-ghost use Rattle.jsgen_place.specs.Place.{free, at_level, child, left_operand, in_brackets, among_statements, within_statement, loop_head, member, behind_private, with_calls, quoted_plainly, linked, called, constructed, within, wraps, update_level, is_forbidden, binary_wraps, continues_chain, logical_wraps, call_wraps, chain_wraps, chain_place, arrow_wraps};
+ghost use Rattle.jsgen_place.specs.Place.{free, at_level, child, left_operand, in_brackets, among_statements, within_statement, loop_head, member, behind_private, with_calls, quoted_plainly, linked, called, tag, tagged, constructed, within, wraps, update_level, is_forbidden, binary_wraps, continues_chain, logical_wraps, call_wraps, chain_wraps, chain_place, arrow_wraps, plainly};
 
 use jsgen_syntax::{BinaryOperator, GetPrecedence, LogicalOperator, Precedence};
 
@@ -11,12 +11,15 @@ pub struct Context {
     pub forbids_in: bool,
     /// A call, as in what `new` stands before (ECMA-262, 13.3).
     pub forbids_call: bool,
+    /// A template stands behind a tag, which sees its raw text (ECMA-262, 13.3.11).
+    pub is_tagged: bool,
 }
 
 impl Context {
     pub const FREE: Context = Context {
         forbids_in: false,
         forbids_call: false,
+        is_tagged: false,
     };
 }
 
@@ -99,6 +102,16 @@ impl Place {
         Place::at_level(Precedence::Lowest, context)
     }
 
+    /// The place of a string that is never in backticks, and of names beside it, as in an import.
+    pub fn plainly() -> Place
+        ensures { result ≡ plainly }
+    {
+        Place {
+            plain_quotes: true,
+            ..Place::in_brackets(Precedence::Lowest)
+        }
+    }
+
     /// The place of a member of a class, among others.
     pub fn member(self) -> Place
         ensures { result ≡ member self }
@@ -145,6 +158,30 @@ impl Place {
         ensures { result ≡ called self }
     {
         self.child(Precedence::Postfix).with_calls()
+    }
+
+    /// The place of what stands before a template that it is handed: of what is forbidden, calls alone stay forbidden.
+    pub fn tag(self) -> Place
+        ensures { result ≡ tag self }
+    {
+        let context = Context {
+            forbids_call: self.context.forbids_call,
+            ..Context::FREE
+        };
+        Place::at_level(Precedence::Postfix, context)
+    }
+
+    /// The place of a template behind its tag, which sees its raw text.
+    pub fn tagged(self) -> Place
+        ensures { result ≡ tagged self }
+    {
+        Place {
+            context: Context {
+                is_tagged: true,
+                ..self.context
+            },
+            ..self
+        }
     }
 
     /// The place of what `new` stands before: no call may stand in it.

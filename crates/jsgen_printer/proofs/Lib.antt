@@ -7,6 +7,7 @@ pub mod Handed
 pub mod Numbers
 pub mod Operators
 mod Patterns
+mod Templates
 pub mod Prefixes
 pub mod Sequence
 pub mod Texts

@@ -1,5 +1,5 @@
 -- What a printer stands for: a pen of the layout.
-use Rattle.std.specs.Prelude.{ℕ, List, [], ◌∷◌, Bool, false, nat_lt, take, reverse}
+use Rattle.std.specs.Prelude.{ℕ, List, [], ◌∷◌, Bool, false, nat_lt, take, reverse, codes}
 use Rattle.std.specs.List.{list_all}
 use Rattle.std.specs.Str.{chars}
 use Rattle.jsgen_syntax.specs.Buffer.{buffer_bytes, indent_byte, indent_width}
@@ -9,6 +9,7 @@ use Rattle.jsgen_tree.specs.Scoping.{tables_plain}
 use Rattle.jsgen_model.specs.Punctuator as punctuators
 use Rattle.jsgen_model.specs.Layout as layouts
 use Rattle.jsgen_model.specs.Layout.{Pen, written, is_apart, joins, name_ending, deeper_level}
+use Rattle.jsgen_model.specs.Items as items
 use Rattle.jsgen_model.specs.Items.{Items, word, operator}
 use Rattle.jsgen_model.specs.Operators.{operator_item, unary_sign, update_item}
 use Rattle.jsgen_printer.specs.declared.printer.Printer.{Printer}
@@ -20,6 +21,8 @@ use Rattle.jsgen_printer.specs.declared.operator.Operator.{Operator}
 use Rattle.jsgen_printer.specs.declared.operator.Operator.TheVariants as operators
 use Rattle.jsgen_printer.specs.declared.printer.Start.{Start}
 use Rattle.jsgen_printer.specs.declared.printer.Start.TheVariants as starts
+use Rattle.jsgen_printer.specs.declared.printer.templates.TemplatePart.{TemplatePart}
+use Rattle.jsgen_printer.specs.declared.printer.templates.TemplatePart.TheVariants as parts
 
 -- what the code ends in after an item: a sign may join the next one
 abbrev pub end_of : Items → layouts.Ending
@@ -54,6 +57,26 @@ abbrev pub start_of : Start → layouts.Start
 start_of starts.Nowhere = layouts.nowhere
 start_of starts.Statement = layouts.statement
 start_of starts.ArrowBody = layouts.arrow_body
+start_of starts.DefaultExport = layouts.default_export
+
+abbrev pub part_of : TemplatePart → items.TemplatePart
+part_of parts.Whole = items.whole_part
+part_of parts.Head = items.head_part
+part_of parts.Middle = items.middle_part
+part_of parts.Tail = items.tail_part
+
+-- what stands before the piece of a part, and behind it
+abbrev pub opening_text : TemplatePart → List ℕ
+opening_text parts.Whole = codes "`"
+opening_text parts.Head = codes "`"
+opening_text parts.Middle = codes "}"
+opening_text parts.Tail = codes "}"
+
+abbrev pub closing_text : TemplatePart → List ℕ
+closing_text parts.Whole = codes "`"
+closing_text parts.Head = codes "${"
+closing_text parts.Middle = codes "${"
+closing_text parts.Tail = codes "`"
 
 -- the pen, whose code is the characters of the buffer's bytes
 unfoldable pub pen_of : Printer → Pen

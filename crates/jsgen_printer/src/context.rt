@@ -10,7 +10,7 @@ pub struct Context {
 }
 
 impl Context {
-    ghost use Rattle.jsgen_printer.specs.Context.{has, with_flag, forbid_in, forbid_call, typescript};
+    ghost use Rattle.jsgen_printer.specs.Context.{has, with_flag, forbid_in, forbid_call, typescript, tagged_template};
 
     /// `in` may not stand there: in the head of a `for`.
     pub const FORBID_IN: Context = Context { bits: 1 };
@@ -36,6 +36,13 @@ impl Context {
         ensures { result ≡ has forbid_call self }
     {
         self.contains(Context::FORBID_CALL)
+    }
+
+    /// Whether a template is behind a tag there, which sees its raw text.
+    pub fn tagged_template(self) -> bool
+        ensures { result ≡ has tagged_template self }
+    {
+        self.contains(Context::TAGGED_TEMPLATE)
     }
 
     /// The same context, with types.

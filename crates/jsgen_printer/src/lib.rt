@@ -10,4 +10,4 @@ mod printer;
 pub use context::Context;
 pub use laws::a_flag_that_is_unset_leaves_the_others;
 pub use operator::Operator;
-pub use printer::{Bracket, Ending, Printer, Start};
+pub use printer::{Bracket, Ending, Printer, Start, TemplatePart};

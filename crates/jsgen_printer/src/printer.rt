@@ -11,9 +11,11 @@ use crate::operator::Operator;
 mod classes;
 mod handed;
 mod marks;
+mod modules;
 mod names;
 mod numbers;
 mod patterns;
+mod templates;
 
 use jsgen_syntax::{
     AssignmentOperator, BinaryOperator, CodeBuffer, JsStr, LogicalOperator, Quote, UnaryOperator,
@@ -24,6 +26,7 @@ use jsgen_text::{
 };
 use jsgen_tree::{CodegenOptions, Tables};
 use std::alloc::Global;
+pub use templates::TemplatePart;
 
 /// What the code so far ends in, as far as it matters to what follows.
 #[derive(Clone, Copy)]
@@ -45,6 +48,7 @@ pub enum Start {
     Nowhere,
     Statement,
     ArrowBody,
+    DefaultExport,
 }
 
 /// Brackets that stand round what is printed.
@@ -80,8 +84,8 @@ pub struct Printer<'a> {
 impl<'a> Printer<'a> {
     ghost use Rattle.std.specs.Prelude.{[], ◌∷◌, ◌++◌, replicate, string_bytes, false, true, IsTrue};
     ghost use Rattle.std.specs.Str.{chars, encode_utf8_all};
-    ghost use Rattle.jsgen_model.specs.Punctuator.{Round, opening, closing, ellipsis, comma, semicolon, equal, plus, minus, equal_equal, equal_equal_equal, plus_plus, minus_minus, colon, question, question_dot, arrow};
-    ghost use Rattle.jsgen_model.specs.Items.{word, string, first_string, directive, member_dot, punctuator, soft_space, soft_line, hard_space, indentation, body_space, statement_end, due_semicolon, drop_semicolon, statement_begins, arrow_body_begins, a_brace, a_declaration};
+    ghost use Rattle.jsgen_model.specs.Punctuator.{Round, opening, closing, ellipsis, comma, semicolon, equal, plus, minus, equal_equal, equal_equal_equal, plus_plus, minus_minus, colon, question, question_dot, arrow, star};
+    ghost use Rattle.jsgen_model.specs.Items.{word, string, first_string, directive, member_dot, punctuator, soft_space, soft_line, hard_space, indentation, body_space, statement_end, due_semicolon, drop_semicolon, statement_begins, arrow_body_begins, a_brace, a_declaration, literal, default_export_begins};
     ghost use Rattle.jsgen_model.specs.Layout.{layout, written, written_if, other_end, space_if, ends_in_word, ends_in_escapes, is_apart, name_ending, joins, dot_joins, indented, ends_in_less_bang, chosen_quote, deeper_level, empty_pen, style_of, is_barred};
     ghost use Rattle.jsgen_syntax.specs.Buffer.{indent_byte};
     ghost use Rattle.jsgen_tree.specs.Options.{options_plain};
@@ -425,7 +429,7 @@ impl<'a> Printer<'a> {
         ensures { result ≡ is_barred a_brace (pen_of self.now).start }
     {
         match &self.start {
-            Start::Nowhere => false,
+            Start::Nowhere | Start::DefaultExport => false,
             Start::Statement | Start::ArrowBody => true,
         }
     }
@@ -435,7 +439,7 @@ impl<'a> Printer<'a> {
         ensures { result ≡ is_barred a_declaration (pen_of self.now).start }
     {
         match &self.start {
-            Start::Statement => true,
+            Start::Statement | Start::DefaultExport => true,
             Start::Nowhere | Start::ArrowBody => false,
         }
     }
@@ -501,6 +505,14 @@ impl<'a> Printer<'a> {
         ensures { Lays self.old self.new (punctuator ellipsis) }
     {
         self.print_str("...", Ending::Other);
+    }
+
+    pub fn print_star_if(&mut self, test: bool)
+        ensures { Lays self.old self.new (items_if test (punctuator star)) }
+    {
+        if test {
+            self.print_star();
+        }
     }
 
     pub fn print_semicolon(&mut self)

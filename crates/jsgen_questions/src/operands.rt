@@ -14,7 +14,7 @@ use jsgen_tree::{Expression, Inner, Node};
 /// What matters of an operand, without the parentheses that it may have round it.
 #[derive(Clone, Copy)]
 pub struct Operand {
-    /// A number or a unary operation, which a prefix operator may begin.
+    /// A number, or an operation that a prefix operator or `await` begins.
     pub is_prefixed: bool,
     /// An operation by `||` or `&&`.
     pub mixes: bool,
@@ -41,7 +41,8 @@ pub fn operand_of(node: &Node) -> Operand
             Inner::Expression(
                 Expression::NumericLiteral(_)
                 | Expression::BigIntLiteral(_)
-                | Expression::UnaryExpression(_),
+                | Expression::UnaryExpression(_)
+                | Expression::AwaitExpression(_),
             ),
         ) => Operand::PREFIXED,
         Some(Inner::Expression(Expression::LogicalExpression(node))) => Operand {
@@ -58,7 +59,7 @@ fn is_or_or_and(operator: LogicalOperator) -> bool
     !matches!(&operator, LogicalOperator::Coalesce)
 }
 
-/// Just below the operator's own; but of `**`, which groups to the right, its own, and where a prefix operator may begin the operand a call's.
+/// Just below the operator's own; but of `**`, which groups to the right, its own, and where a prefix operator or `await` may begin the operand a call's.
 pub fn left_level(operator: BinaryOperator, left: Operand) -> Precedence
     ensures { (t : Tree) → left ≡ operand_of (without_parentheses t) → result ≡ left_level operator t }
 {

@@ -1,5 +1,5 @@
 -- Arrow functions: parameters, an arrow on their line, and an expression that begins with no brace.
-use Rattle.std.proofs.Common.{◌≡◌, Bool, true, false, [], ◌∷◌, refl, sym, ap, ◌∙◌, subst}
+use Rattle.std.proofs.Common.{◌≡◌, Bool, true, false, codes, [], ◌∷◌, refl, sym, ap, ◌∙◌, subst}
 use Rattle.std.proofs.lemmas.Bool.{both_ways, or_parts}
 use Rattle.jsgen_syntax.specs.declared.precedence.Precedence.TheVariants as levels
 use Rattle.jsgen_tree.specs.Job.{Tables}
@@ -18,7 +18,7 @@ use Rattle.jsgen_model.specs.Normal.{normal, nothing_of, if_set}
 use Rattle.jsgen_model.specs.Renamed.{renamed}
 use Rattle.jsgen_place.specs.declared.place.Place.{Place}
 use Rattle.jsgen_place.specs.Place.{within, wraps, arrow_wraps, child}
-use Rattle.jsgen_model.specs.Spell.{spell, parameter_items, body_begins, is_name_alone}
+use Rattle.jsgen_model.specs.Spell.{spell, items_if, key_word, parameter_items, body_begins, is_name_alone}
 use Rattle.jsgen_token_laws.proofs.Last.{Last, Open, After, line_of}
 use Rattle.jsgen_token_laws.proofs.Writes.{Writes, wrote_both, then_done}
 use Rattle.jsgen_token_laws.proofs.Steps.{Soft, no_soft, wrote_punctuator, soft_space_written}
@@ -57,9 +57,16 @@ arrow_parts {names} a t e {p = p} h g one_line s w n m i =
 abbrev items_of : Tree → Tree → Place → Items → Bool → Items
 items_of t e place begins w = parameter_items (is_name_alone t) (spell t (parameters_place place)) ⊕ (soft_space ⊕ (punctuator arrow ⊕ (soft_space ⊕ (begins ⊕ spell e (child levels.Comma (within w place))))))
 
+-- in parentheses or not, by whether it is `async`
+abbrev worded : Bool → Tree → Tree → Place → Items → Bool → Items
+worded is_async t e place begins w = wrapped w (items_if is_async (key_word (codes "async")) ⊕ items_of t e place begins w)
+
+without_word : (a : Atoms) (t e : Tree) (place : Place) (begins here : Items) (w : Bool) → arrow_function_expression_is_async a ≡ false → here ≡ begins → worded false t e place begins w ≡ worded (arrow_function_expression_is_async a) t e place here w
+without_word a t e place begins here w h m = λ i. worded (sym h i) t e place (sym m i) w
+
 pub good_arrow_function : {names : Tables} (c : Allowed) (a : Atoms) (t e : Tree) → arrow_function_expression_is_async a ≡ false → body_begins (type_of e) ≡ arrow_body_begins → ArrowParametersOf names c t → Printed names (in_arrow_body c) e → Printed names c (tree.arrow_function a t e)
 good_arrow_function {names} c a t e h m f body place p l z y k =
-    subst (λ x. Good names p l (layout (wrapped (arrow_wraps pife place) (items_of t e place x (arrow_wraps pife place))) p) (under place c) (level_of place) (tree.arrow_function a t e)) (sym m)
+    subst (λ x. Good names p l (layout x p) (under place c) (level_of place) (tree.arrow_function a t e)) (without_word a t e place arrow_body_begins (body_begins (type_of e)) (arrow_wraps pife place) h m)
     (good_wrapped c place grammar.Assignment (arrow_wraps pife place) (items_of t e place arrow_body_begins) (tree.arrow_function a t e)
     (λ d ts u r. grammar.an_assignment r) (λ n ts u r. unwrapped levels.Assign place (or_parts pife (wraps levels.Assign place) n).1 r) inner p l z y k)
   where
@@ -101,9 +108,10 @@ body_parts {names} a t u {p = p} h g one_line s w n i =
     }
 
 pub good_arrow_with_body : {names : Tables} (c : Allowed) (a b : Atoms) (t : Tree) (ds ss : Trees) → arrow_function_expression_is_async a ≡ false → ArrowParametersOf names c t → BodyOf names (tree.function_body b ds ss) → Printed names c (tree.arrow_function a t (tree.function_body b ds ss))
-good_arrow_with_body {names} c a b t ds ss h f body place =
-    good_wrapped c place grammar.Assignment (arrow_wraps pife place) (items_of t u place nothing) (tree.arrow_function a t u)
-    (λ d ts v r. grammar.an_assignment r) (λ n ts v r. unwrapped levels.Assign place (or_parts pife (wraps levels.Assign place) n).1 r) inner
+good_arrow_with_body {names} c a b t ds ss h f body place p l z y k =
+    subst (λ x. Good names p l (layout x p) (under place c) (level_of place) (tree.arrow_function a t u)) (without_word a t u place nothing nothing (arrow_wraps pife place) h refl)
+    (good_wrapped c place grammar.Assignment (arrow_wraps pife place) (items_of t u place nothing) (tree.arrow_function a t u)
+    (λ d ts v r. grammar.an_assignment r) (λ n ts v r. unwrapped levels.Assign place (or_parts pife (wraps levels.Assign place) n).1 r) inner p l z y k)
   where
     pife : Bool
     pife = arrow_function_expression_pife a

@@ -230,4 +230,4 @@ mutual
     first_statement : {names : Tables} {c : Allowed} {s : Tree} {ss : Trees} → IsItem names c s → AreStatements names c ss → AreStatements names c (more s ss)
 
 pub data IsProgram : Tables → Tree → Type 0 where
-  a_program : {names : Tables} {a : Atoms} {comments directives body : Trees} → AreDirectives directives → AreStatements names in_module body → IsProgram names (tree.program a comments directives body)
+  a_program : {names : Tables} {a : Atoms} {comments directives body : Trees} → AreDirectives directives → AreStatements names in_module body → IsProgram names (tree.program a comments absent directives body)

@@ -6,11 +6,11 @@ use Rattle.std.proofs.lemmas.Bool.{both_ways, and_parts, and_from, not-true, ltb
 use Rattle.jsgen_tree.specs.Atom.{Atom, text}
 use Rattle.jsgen_tree.specs.Tree.{Tree, node, Maybe, absent, given, Trees, no_trees, more, hole, Atoms, type_of, span_of}
 use Rattle.jsgen_tree.specs.Nodes as tree
-use Rattle.jsgen_tree.specs.Values.{as_text, directive_directive, identifier_name_name, numeric_literal_kind, numeric_literal_text, big_int_literal_value, variable_declaration_kind, variable_declaration_declare, label_identifier_name, object_property_kind, object_property_shorthand, object_property_computed, function_kind, class_kind, function_is_async, function_generator, function_declare, object_property_method}
+use Rattle.jsgen_tree.specs.Values.{as_text, directive_directive, identifier_name_name, numeric_literal_kind, numeric_literal_text, big_int_literal_value, variable_declaration_kind, variable_declaration_declare, label_identifier_name, object_property_kind, object_property_shorthand, object_property_computed, function_kind, class_kind, function_is_async, function_generator, function_declare, object_property_method, arrow_function_expression_is_async}
 use Rattle.jsgen_tree.specs.Number.{NumericKind, Whole, Raw}
 use Rattle.jsgen_tree.specs.Job.{Tables}
 use Rattle.jsgen_tree.specs.Named.{Named, printed_name}
-use Rattle.jsgen_tree.specs.Inside.{binding_named, is_negative_big_integer, has_optional_link, is_method, is_negative_number}
+use Rattle.jsgen_tree.specs.Inside.{binding_named, has_name, is_negative_big_integer, has_optional_link, is_method, is_negative_number}
 use Rattle.jsgen_tree.specs.Everywhere.{EverywhereIfGiven, EverywhereInTrees}
 use Rattle.jsgen_tree.specs.Sets.{in_set, is_expression, is_argument, is_statement, is_binding_pattern, is_identifier_name, is_directive, is_simple_assignment_target, is_assignment_target, is_object_property_kind, is_formal_parameter_rest, is_for_statement_init, is_for_statement_left, is_label_identifier, is_switch_case, is_binding_identifier, is_formal_parameters, is_function_body}
 use Rattle.jsgen_tree.specs.declared.types.NodeType.{NodeType}
@@ -27,7 +27,8 @@ use Rattle.jsgen_model.specs.Plain.{IsPlain, is_plain_row, has_plain_flags, is_n
 use Rattle.jsgen_model.specs.Normal.{or_none, directive_units}
 use Rattle.jsgen_tree.specs.declared.functions.FunctionKind.{FunctionKind}
 use Rattle.jsgen_tree.specs.declared.functions.FunctionKind.TheVariants as kinds
-use Rattle.jsgen_model.specs.Valid.{Surroundings, ChildPlace, is_super, is_default, has_place, may_stand, breaches, in_maybe, in_trees, fault_if, fits_kind, set_faults, span_faults, body_faults, is_in_tables, name_faults, directive_faults, written_name_faults, number_faults, big_integer_faults, is_literal_key, may_be_key, key_faults, method_faults, shorthand_faults, takes_optional_link, link_faults, super_faults, is_one_name, is_lexical_word, label_faults, try_faults, stands_among, same_kind, function_faults, fits_method, declaration_faults, takes_super, as_function_kind}
+use Rattle.jsgen_model.specs.Resolved.{after}
+use Rattle.jsgen_model.specs.Valid.{Surroundings, ChildPlace, is_super, is_default, has_place, may_stand, breaches, in_maybe, in_trees, fault_if, fits_kind, set_faults, span_faults, body_faults, is_in_tables, name_faults, directive_faults, written_name_faults, number_faults, big_integer_faults, is_literal_key, may_be_key, key_faults, method_faults, fits_accessor, fits_words, within_nothing, within_function, within_arrow, within_braces, target_faults, shorthand_faults, takes_optional_link, link_faults, super_faults, is_one_name, is_lexical_word, label_faults, try_faults, stands_among, same_kind, function_faults, fits_method, declaration_faults, as_function_kind, uncooked_faults, is_module_item, is_default_export, fits_place}
 use Rattle.jsgen_reading_laws.proofs.Families.{has_value, IsLink, IsExpression, IsChain, IsChainBase, IsKey, IsRest, IsBinding, AreDeclarators, IsStatement, IsLeft, IsLabel, AreEndsOfTry, IsHandler, IsBlock, IsItem, AreDirectives, HasName, IsSynchronous, IsProperty}
 use Rattle.jsgen_reading_laws.proofs.Families as family
 
@@ -58,28 +59,42 @@ StandsAt s t = (may_stand s (type_of t) ≡ true) × ((not (takes_optional_link 
 
 pub stands_at : (s : NodeSet) (t : Tree) → set_faults s t ≡ [] → StandsAt s t
 stands_at s t e =
-    let h = none_both (fault_if (not (may_stand s (type_of t) && fits_kind s t)) (faults.Place (span_of t).start)) (link_faults s t) e in
+    let h = none_both (fault_if (not (may_stand s (type_of t) && fits_kind s t)) (faults.Place (span_of t).start)) (link_faults s t ++ uncooked_faults s t) e in
+    let l = none_both (link_faults s t) (uncooked_faults s t) h.1 in
     let k = and_parts (may_stand s (type_of t)) (fits_kind s t) (none_unless (may_stand s (type_of t) && fits_kind s t) (faults.Place (span_of t).start) h.0) in
-    (k.0, none_if (not (takes_optional_link s) && has_optional_link t) (faults.Place (span_of t).start) h.1, k.1)
+    (k.0, none_if (not (takes_optional_link s) && has_optional_link t) (faults.Place (span_of t).start) l.0, k.1)
+
+fits_as_expression : (s : NodeSet) (kind : FunctionKind) (named : Bool) → stands_among s ≡ kinds.Expression → is_default_export s ≡ false → fits_place s kind named ≡ true → fits_place sets.Expression kind named ≡ true
+fits_as_expression s kind named e d f = subst (λ b. (b || (same_kind kind kinds.Expression && (named || same_kind kind kinds.Expression))) ≡ true) d (subst (λ k. (is_default_export s || (same_kind kind k && (named || same_kind kind kinds.Expression))) ≡ true) e f)
 
 -- a function or a class that may stand at the place is an expression there, if it may stand in an expression
-pub fits_expression : (s : NodeSet) (t : Tree) → stands_among s ≡ kinds.Expression → fits_kind s t ≡ true → fits_kind sets.Expression t ≡ true
-fits_expression s (tree.function a id ps body) e f = subst (λ k. same_kind (function_kind a) k ≡ true) e f
-fits_expression s (tree.class a id heritage body) e f = subst (λ k. same_kind (as_function_kind (class_kind a)) k ≡ true) e f
-fits_expression s (tree.variable_declaration a ds) e f = refl
-fits_expression s t e f = refl
+pub fits_expression : (s : NodeSet) (t : Tree) → stands_among s ≡ kinds.Expression → is_default_export s ≡ false → fits_kind s t ≡ true → fits_kind sets.Expression t ≡ true
+fits_expression s (tree.function a id ps body) e d f = fits_as_expression s (function_kind a) (has_name id) e d f
+fits_expression s (tree.class a id heritage body) e d f = fits_as_expression s (as_function_kind (class_kind a)) (has_name id) e d f
+fits_expression s (tree.variable_declaration a ds) e d f = refl
+fits_expression s t e d f = refl
 
 -- and so may the others
-pub standing : (around : Surroundings) (s : NodeSet) (t : Tree) (others : List TreeFault) → (set_faults s t ++ breaches around t) ++ others ≡ [] → StandsAt s t × (breaches around t ≡ []) × (others ≡ [])
-standing around s t others e = let h = none_three (set_faults s t) (breaches around t) others e in (stands_at s t h.0, h.1, h.2)
+pub standing : (next : ℕ) (around : Surroundings) (s : NodeSet) (t : Tree) (others : List TreeFault) → (set_faults s t ++ breaches around next t) ++ others ≡ [] → StandsAt s t × (breaches around next t ≡ []) × (others ≡ [])
+standing next around s t others e = let h = none_three (set_faults s t) (breaches around _ t) others e in (stands_at s t h.0, h.1, h.2)
 
 -- and so is of the set that its field asks for
-pub placed : (around : Surroundings) (s : NodeSet) (t : Tree) (others : List TreeFault) → (set_faults s t ++ breaches around t) ++ others ≡ [] → (in_set s (type_of t) ≡ true) × (breaches around t ≡ []) × (others ≡ [])
-placed around s t others e = let h = standing around s t others e in ((and_parts (in_set s (type_of t)) (has_place s (type_of t)) h.0.0).0, h.1, h.2)
+pub placed : (next : ℕ) (around : Surroundings) (s : NodeSet) (t : Tree) (others : List TreeFault) → (set_faults s t ++ breaches around next t) ++ others ≡ [] → (in_set s (type_of t) ≡ true) × (breaches around next t ≡ []) × (others ≡ [])
+placed next around s t others e = let h = standing _ around s t others e in ((and_parts (in_set s (type_of t)) (has_place s (type_of t)) h.0.0).0, h.1, h.2)
 
 -- a statement, or a function that is declared
-pub placed_statement : (around : Surroundings) (t : Tree) (others : List TreeFault) → (set_faults sets.Statement t ++ breaches around t) ++ others ≡ [] → ((is_statement (type_of t) ≡ true) × (fits_kind sets.Statement t ≡ true)) × (breaches around t ≡ []) × (others ≡ [])
-placed_statement around t others e = let h = standing around sets.Statement t others e in (((and_parts (is_statement (type_of t)) (has_place sets.Expression (type_of t)) h.0.0).0, h.0.2), h.1, h.2)
+pub placed_statement : (next : ℕ) (around : Surroundings) (t : Tree) (others : List TreeFault) → (set_faults sets.Statement t ++ breaches around next t) ++ others ≡ [] → ((is_statement (type_of t) ≡ true) × (fits_kind sets.Statement t ≡ true)) × (breaches around next t ≡ []) × (others ≡ [])
+placed_statement next around t others e = let h = standing _ around sets.Statement t others e in (((and_parts (is_statement (type_of t)) (has_place sets.Expression (type_of t)) h.0.0).0, h.0.2), h.1, h.2)
+
+-- what stands among the items of a module as it would among other statements
+fits_statement : (t : Tree) → fits_kind sets.ModuleItem t ≡ true → fits_kind sets.Statement t ≡ true
+fits_statement (tree.function a id ps body) f = f
+fits_statement (tree.class a id heritage body) f = f
+fits_statement (tree.variable_declaration a ds) f = f
+fits_statement t f = refl
+
+pub placed_item : (next : ℕ) (around : Surroundings) (t : Tree) (others : List TreeFault) → (set_faults sets.ModuleItem t ++ breaches around next t) ++ others ≡ [] → ((is_statement (type_of t) ≡ true) × (fits_kind sets.Statement t ≡ true)) × (breaches around next t ≡ []) × (others ≡ [])
+placed_item next around t others e = let h = standing _ around sets.ModuleItem t others e in (((and_parts (is_statement (type_of t)) (has_place sets.ModuleItem (type_of t)) h.0.0).0, fits_statement t h.0.2), h.1, h.2)
 
 abbrev pub place_of : NodeSet → Surroundings → ChildPlace
 place_of s around = record { set = s; around = around }
@@ -102,9 +117,9 @@ unset false e = refl
 -- ---- the rows of expressions
 
 -- the name of a member
-pub member_valid : (around : Surroundings) (n : Tree) (P : Tree → Type 0) → IsPlain n → is_identifier_name (type_of n) ≡ true → breaches around n ≡ [] → ((b : Atoms) → spells_name (identifier_name_name b) ≡ true → P (tree.identifier_name b)) → P n
-member_valid around (tree.identifier_name b) P p s e f = f b (none_unless (spells_name (identifier_name_name b)) (faults.Name b.span.start) (parts (span_faults around b.span) (written_name_faults b.span (identifier_name_name b)) [] e).0)
-member_valid around n P p s e f = absurd (search no_truth)
+pub member_valid : (next : ℕ) (around : Surroundings) (n : Tree) (P : Tree → Type 0) → IsPlain n → is_identifier_name (type_of n) ≡ true → breaches around next n ≡ [] → ((b : Atoms) → spells_name (identifier_name_name b) ≡ true → P (tree.identifier_name b)) → P n
+member_valid next around (tree.identifier_name b) P p s e f = f b (none_unless (spells_name (identifier_name_name b)) (faults.Name b.span.start) (parts (span_faults around b.span) (written_name_faults b.span (identifier_name_name b)) [] e).0)
+member_valid next around n P p s e f = absurd (search no_truth)
 
 -- an argument that isn't spread is an expression
 abbrev pub is_spread : Tree → Bool
@@ -124,12 +139,54 @@ expression_type t p s n = by (is_expression (type_of t)) refl
 
 -- and so it is no `super`, which no argument is
 pub argument_stands : (t : Tree) → is_plain_row t ≡ true → StandsAt sets.Argument t → is_spread t ≡ false → StandsAt sets.Expression t
-argument_stands t p s n = let h = and_parts (is_argument (type_of t)) (has_place sets.Expression (type_of t)) s.0 in (and_from (is_expression (type_of t)) (has_place sets.Expression (type_of t)) (expression_type t p h.0 n) h.1, s.1, fits_expression sets.Argument t refl s.2)
+argument_stands t p s n = let h = and_parts (is_argument (type_of t)) (has_place sets.Expression (type_of t)) s.0 in (and_from (is_expression (type_of t)) (has_place sets.Expression (type_of t)) (expression_type t p h.0 n) h.1, s.1, fits_expression sets.Argument t refl refl s.2)
+
+-- of arguments, and of an array's elements, the first that isn't spread, and the others
+pub argument_parts : (next : ℕ) (around : Surroundings) (t : Tree) (ts : Trees) → is_plain_row t ≡ true → is_spread t ≡ false → in_trees around (place_of sets.Argument around ∷ []) next (more t ts) ≡ [] → StandsAt sets.Expression t × (breaches around next t ≡ []) × (in_trees around (place_of sets.Argument around ∷ []) (after t next) ts ≡ [])
+argument_parts next around t ts p s e = let k = standing next around sets.Argument t (in_trees around (place_of sets.Argument around ∷ []) (after t next) ts) e in (argument_stands t p k.0 s, k.1, k.2)
+
+element_type : (type : NodeType) → in_set sets.ArrayExpressionElement type ≡ true → is_argument type ≡ true
+element_type types.SpreadElement h = refl
+element_type type h = h
+
+element_stands : (t : Tree) → StandsAt sets.ArrayExpressionElement t → StandsAt sets.Argument t
+element_stands t s =
+    let h = and_parts (in_set sets.ArrayExpressionElement (type_of t)) (has_place sets.Expression (type_of t)) s.0 in
+    (and_from (is_argument (type_of t)) (has_place sets.Expression (type_of t)) (element_type (type_of t) h.0) h.1, s.1, fits_expression sets.ArrayExpressionElement t refl refl s.2)
+
+pub element_parts : (next : ℕ) (around : Surroundings) (t : Tree) (ts : Trees) → is_plain_row t ≡ true → is_spread t ≡ false → in_trees around (place_of sets.ArrayExpressionElement around ∷ []) next (more t ts) ≡ [] → StandsAt sets.Expression t × (breaches around next t ≡ []) × (in_trees around (place_of sets.ArrayExpressionElement around ∷ []) (after t next) ts ≡ [])
+element_parts next around t ts p s e = let k = standing next around sets.ArrayExpressionElement t (in_trees around (place_of sets.ArrayExpressionElement around ∷ []) (after t next) ts) e in (argument_stands t p (element_stands t k.0) s, k.1, k.2)
 
 -- what stands behind an arrow is an expression, or a body in braces
 pub arrow_body_stands : (t : Tree) → is_function_body (type_of t) ≡ false → StandsAt sets.ArrowFunctionBody t → StandsAt sets.Expression t
 arrow_body_stands (node types.FunctionBody a slots) n s = absurd (no_falsehood n)
-arrow_body_stands t n s = (s.0, s.1, fits_expression sets.ArrowFunctionBody t refl s.2)
+arrow_body_stands t n s = (s.0, s.1, fits_expression sets.ArrowFunctionBody t refl refl s.2)
+
+-- the parameters and the expression of an arrow function, where nothing is at fault
+pub record ArrowParts (around : Surroundings) (a : Atoms) (ps t : Tree) : Type 0 where
+  pub synchronous : arrow_function_expression_is_async a ≡ false
+  pub plain_parameters : IsPlain ps
+  pub are_parameters : is_formal_parameters (type_of ps) ≡ true
+  pub parameters : (next : ℕ) × (breaches (within_nothing around) next ps ≡ [])
+  pub plain_body : IsPlain t
+  pub stands : StandsAt sets.Expression t
+  pub body : (next : ℕ) × (breaches (within_arrow (arrow_function_expression_is_async a) around) next t ≡ [])
+
+pub arrow_parts : (next : ℕ) (around : Surroundings) (a : Atoms) (ps t : Tree) → IsPlain (tree.arrow_function a ps t) → is_function_body (type_of t) ≡ false → breaches around next (tree.arrow_function a ps t) ≡ [] → ArrowParts around a ps t
+arrow_parts next around a ps t p n e =
+    let outside : Surroundings = within_nothing around in
+    let within : Surroundings = within_arrow (arrow_function_expression_is_async a) around in
+    let k = placed _ outside sets.FormalParameters ps _ (parts (span_faults around a.span) [] _ e).1 in
+    let j = standing _ within sets.ArrowFunctionBody t [] k.2 in
+    record {
+      synchronous = unset (arrow_function_expression_is_async a) p.0;
+      plain_parameters = p.1.0;
+      are_parameters = k.0;
+      parameters = (_, k.1);
+      plain_body = p.1.1.0;
+      stands = arrow_body_stands t n j.0;
+      body = (_, j.1);
+    }
 
 -- what may be changed is an expression, and isn't `super`
 pub target_stands : (type : NodeType) → is_simple_assignment_target type ≡ true → may_stand sets.Expression type ≡ true
@@ -164,13 +221,13 @@ target_is_simple t p s = by (is_simple_assignment_target (type_of t)) refl
 pub link_valid : {names : Tables} (c : Allowed) (t : Tree) → IsPlain t → StandsAt sets.Link t → has_optional_link t ≡ false → (StandsAt sets.Expression t → IsExpression names c t) → IsLink names c t
 link_valid c (tree.super a) p s n f = family.a_super
 link_valid c (node types.Super a slots) p s n f = absurd (no_truth p.0)
-link_valid c t p s n f = family.an_operand (f (s.0, n, fits_expression sets.Link t refl s.2))
+link_valid c t p s n f = family.an_operand (f (s.0, n, fits_expression sets.Link t refl refl s.2))
 
 -- what an optional link goes on from is no `super`
 pub base_stands : (t : Tree) → StandsAt sets.Link t → super_faults true t ≡ [] → has_optional_link t ≡ false → StandsAt sets.Expression t
 base_stands t s e n =
     let h = and_parts (is_expression (type_of t)) (has_place sets.Link (type_of t)) s.0 in
-    (and_from (is_expression (type_of t)) (has_place sets.Expression (type_of t)) h.0 (and_from (false || not (is_super (type_of t))) (false || not (is_default (type_of t))) (ap not (none_if (is_super (type_of t)) (faults.Place (span_of t).start) e)) h.1), n, fits_expression sets.Link t refl s.2)
+    (and_from (is_expression (type_of t)) (has_place sets.Expression (type_of t)) h.0 (and_from (false || not (is_super (type_of t))) ((false || not (is_default (type_of t))) && (false || not (is_module_item (type_of t)))) (ap not (none_if (is_super (type_of t)) (faults.Place (span_of t).start) e)) h.1), n, fits_expression sets.Link t refl refl s.2)
 
 pub base_valid : {names : Tables} (c : Allowed) (t : Tree) → StandsAt sets.Link t → super_faults true t ≡ [] → (has_optional_link t ≡ true → IsChain names c t) → (StandsAt sets.Expression t → IsExpression names c t) → IsChainBase names c t
 base_valid {names} c t s e f g = by (has_optional_link t) refl
@@ -190,6 +247,9 @@ none_in_object (tree.spread a t) p s n = no_falsehood n
 none_in_object (tree.object_property a k v) p s n = no_falsehood n
 none_in_object t p s n = search no_truth
 
+pub none_among_properties : (next : ℕ) (around : Surroundings) (t : Tree) (ts : Trees) → is_plain_row t ≡ true → is_in_object t ≡ false → in_trees around (place_of sets.ObjectPropertyKind around ∷ []) next (more t ts) ≡ [] → ⊥
+none_among_properties next around t ts p n e = none_in_object t p (placed next around sets.ObjectPropertyKind t (in_trees around (place_of sets.ObjectPropertyKind around ∷ []) (after t next) ts) e).0 n
+
 -- of a property that is a method or an accessor, or of another
 abbrev pub rest_of_property : Tables → Atoms → Tree → Tree → Bool → List TreeFault
 rest_of_property tables a x v b = if b then method_faults (object_property_kind a) (object_property_computed a) x v else shorthand_faults tables (object_property_shorthand a) x v
@@ -199,28 +259,28 @@ property_faults tables a x v b = key_faults (object_property_computed a) x ++ re
 
 -- a key that is an expression is no `super`
 pub key_stands : (t : Tree) → is_expression (type_of t) ≡ true → StandsAt sets.PropertyKey t → StandsAt sets.Expression t
-key_stands t s m = (and_from (is_expression (type_of t)) (has_place sets.Expression (type_of t)) s (and_parts (in_set sets.PropertyKey (type_of t)) (has_place sets.Expression (type_of t)) m.0).1, m.1, fits_expression sets.PropertyKey t refl m.2)
+key_stands t s m = (and_from (is_expression (type_of t)) (has_place sets.Expression (type_of t)) s (and_parts (in_set sets.PropertyKey (type_of t)) (has_place sets.Expression (type_of t)) m.0).1, m.1, fits_expression sets.PropertyKey t refl refl m.2)
 
-pub big_valued : (around : Surroundings) (a : Atoms) → breaches around (tree.big_int_literal a) ≡ [] → is_big_integer (big_int_literal_value a) ≡ true
-big_valued around a e = none_unless (is_big_integer (big_int_literal_value a)) (faults.Literal a.span.start) (parts (span_faults around a.span) (big_integer_faults a.span (big_int_literal_value a)) [] e).0
+pub big_valued : (next : ℕ) (around : Surroundings) (a : Atoms) → breaches around next (tree.big_int_literal a) ≡ [] → is_big_integer (big_int_literal_value a) ≡ true
+big_valued next around a e = none_unless (is_big_integer (big_int_literal_value a)) (faults.Literal a.span.start) (parts (span_faults around a.span) (big_integer_faults a.span (big_int_literal_value a)) [] e).0
 
 -- a number whose value is at no fault has one
 pub number_valued : (kind : NumericKind) (a : Atoms) → is_number kind a ≡ true → number_faults a.span kind (numeric_literal_text a) ≡ [] → has_value kind a ≡ true
 number_valued Whole a p e = p
 number_valued Raw a p e = none_unless (is_raw_number (numeric_literal_text a)) (faults.Literal a.span.start) e
 
-pub literal_key_valid : (c : Allowed) (around : Surroundings) (k : Tree) → IsPlain k → is_literal_key (type_of k) ≡ true → is_negative_big_integer k ≡ false → breaches around k ≡ [] → IsKey around.tables c false k
-literal_key_valid c around (tree.identifier_name a) p s m e = family.a_name_key (none_unless (spells_name (identifier_name_name a)) (faults.Name a.span.start) (parts (span_faults around a.span) (written_name_faults a.span (identifier_name_name a)) [] e).0)
-literal_key_valid c around (tree.string_literal a) p s m e = family.a_string_key p.0
-literal_key_valid c around (tree.numeric_literal a) p s m e = family.a_number_key (number_valued (numeric_literal_kind a) a p.0 (parts (span_faults around a.span) (number_faults a.span (numeric_literal_kind a) (numeric_literal_text a)) [] e).0)
-literal_key_valid c around (tree.big_int_literal a) p s m e = family.a_big_integer_key (big_valued around a e) m
-literal_key_valid c around k p s m e = absurd (search no_truth)
+pub literal_key_valid : (next : ℕ) (c : Allowed) (around : Surroundings) (k : Tree) → IsPlain k → is_literal_key (type_of k) ≡ true → is_negative_big_integer k ≡ false → breaches around next k ≡ [] → IsKey around.tables c false k
+literal_key_valid next c around (tree.identifier_name a) p s m e = family.a_name_key (none_unless (spells_name (identifier_name_name a)) (faults.Name a.span.start) (parts (span_faults around a.span) (written_name_faults a.span (identifier_name_name a)) [] e).0)
+literal_key_valid next c around (tree.string_literal a) p s m e = family.a_string_key p.0
+literal_key_valid next c around (tree.numeric_literal a) p s m e = family.a_number_key (number_valued (numeric_literal_kind a) a p.0 (parts (span_faults around a.span) (number_faults a.span (numeric_literal_kind a) (numeric_literal_text a)) [] e).0)
+literal_key_valid next c around (tree.big_int_literal a) p s m e = family.a_big_integer_key (big_valued next around a e) m
+literal_key_valid next c around k p s m e = absurd (search no_truth)
 
-pub key_valid : (c : Allowed) (around : Surroundings) (computed : Bool) (k : Tree) → IsPlain k → key_faults computed k ≡ [] → breaches around k ≡ [] → (is_expression (type_of k) ≡ true → IsExpression around.tables c k) → IsKey around.tables c computed k
-key_valid c around true k p f e h = family.a_computed_key (h (none_unless (is_expression (type_of k)) (faults.Place (span_of k).start) f))
-key_valid c around false k p f e h =
+pub key_valid : (next : ℕ) (c : Allowed) (around : Surroundings) (computed : Bool) (k : Tree) → IsPlain k → key_faults computed k ≡ [] → breaches around next k ≡ [] → (is_expression (type_of k) ≡ true → IsExpression around.tables c k) → IsKey around.tables c computed k
+key_valid next c around true k p f e h = family.a_computed_key (h (none_unless (is_expression (type_of k)) (faults.Place (span_of k).start) f))
+key_valid next c around false k p f e h =
     let m = and_parts (is_literal_key (type_of k)) (not (is_negative_big_integer k)) (none_unless (may_be_key false k) (faults.Place (span_of k).start) f) in
-    literal_key_valid c around k p m.0 (not-true (is_negative_big_integer k) m.1) e
+    literal_key_valid _ c around k p m.0 (not-true (is_negative_big_integer k) m.1) e
 
 -- a link of a chain is optional, or goes on from one
 pub link_kind : {A : Type 0} (b : Bool) (o : Tree) → (b || has_optional_link o) ≡ true → super_faults b o ≡ [] → (b ≡ true → super_faults true o ≡ [] → A) → (b ≡ false → has_optional_link o ≡ true → A) → A
@@ -233,28 +293,28 @@ free_since around s n e =
     let known : Bool = option_map_or (λ scoping. is_in_tables scoping n) around.tables.scoping true in
     (and_parts known (is_free_name (printed_name around.tables n)) (none_unless (known && is_free_name (printed_name around.tables n)) (faults.Name s.start) e)).1
 
-pub binding_valid : (c : Allowed) (around : Surroundings) (t : Tree) → IsPlain t → is_binding_pattern (type_of t) ≡ true → breaches around t ≡ [] → IsBinding around.tables c t
-binding_valid c around (tree.binding_identifier a) p s e = family.a_bound_name (free_since around a.span (binding_named a) (parts (span_faults around a.span) (name_faults around.tables a.span (binding_named a)) [] e).0)
-binding_valid c around t p s e = absurd (search no_truth)
+pub binding_valid : (next : ℕ) (c : Allowed) (around : Surroundings) (t : Tree) → IsPlain t → is_binding_pattern (type_of t) ≡ true → breaches around next t ≡ [] → IsBinding around.tables c t
+binding_valid next c around (tree.binding_identifier a) p s e = family.a_bound_name (free_since around a.span (binding_named a) (parts (span_faults around a.span) (name_faults around.tables a.span (binding_named a)) [] e).0)
+binding_valid next c around t p s e = absurd (search no_truth)
 
 -- the parameter that takes the rest
-pub rest_parameter_valid : (c : Allowed) (around : Surroundings) (t : Tree) → IsPlain t → is_formal_parameter_rest (type_of t) ≡ true → breaches around t ≡ [] → IsRest around.tables c (given t)
-rest_parameter_valid c around (tree.formal_parameter_rest a b) p s e =
-    let k = placed around sets.BindingPattern b [] (parts (span_faults around a.span) [] _ e).1 in
-    family.a_rest (binding_valid c around b p.1.0 k.0 k.1)
-rest_parameter_valid c around t p s e = absurd (search no_truth)
+pub rest_parameter_valid : (next : ℕ) (c : Allowed) (around : Surroundings) (t : Tree) → IsPlain t → is_formal_parameter_rest (type_of t) ≡ true → breaches around next t ≡ [] → IsRest around.tables c (given t)
+rest_parameter_valid next c around (tree.formal_parameter_rest a b) p s e =
+    let k = placed _ around sets.BindingPattern b [] (parts (span_faults around a.span) [] _ e).1 in
+    family.a_rest (binding_valid _ c around b p.1.0 k.0 k.1)
+rest_parameter_valid next c around t p s e = absurd (search no_truth)
 
-pub rest_valid : (c : Allowed) (around : Surroundings) (m : Maybe) → EverywhereIfGiven is_plain_row m → in_maybe around (place_of sets.FormalParameterRest around ∷ []) m ≡ [] → IsRest around.tables c m
-rest_valid c around absent p e = family.no_rest
-rest_valid c around (given t) p e =
-    let h = none_both (set_faults sets.FormalParameterRest t) (breaches around t) e in
+pub rest_valid : (next : ℕ) (c : Allowed) (around : Surroundings) (m : Maybe) → EverywhereIfGiven is_plain_row m → in_maybe around (place_of sets.FormalParameterRest around ∷ []) next m ≡ [] → IsRest around.tables c m
+rest_valid next c around absent p e = family.no_rest
+rest_valid next c around (given t) p e =
+    let h = none_both (set_faults sets.FormalParameterRest t) (breaches around _ t) e in
     let s = stands_at sets.FormalParameterRest t h.0 in
-    rest_parameter_valid c around t p (and_parts (is_formal_parameter_rest (type_of t)) (has_place sets.Expression (type_of t)) s.0).0 h.1
+    rest_parameter_valid _ c around t p (and_parts (is_formal_parameter_rest (type_of t)) (has_place sets.Expression (type_of t)) s.0).0 h.1
 
 -- a child that is there, and is of the set that its field asks for
-pub placed_if_given : (around : Surroundings) (s : NodeSet) (t : Tree) → set_faults s t ++ breaches around t ≡ [] → (in_set s (type_of t) ≡ true) × (breaches around t ≡ [])
-placed_if_given around s t e =
-    let h = none_both (set_faults s t) (breaches around t) e in
+pub placed_if_given : (next : ℕ) (around : Surroundings) (s : NodeSet) (t : Tree) → set_faults s t ++ breaches around next t ≡ [] → (in_set s (type_of t) ≡ true) × (breaches around next t ≡ [])
+placed_if_given next around s t e =
+    let h = none_both (set_faults s t) (breaches around _ t) e in
     ((and_parts (in_set s (type_of t)) (has_place s (type_of t)) (stands_at s t h.0).0).0, h.1)
 
 -- ---- directives
@@ -268,26 +328,26 @@ raw_directive (text raw) p h = by (directive_value raw) refl h
     by None e k = absurd (no_truth k)
 raw_directive v p h = absurd (no_truth p)
 
-pub directive_valid : (around : Surroundings) (t : Tree) (ds : Trees) → IsPlain t → is_directive (type_of t) ≡ true → breaches around t ≡ [] → AreDirectives ds → AreDirectives (more t ds)
-directive_valid around (tree.directive a) ds p s e v =
+pub directive_valid : (next : ℕ) (around : Surroundings) (t : Tree) (ds : Trees) → IsPlain t → is_directive (type_of t) ≡ true → breaches around next t ≡ [] → AreDirectives ds → AreDirectives (more t ds)
+directive_valid next around (tree.directive a) ds p s e v =
     let raw : List ℕ = as_text (directive_directive a) in
     let k = raw_directive (directive_directive a) p.0 (none_unless (is_some (directive_value raw)) (faults.Literal a.span.start) (parts (span_faults around a.span) (directive_faults a.span raw) [] e).0) in
     family.first_directive k.0 k.1 k.2 v
-directive_valid around t ds p s e v = absurd (search no_truth)
+directive_valid next around t ds p s e v = absurd (search no_truth)
 
 -- behind their field stand others
-pub directives_valid : (around : Surroundings) (others : List ChildPlace) (ds : Trees) → has_no_hole ds ≡ true → EverywhereInTrees is_plain_row ds → in_trees around (place_of sets.Directive around ∷ others) ds ≡ [] → AreDirectives ds
-directives_valid around others no_trees n p e = family.no_directive
-directives_valid around others (more t ts) n p e = let k = placed around sets.Directive t _ e in directive_valid around t ts p.0 k.0 k.1 (directives_valid around others ts n p.1 k.2)
-directives_valid around others (hole ts) n p e = absurd (no_truth n)
+pub directives_valid : (next : ℕ) (around : Surroundings) (others : List ChildPlace) (ds : Trees) → has_no_hole ds ≡ true → EverywhereInTrees is_plain_row ds → in_trees around (place_of sets.Directive around ∷ others) next ds ≡ [] → AreDirectives ds
+directives_valid next around others no_trees n p e = family.no_directive
+directives_valid next around others (more t ts) n p e = let k = placed _ around sets.Directive t _ e in directive_valid _ around t ts p.0 k.0 k.1 (directives_valid _ around others ts n p.1 k.2)
+directives_valid next around others (hole ts) n p e = absurd (no_truth n)
 
 -- ---- functions
 
 -- what surrounds the node itself doesn't count where its children have places
-pub same_trees : (a b : Surroundings) (p : ChildPlace) (ps : List ChildPlace) (ts : Trees) → in_trees a (p ∷ ps) ts ≡ in_trees b (p ∷ ps) ts
-same_trees a b p ps no_trees = refl
-same_trees a b p ps (more t ts) = ap (λ x. (set_faults p.set t ++ breaches p.around t) ++ x) (same_trees a b p ps ts)
-same_trees a b p ps (hole ts) = same_trees a b p ps ts
+pub same_trees : (next : ℕ) (a b : Surroundings) (p : ChildPlace) (ps : List ChildPlace) (ts : Trees) → in_trees a (p ∷ ps) next ts ≡ in_trees b (p ∷ ps) next ts
+same_trees next a b p ps no_trees = refl
+same_trees next a b p ps (more t ts) = ap (λ x. (set_faults p.set t ++ breaches p.around next t) ++ x) (same_trees _ a b p ps ts)
+same_trees next a b p ps (hole ts) = same_trees _ a b p ps ts
 
 -- a function is of the kind that its place asks for
 pub kind_is : (kind : FunctionKind) (a : Atoms) → same_kind (function_kind a) kind ≡ true → function_kind a ≡ kind
@@ -300,21 +360,25 @@ kind_is kind a h = by (function_kind a) kind h
     by kinds.Expression kinds.Declaration h = absurd (no_truth h)
 
 -- and has a body
-pub bodiless : (s : Span) (kind : FunctionKind) (id : Maybe) → function_faults s kind id absent ≡ [] → ⊥
-bodiless s kinds.Declaration absent e = cc
-bodiless s kinds.Declaration (given t) e = cc
-bodiless s kinds.Expression absent e = cc
-bodiless s kinds.Expression (given t) e = cc
+pub bodiless : (s : Span) → function_faults s absent ≡ [] → ⊥
+bodiless s e = cc
 
-pub function_name_valid : (around : Surroundings) (kind : FunctionKind) (t : Tree) → IsPlain t → is_binding_identifier (type_of t) ≡ true → breaches around t ≡ [] → HasName around.tables kind (given t)
-function_name_valid around kind (tree.binding_identifier a) p s e = family.a_name (free_since around a.span (binding_named a) (parts (span_faults around a.span) (name_faults around.tables a.span (binding_named a)) [] e).0)
-function_name_valid around kind t p s e = absurd (search no_truth)
+-- its place asks for its kind, and for a name where it is declared
+pub function_fits : (kind : FunctionKind) (a : Atoms) (id : Maybe) → (same_kind (function_kind a) kind && (has_name id || same_kind (function_kind a) kinds.Expression)) ≡ true → (function_kind a ≡ kind) × ((has_name id || same_kind kind kinds.Expression) ≡ true)
+function_fits kind a id f =
+    let h = and_parts (same_kind (function_kind a) kind) (has_name id || same_kind (function_kind a) kinds.Expression) f in
+    let k = kind_is kind a h.0 in
+    (k, subst (λ x. (has_name id || same_kind x kinds.Expression) ≡ true) k h.1)
+
+pub function_name_valid : (next : ℕ) (around : Surroundings) (kind : FunctionKind) (t : Tree) → IsPlain t → is_binding_identifier (type_of t) ≡ true → breaches around next t ≡ [] → HasName around.tables kind (given t)
+function_name_valid next around kind (tree.binding_identifier a) p s e = family.a_name (free_since around a.span (binding_named a) (parts (span_faults around a.span) (name_faults around.tables a.span (binding_named a)) [] e).0)
+function_name_valid next around kind t p s e = absurd (search no_truth)
 
 -- behind its field stand others
-pub has_name : (around : Surroundings) (s : Span) (kind : FunctionKind) (others : List ChildPlace) (id : Maybe) (u : Tree) → function_faults s kind id (given u) ≡ [] → EverywhereIfGiven is_plain_row id → in_maybe around (place_of sets.BindingIdentifier around ∷ others) id ≡ [] → HasName around.tables kind id
-has_name around s kind others (given t) u f p e = let k = placed_if_given around sets.BindingIdentifier t e in function_name_valid around kind t p k.0 k.1
-has_name around s kinds.Expression others absent u f p e = family.no_name
-has_name around s kinds.Declaration others absent u f p e = absurd (cc)
+pub named_validly : (next : ℕ) (around : Surroundings) (kind : FunctionKind) (others : List ChildPlace) (id : Maybe) → (has_name id || same_kind kind kinds.Expression) ≡ true → EverywhereIfGiven is_plain_row id → in_maybe around (place_of sets.BindingIdentifier around ∷ others) next id ≡ [] → HasName around.tables kind id
+named_validly next around kind others (given t) f p e = let k = placed_if_given _ around sets.BindingIdentifier t e in function_name_valid _ around kind t p k.0 k.1
+named_validly next around kinds.Expression others absent f p e = family.no_name
+named_validly next around kinds.Declaration others absent f p e = absurd (no_truth f)
 
 -- its parameters and its body, where nothing is at fault
 pub record FunctionParts (around : Surroundings) (kind : FunctionKind) (a : Atoms) (id : Maybe) (ps u : Tree) : Type 0 where
@@ -322,48 +386,46 @@ pub record FunctionParts (around : Surroundings) (kind : FunctionKind) (a : Atom
   pub name : HasName around.tables kind id
   pub plain_parameters : IsPlain ps
   pub are_parameters : is_formal_parameters (type_of ps) ≡ true
-  pub parameters : breaches around ps ≡ []
+  pub parameters : (next : ℕ) × (breaches (within_nothing around) next ps ≡ [])
   pub plain_body : IsPlain u
   pub is_body : is_function_body (type_of u) ≡ true
-  pub body : breaches around u ≡ []
+  pub body : (next : ℕ) × (breaches (within_function (function_is_async a) (function_generator a) around) next u ≡ [])
 
-pub function_parts : (around : Surroundings) (kind : FunctionKind) (a : Atoms) (id : Maybe) (ps u : Tree) → function_kind a ≡ kind → IsPlain (tree.function a id ps (given u)) → breaches around (tree.function a id ps (given u)) ≡ [] → FunctionParts around kind a id ps u
-function_parts around kind a id ps u h p e =
-    let last : List ChildPlace = place_of sets.FunctionBody around ∷ [] in
-    let f = parts (span_faults around a.span) (function_faults a.span (function_kind a) id (given u)) _ e in
-    let i = none_both (in_maybe around (place_of sets.BindingIdentifier around ∷ place_of sets.FormalParameters around ∷ last) id) _ f.1 in
-    let k = placed around sets.FormalParameters ps _ i.1 in
-    let j = placed_if_given around sets.FunctionBody u (none_both (in_maybe around last (given u)) [] k.2).0 in
+pub function_parts : (next : ℕ) (around : Surroundings) (kind : FunctionKind) (a : Atoms) (id : Maybe) (ps u : Tree) → (has_name id || same_kind kind kinds.Expression) ≡ true → IsPlain (tree.function a id ps (given u)) → breaches around next (tree.function a id ps (given u)) ≡ [] → FunctionParts around kind a id ps u
+function_parts next around kind a id ps u h p e =
+    let outside : Surroundings = within_nothing around in
+    let within : Surroundings = within_function (function_is_async a) (function_generator a) around in
+    let last : List ChildPlace = place_of sets.FunctionBody within ∷ [] in
+    let f = parts (span_faults around a.span) (function_faults a.span (given u)) _ e in
+    let i = none_both (in_maybe around (place_of sets.BindingIdentifier around ∷ place_of sets.FormalParameters outside ∷ last) _ id) _ f.1 in
+    let k = placed _ outside sets.FormalParameters ps _ i.1 in
+    let j = placed_if_given _ within sets.FunctionBody u (none_both (in_maybe around last _ (given u)) [] k.2).0 in
     let m = and_parts (not (function_is_async a) && not (function_generator a)) (not (function_declare a)) (and_parts (has_plain_flags types.Function a) true p.0).0 in
     let n = and_parts (not (function_is_async a)) (not (function_generator a)) m.0 in
     record {
       synchronous = (not-true (function_is_async a) n.0, not-true (function_generator a) n.1, not-true (function_declare a) m.1);
-      name = has_name around a.span kind (place_of sets.FormalParameters around ∷ last) id u (subst (λ x. function_faults a.span x id (given u) ≡ []) h f.0) p.1.0 i.0;
+      name = named_validly _ around kind (place_of sets.FormalParameters outside ∷ last) id h p.1.0 i.0;
       plain_parameters = p.1.1.0;
       are_parameters = k.0;
-      parameters = k.1;
+      parameters = (_, k.1);
       plain_body = p.1.1.1.0;
       is_body = j.0;
-      body = j.1;
+      body = (_, j.1);
     }
 
--- in a function's body `return` may stand
-abbrev pub within_function : Surroundings → Surroundings
-within_function around = record around { in_function = true }
-
-pub braces_parts : (around : Surroundings) (a : Atoms) (ds ss : Trees) → IsPlain (tree.function_body a ds ss) → breaches around (tree.function_body a ds ss) ≡ [] → AreDirectives ds × (has_no_hole ss ≡ true) × EverywhereInTrees is_plain_row ss × (in_trees (within_function around) (place_of sets.Statement (within_function around) ∷ []) ss ≡ [])
-braces_parts around a ds ss p e =
-    let within : Surroundings = within_function around in
+pub braces_parts : (next : ℕ) (around : Surroundings) (a : Atoms) (ds ss : Trees) → IsPlain (tree.function_body a ds ss) → breaches around next (tree.function_body a ds ss) ≡ [] → AreDirectives ds × (has_no_hole ss ≡ true) × EverywhereInTrees is_plain_row ss × ((last : ℕ) × (in_trees (within_braces around) (place_of sets.Statement (within_braces around) ∷ []) last ss ≡ []))
+braces_parts next around a ds ss p e =
+    let within : Surroundings = within_braces around in
     let last : List ChildPlace = place_of sets.Statement within ∷ [] in
-    let d = none_both (in_trees around (place_of sets.Directive within ∷ last) ds) _ (parts (span_faults around a.span) [] _ e).1 in
-    let k = none_both (in_trees around last ss) [] d.1 in
+    let d = none_both (in_trees around (place_of sets.Directive within ∷ last) _ ds) _ (parts (span_faults around a.span) [] _ e).1 in
+    let k = none_both (in_trees around last _ ss) [] d.1 in
     let n = and_parts (has_no_hole ds) (has_no_hole ss) p.0 in
-    (directives_valid within last ds n.0 p.1.0 (same_trees within around (place_of sets.Directive within) last ds ∙ d.0), n.1, p.1.1.0, same_trees within around (place_of sets.Statement within) [] ss ∙ k.0)
+    (directives_valid _ within last ds n.0 p.1.0 (same_trees _ within around (place_of sets.Directive within) last ds ∙ d.0), n.1, p.1.1.0, (_, same_trees _ within around (place_of sets.Statement within) [] ss ∙ k.0))
 
 -- ---- properties with their value
 
 method_since : {names : Tables} {c : Allowed} (a : Atoms) (x : Tree) {v : Tree} → IsExpression names c v → is_method (object_property_kind a) (object_property_method a) ≡ true → IsKey names c (object_property_computed a) x → fits_method (object_property_kind a) v ≡ true → IsProperty names c (tree.object_property a x v)
-method_since a x (family.a_function {id = absent} w) m key f = family.a_method m refl key f w
+method_since a x (family.a_function {a = b} {id = absent} {ps = ps} w) m key f = family.a_method m refl key (and_parts (fits_accessor (object_property_kind a) ps) (fits_words (object_property_kind a) (function_is_async b) (function_generator b)) f).0 w
 method_since a x (family.a_function {id = given i} w) m key f = absurd (no_truth f)
 method_since a x v m key f = absurd (search no_truth)
 
@@ -380,10 +442,10 @@ Returns c around = around.in_function ≡ true → c.return_statement ≡ true
 -- ---- declarations
 
 -- the declarators, and no word of TypeScript before them
-pub variables_parts : (around : Surroundings) (a : Atoms) (ds : Trees) → IsPlain (tree.variable_declaration a ds) → breaches around (tree.variable_declaration a ds) ≡ [] → (variable_declaration_declare a ≡ false) × (has_no_hole ds ≡ true) × EverywhereInTrees is_plain_row ds × (declaration_faults a.span ds ≡ []) × (in_trees around (place_of sets.VariableDeclarator around ∷ []) ds ≡ [])
-variables_parts around a ds p e =
+pub variables_parts : (next : ℕ) (around : Surroundings) (a : Atoms) (ds : Trees) → IsPlain (tree.variable_declaration a ds) → breaches around next (tree.variable_declaration a ds) ≡ [] → (variable_declaration_declare a ≡ false) × (has_no_hole ds ≡ true) × EverywhereInTrees is_plain_row ds × (declaration_faults a.span ds ≡ []) × (in_trees around (place_of sets.VariableDeclarator around ∷ []) next ds ≡ [])
+variables_parts next around a ds p e =
     let h = parts (span_faults around a.span) (declaration_faults a.span ds) _ e in
-    let k = none_both (in_trees around (place_of sets.VariableDeclarator around ∷ []) ds) [] h.1 in
+    let k = none_both (in_trees around (place_of sets.VariableDeclarator around ∷ []) _ ds) [] h.1 in
     let m = and_parts (not (variable_declaration_declare a)) (has_no_hole ds) p.0 in
     (not-true (variable_declaration_declare a) m.0, m.1, p.1.0, h.0, k.0)
 
@@ -401,11 +463,17 @@ none_first t p s n e = search (no_truth, no_falsehood, no_truth_behind)
 pub init_stands : (t : Tree) → is_plain_row t ≡ true → StandsAt sets.ForStatementInit t → is_declaration t ≡ false → StandsAt sets.Expression t
 init_stands t p s n =
     let h = and_parts (is_for_statement_init (type_of t)) (has_place sets.Expression (type_of t)) s.0 in
-    (and_from (is_expression (type_of t)) (has_place sets.Expression (type_of t)) (by (is_expression (type_of t)) refl) h.1, s.1, fits_expression sets.ForStatementInit t refl s.2)
+    (and_from (is_expression (type_of t)) (has_place sets.Expression (type_of t)) (by (is_expression (type_of t)) refl) h.1, s.1, fits_expression sets.ForStatementInit t refl refl s.2)
   where
     by : (b : Bool) → is_expression (type_of t) ≡ b → b ≡ true
     by true e = refl
     by false e = absurd (none_first t p (and_parts (is_for_statement_init (type_of t)) (has_place sets.Expression (type_of t)) s.0).0 n e)
+
+-- behind its field stand others
+pub init_parts : (next : ℕ) (around : Surroundings) (others : List ChildPlace) (t : Tree) → is_plain_row t ≡ true → is_declaration t ≡ false → in_maybe around (place_of sets.ForStatementInit around ∷ others) next (given t) ≡ [] → StandsAt sets.Expression t × (breaches around next t ≡ [])
+init_parts next around others t p n e =
+    let h = none_both (set_faults sets.ForStatementInit t) (breaches around next t) e in
+    (init_stands t p (stands_at sets.ForStatementInit t h.0) n, h.1)
 
 -- and what a loop gives its values is a target
 pub none_left : (t : Tree) → is_plain_row t ≡ true → is_for_statement_left (type_of t) ≡ true → is_declaration t ≡ false → is_simple_assignment_target (type_of t) ≡ false → ⊥
@@ -419,6 +487,11 @@ left_is_simple t p s n = by (is_simple_assignment_target (type_of t)) refl
     by true e = refl
     by false e = absurd (none_left t p s n e)
 
+pub target_valid : {names : Tables} {c : Allowed} (t : Tree) → is_plain_row t ≡ true → is_for_statement_left (type_of t) ≡ true → is_declaration t ≡ false → target_faults t ≡ [] → (StandsAt sets.Expression t → IsExpression names c t) → IsLeft names c t
+target_valid t p s n f g =
+    let i = left_is_simple t p s n in
+    family.a_target i (g (target_stands (type_of t) i, none_if (has_optional_link t) (faults.Place (span_of t).start) f, target_fits t i))
+
 -- one declarator without a value
 pub name_valid : {names : Tables} {c : Allowed} (a : Atoms) (ds : Trees) → is_one_name ds ≡ true → variable_declaration_declare a ≡ false → AreDeclarators names c ds → IsLeft names c (tree.variable_declaration a ds)
 name_valid a (more (tree.variable_declarator b t absent) no_trees) n m (family.last_declarator (family.a_declarator h v w)) = family.a_declared_name m h v
@@ -426,13 +499,13 @@ name_valid a ds n m v = absurd (search no_truth)
 
 -- ---- the rows of statements
 
-pub label_valid : (around : Surroundings) (n : Tree) (P : Tree → Type 0) → IsPlain n → is_label_identifier (type_of n) ≡ true → breaches around n ≡ [] → ((b : Atoms) → is_free_name (label_identifier_name b) ≡ true → P (tree.label_identifier b)) → P n
-label_valid around (tree.label_identifier b) P p s e f = f b (none_unless (is_free_name (label_identifier_name b)) (faults.Name b.span.start) (parts (span_faults around b.span) (label_faults b.span (label_identifier_name b)) [] e).0)
-label_valid around n P p s e f = absurd (search no_truth)
+pub label_valid : (next : ℕ) (around : Surroundings) (n : Tree) (P : Tree → Type 0) → IsPlain n → is_label_identifier (type_of n) ≡ true → breaches around next n ≡ [] → ((b : Atoms) → is_free_name (label_identifier_name b) ≡ true → P (tree.label_identifier b)) → P n
+label_valid next around (tree.label_identifier b) P p s e f = f b (none_unless (is_free_name (label_identifier_name b)) (faults.Name b.span.start) (parts (span_faults around b.span) (label_faults b.span (label_identifier_name b)) [] e).0)
+label_valid next around n P p s e f = absurd (search no_truth)
 
-pub jump_valid : (around : Surroundings) (m : Maybe) → EverywhereIfGiven is_plain_row m → in_maybe around (place_of sets.LabelIdentifier around ∷ []) m ≡ [] → IsLabel m
-jump_valid around absent p e = family.no_label
-jump_valid around (given t) p e = let k = placed_if_given around sets.LabelIdentifier t e in label_valid around t (λ x. IsLabel (given x)) p k.0 k.1 (λ b h. family.a_label h)
+pub jump_valid : (next : ℕ) (around : Surroundings) (m : Maybe) → EverywhereIfGiven is_plain_row m → in_maybe around (place_of sets.LabelIdentifier around ∷ []) next m ≡ [] → IsLabel m
+jump_valid next around absent p e = family.no_label
+jump_valid next around (given t) p e = let k = placed_if_given _ around sets.LabelIdentifier t e in label_valid _ around t (λ x. IsLabel (given x)) p k.0 k.1 (λ b h. family.a_label h)
 
 -- of `var` a statement, and of another word a declaration
 pub variables_are : {names : Tables} {c : Allowed} (a : Atoms) (ds : Trees) → variable_declaration_declare a ≡ false → AreDeclarators names c ds → IsItem names c (tree.variable_declaration a ds)
@@ -466,6 +539,9 @@ is_case t = false
 pub none_case : (t : Tree) → is_plain_row t ≡ true → is_switch_case (type_of t) ≡ true → is_case t ≡ false → ⊥
 none_case (tree.switch_case a test ss) p s n = no_falsehood n
 none_case t p s n = search no_truth
+
+pub none_among_cases : (next : ℕ) (around : Surroundings) (t : Tree) (ts : Trees) → is_plain_row t ≡ true → is_case t ≡ false → in_trees around (place_of sets.SwitchCase around ∷ []) next (more t ts) ≡ [] → ⊥
+none_among_cases next around t ts p n e = none_case t p (placed next around sets.SwitchCase t (in_trees around (place_of sets.SwitchCase around ∷ []) (after t next) ts) e).0 n
 
 -- a handler and a finalizer, where they are given
 abbrev pub HandlerIfGiven : Tables → Allowed → Maybe → Type 0

@@ -8,7 +8,7 @@ use Rattle.jsgen_tree.specs.Job.{Tables}
 use Rattle.jsgen_tree.specs.Inside.{binding_named}
 use Rattle.jsgen_tree.specs.Named.{printed_name}
 use Rattle.jsgen_tree.specs.Tree.{Tree, Maybe, absent, given, Trees, no_trees, more, hole, Atoms}
-use Rattle.jsgen_tree.specs.Values.{function_kind, function_pife}
+use Rattle.jsgen_tree.specs.Values.{function_kind, function_is_async, function_generator, function_pife}
 use Rattle.jsgen_tree.specs.Nodes as tree
 use Rattle.jsgen_tree.specs.declared.functions.FunctionKind.{FunctionKind}
 use Rattle.jsgen_tree.specs.declared.functions.FunctionKind.TheVariants as kinds
@@ -22,7 +22,7 @@ use Rattle.jsgen_model.specs.Normal.{normal, normal_maybe, nothing_of, unnumbere
 use Rattle.jsgen_model.specs.Renamed.{renamed, renamed_maybe}
 use Rattle.jsgen_place.specs.declared.place.Place.{Place}
 use Rattle.jsgen_place.specs.Place.{among_statements, within_statement, child, in_brackets, within, with_calls}
-use Rattle.jsgen_model.specs.Spell.{spell, spell_if_given, spell_directives, spell_body, function_items, body_braces}
+use Rattle.jsgen_model.specs.Spell.{spell, spell_if_given, spell_directives, spell_body, function_items, function_words, body_braces}
 use Rattle.jsgen_token_laws.proofs.Characters.{letters_spelled}
 use Rattle.jsgen_token_laws.proofs.Last.{Last, Open, After, line_of, Knows}
 use Rattle.jsgen_token_laws.proofs.Writes.{Writes, wrote_none, wrote_both}
@@ -210,8 +210,16 @@ pub record GoodFunction (names : Tables) (kind : FunctionKind) (p : Pen) (l : La
   pub reads : ReadsFunction kind tokens tree
   pub same : normal tree ≡ normal (renamed names t)
 
+-- from its words on, by what they tell
+abbrev items_from : Bool → Bool → Maybe → Tree → Tree → Place → Items
+items_from is_async generator id t u place = function_words is_async generator ⊕ (spell_if_given id (child levels.Lowest place) ⊕ method_items t u place)
+
 abbrev whole_items : Maybe → Tree → Tree → Place → Items
-whole_items id t u place = word (codes "function") ⊕ (spell_if_given id (child levels.Lowest place) ⊕ method_items t u place)
+whole_items id t u place = items_from false false id t u place
+
+-- one that is neither `async` nor a generator
+without_words : (a : Atoms) (kind : FunctionKind) (id : Maybe) (t u : Tree) (place : Place) → function_kind a ≡ kind → IsSynchronous a → function_items kind (function_pife a) place (whole_items id t u place) ≡ function_items (function_kind a) (function_pife a) place (items_from (function_is_async a) (function_generator a) id t u place)
+without_words a kind id t u place h m = λ i. function_items (sym h i) (function_pife a) place (items_from (sym m.0 i) (sym m.1 i) id t u place)
 
 abbrev FunctionAt : Tables → FunctionKind → Tree → Items → Type 0
 FunctionAt names kind t items = (p : Pen) (l : Last) → p.pending_semicolon ≡ false → Knows names p l → GoodFunction names kind p l (layout items p) t
@@ -257,7 +265,7 @@ function_begins false arrow_body line b h = refl
 
 pub good_function : {names : Tables} {id : Maybe} (c : Allowed) (a : Atoms) (t u : Tree) → function_kind a ≡ kinds.Expression → IsSynchronous a → HasName names kinds.Expression id → GroupOf names (ReadsParameters in_function) t → BodyOf names u → Printed names c (tree.function a id t (given u))
 good_function {names} {id} c a t u h m n f g place p l z y k =
-    subst (λ x. Good names p l (layout (function_items x (function_pife a) place items) p) (under place c) (level_of place) whole) (sym h)
+    subst (λ x. Good names p l (layout x p) (under place c) (level_of place) whole) (without_words a kinds.Expression id t u place h m)
     (wrapped_from c place grammar.Primary wraps_it (λ v. items) whole p (λ d ts v r. from_primary (in_brackets levels.Lowest) r) (λ e ts v r. from_primary place r) inner l z y k)
   where
     whole : Tree
@@ -289,7 +297,7 @@ good_function {names} {id} c a t u h m n f g place p l z y k =
 
 pub good_declaration : {names : Tables} {id : Maybe} (c : Allowed) (a : Atoms) (t u : Tree) → function_kind a ≡ kinds.Declaration → IsSynchronous a → HasName names kinds.Declaration id → GroupOf names (ReadsParameters in_function) t → BodyOf names u → Listed names c (tree.function a id t (given u))
 good_declaration {names} {id} c a t u h m n f g =
-    subst (λ x. StandsAt names (ReadsItem c) (SameTree names whole) (function_items x (function_pife a) place (whole_items id t u place))) (sym h)
+    subst (λ x. StandsAt names (ReadsItem c) (SameTree names whole) x) (without_words a kinds.Declaration id t u place h m)
     (indented_line (whole_items id t u place ⊕ soft_line) (before_blank (whole_items id t u place) soft_line inside soft_line_written))
   where
     place : Place

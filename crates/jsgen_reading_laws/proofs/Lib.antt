@@ -1,3 +1,4 @@
+pub mod Patterns
 pub mod Levels
 pub mod Families
 pub mod Faultless

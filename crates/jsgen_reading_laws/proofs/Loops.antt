@@ -21,7 +21,7 @@ use Rattle.jsgen_tree.specs.declared.types.NodeType.{NodeType}
 use Rattle.jsgen_tree.specs.declared.types.NodeType.TheVariants as types
 use Rattle.jsgen_model.specs.Punctuator.{semicolon, Round, opening}
 use Rattle.jsgen_model.specs.Tokens.{Tokens, done, piece, group, ◌⧺◌, Word, Sign}
-use Rattle.jsgen_model.specs.Items.{Items, ◌⊕◌, word, name, punctuator, soft_space, brackets}
+use Rattle.jsgen_model.specs.Items.{Items, ◌⊕◌, word, name, punctuator, indentation, soft_space, hard_space, brackets}
 use Rattle.jsgen_model.specs.Layout.{Pen, other_end, layout, written}
 use Rattle.jsgen_model.specs.Grammar.{Allowed, Level, ReadsExpression, ReadsBinding, ReadsInit, ReadsPart, ReadsLeft, declaring, with_in, may_precede_of}
 use Rattle.jsgen_model.specs.Grammar as grammar
@@ -29,7 +29,7 @@ use Rattle.jsgen_model.specs.Normal.{normal, normal_maybe, nothing_of, unnumbere
 use Rattle.jsgen_model.specs.Renamed.{renamed, renamed_maybe}
 use Rattle.jsgen_place.specs.declared.place.Place.{Place}
 use Rattle.jsgen_place.specs.Place.{among_statements, within_statement, in_brackets, loop_head}
-use Rattle.jsgen_model.specs.Spell.{spell, spell_if_given, spell_apart, left_place, shape, body_items, apart_from_of}
+use Rattle.jsgen_model.specs.Spell.{spell, spell_if_given, spell_apart, left_place, shape, body_items, items_if, before_of, apart_from_of}
 use Rattle.jsgen_token_laws.proofs.Characters.{letters_spelled}
 use Rattle.jsgen_token_laws.proofs.Last.{Last, Open, After, line_of}
 use Rattle.jsgen_token_laws.proofs.Writes.{Writes, wrote_none, wrote_both}
@@ -43,7 +43,7 @@ use Rattle.jsgen_reading_laws.proofs.Openings.{precedes_of}
 use Rattle.jsgen_reading_laws.proofs.Bindings.{Bound, PrintedIfGiven}
 use Rattle.jsgen_reading_laws.proofs.Properties.{same_laid}
 use Rattle.jsgen_reading_laws.proofs.Declarations.{kind_spelled, VariablesAt}
-use Rattle.jsgen_reading_laws.proofs.Stands.{Stated, stated_among, SameTree}
+use Rattle.jsgen_reading_laws.proofs.Stands.{Stated, StatedAt, stated_among, SameTree}
 use Rattle.jsgen_reading_laws.proofs.Bodies.{EmptyAlone, good_body}
 use Rattle.jsgen_reading_laws.proofs.Parentheses.{Inside, InsideAt, ReadsHead, SameHead, headed_line}
 
@@ -300,5 +300,14 @@ for_of_inside {names} c a t e w f h p l z y k =
     over_parts c (codes "of") true t e (λ x. tree.for_of_statement a t e x) (λ u v x. tree.for_of_statement (nothing_of 1) u v x) grammar.Assignment p p1 p2 p3 p4 (layout (spell e (in_brackets levels.Comma)) p4) l
     (λ x b mark u v r j last before_else first next ts v2 q. grammar.a_for_of mark refl r j q) (λ u v j m. same_for_of names a t e u v w j m) g s o n i
 
+-- the whole, by whether it waits
+abbrev for_of_items : Bool → Tree → Tree → Tree → Items
+for_of_items is_await l e s =
+    indentation ⊕ (word (codes "for") ⊕ (items_if is_await (hard_space ⊕ word (codes "await")) ⊕ (soft_space
+    ⊕ (brackets Round (over_items (codes "of") (before_of is_await (looked_up_in l) (spell l (left_place (type_of l)))) (spell e (in_brackets levels.Comma))) ⊕ body_of s))))
+
+without_await : (a : Atoms) (l e s : Tree) → for_of_statement_is_await a ≡ false → for_of_items false l e s ≡ for_of_items (for_of_statement_is_await a) l e s
+without_await a l e s n = λ i. for_of_items (sym n i) l e s
+
 pub good_for_of : {names : Tables} (c : Allowed) (a : Atoms) (l e s : Tree) → for_of_statement_is_await a ≡ false → LeftOf names c l → Printed names c e → EmptyAlone names s → Stated names c s → Stated names c (tree.for_of_statement a l e s)
-good_for_of {names} c a l e s n g h m f = stated_among refl (headed_line c (codes "for") for_spelled (λ t. tree.for_of_statement a l e t) s (ends_open s) (over_items (codes "of") (left_items true l) (spell e (in_brackets levels.Comma))) (body_of s) (for_of_inside c a l e n g h) (good_body c s m f))
+good_for_of {names} c a l e s n g h m f = stated_among refl (subst (λ x. StatedAt names c (tree.for_of_statement a l e s) x) (without_await a l e s n) (headed_line c (codes "for") for_spelled (λ t. tree.for_of_statement a l e t) s (ends_open s) (over_items (codes "of") (left_items true l) (spell e (in_brackets levels.Comma))) (body_of s) (for_of_inside c a l e n g h) (good_body c s m f)))

@@ -10,16 +10,16 @@ use Rattle.jsgen_tree.specs.Nodes as tree
 use Rattle.jsgen_tree.specs.declared.collections.PropertyKind.{PropertyKind}
 use Rattle.jsgen_tree.specs.declared.collections.PropertyKind.TheVariants as property_kinds
 use Rattle.jsgen_tree.specs.declared.functions.FunctionKind.TheVariants as kinds
-use Rattle.jsgen_model.specs.Punctuator.{Round, Brace}
+use Rattle.jsgen_model.specs.Punctuator.{Round, Brace, star}
 use Rattle.jsgen_model.specs.Tokens.{Tokens, done, piece, group, ◌⧺◌, Word}
-use Rattle.jsgen_model.specs.Items.{Items, ◌⊕◌, word, soft_space}
+use Rattle.jsgen_model.specs.Items.{Items, nothing, ◌⊕◌, word, punctuator, soft_space}
 use Rattle.jsgen_model.specs.Layout.{Pen, layout}
 use Rattle.jsgen_model.specs.Grammar.{Allowed, ReadsKey, ReadsProperty, ReadsParameters, ReadsBody, with_in, in_function, method_of}
 use Rattle.jsgen_model.specs.Grammar as grammar
 use Rattle.jsgen_model.specs.Normal.{normal, nothing_of, property_values, is_written_as_method, is_computed, is_proto_shorthand}
 use Rattle.jsgen_model.specs.Renamed.{renamed}
 use Rattle.jsgen_place.specs.Place.{in_brackets}
-use Rattle.jsgen_model.specs.Spell.{spell, needs_brackets, key_items, accessor_word}
+use Rattle.jsgen_model.specs.Spell.{spell, needs_brackets, key_items, accessor_word, items_if, key_word}
 use Rattle.jsgen_token_laws.proofs.Characters.{letters_spelled}
 use Rattle.jsgen_token_laws.proofs.Last.{Last, Open, After, line_of, Begun, Knows}
 use Rattle.jsgen_token_laws.proofs.Writes.{Writes, wrote_both}
@@ -28,6 +28,7 @@ use Rattle.jsgen_reading_laws.proofs.Families.{IsSynchronous}
 use Rattle.jsgen_reading_laws.proofs.Unrenamed.{signed_as_it_was}
 use Rattle.jsgen_reading_laws.proofs.Lists.{Element}
 use Rattle.jsgen_reading_laws.proofs.Properties.{GoodKey, KeyOf, PropertyOf, property_spelled, read_computed}
+use Rattle.jsgen_reading_laws.proofs.Properties as properties
 use Rattle.jsgen_reading_laws.proofs.Functions.{GroupOf, BodyOf, GoodMethod, ReadsNone, ReadsOne, method_items, good_method_items, same_function}
 
 -- ---- what is spelled
@@ -192,9 +193,13 @@ setter {names} c a b x t u e m key h n f g p l z y k =
       same = same_method a property_kinds.Set brackets r.key (method_of one absent r.directives r.statements) (renamed names x) (renamed names (tree.function b absent t (given u))) e m (same_computed names computed x r.reads_key) r.same_key (same_value names b t u one absent r.directives r.statements h n alone r.same_body);
     }
 
+-- without a word of its function
+unworded : (a b : Atoms) (x t u : Tree) → IsSynchronous b → properties.method_items a x (tree.function b absent t (given u)) ≡ accessor_word (object_property_kind a) ⊕ ((nothing ⊕ nothing) ⊕ (key_at (object_property_computed a) x ⊕ method_items t u (in_brackets levels.Comma)))
+unworded a b x t u n = λ i. accessor_word (object_property_kind a) ⊕ ((items_if (n.0 i) (key_word (codes "async")) ⊕ items_if (n.1 i) (punctuator star)) ⊕ (key_at (object_property_computed a) x ⊕ method_items t u (in_brackets levels.Comma)))
+
 pub good_method : {names : Tables} (c : Allowed) (a b : Atoms) (x t u : Tree) → is_method (object_property_kind a) (object_property_method a) ≡ true → KeyOf names c (object_property_computed a) x → function_kind b ≡ kinds.Expression → IsSynchronous b → GroupsOf names (object_property_kind a) t → BodyOf names u → PropertyOf names c (tree.object_property a x (tree.function b absent t (given u)))
 good_method {names} c a b x t u m key h n f g p l z y k =
-    subst (λ i. Element names (ReadsProperty (with_in c)) p l (layout i p) (tree.object_property a x (tree.function b absent t (given u)))) (sym (property_spelled a x (tree.function b absent t (given u)) true m)) (by (object_property_kind a) refl f p l z y k)
+    subst (λ i. Element names (ReadsProperty (with_in c)) p l (layout i p) (tree.object_property a x (tree.function b absent t (given u)))) (sym (property_spelled a x (tree.function b absent t (given u)) true m ∙ unworded a b x t u n)) (by (object_property_kind a) refl f p l z y k)
   where
     by : (kind : PropertyKind) → object_property_kind a ≡ kind → GroupsOf names kind t → ElementOf names c (whole_items kind (object_property_computed a) x t u) (tree.object_property a x (tree.function b absent t (given u)))
     by property_kinds.Init e f = plain_method c a b x t u e m key h n f g

@@ -2,17 +2,21 @@
 use Rattle.std.specs.Option.{option_map_or}
 use Rattle.std.proofs.Common.{◌≡◌, ℕ, List, [], Bool, true, false, ◌&&◌, ◌||◌, cond, ◌∷◌, Option, Some, None, is_some, option_and_then, if◌then◌else◌, refl, sym, ap, subst, ◌∙◌}
 use Rattle.jsgen_syntax.specs.declared.operator.LogicalOperator.{LogicalOperator}
-use Rattle.jsgen_tree.specs.Atom.{no_value, declaration_kind, binary_operator, logical_operator, unary_operator, update_operator, assignment_operator, flag}
+use Rattle.jsgen_tree.specs.Atom.{text, no_value, declaration_kind, binary_operator, logical_operator, unary_operator, update_operator, assignment_operator, flag}
 use Rattle.jsgen_tree.specs.Tree.{Tree, node, Slots, no_slots, one, maybe, many, maybe_many, Maybe, absent, given, Trees, no_trees, more, hole, MaybeTrees, no_list, listed}
 use Rattle.jsgen_tree.specs.Places.{bare}
-use Rattle.jsgen_tree.specs.Values.{variable_declaration_kind, variable_declaration_declare, variable_declarator_definite, for_of_statement_is_await, static_member_expression_optional, computed_member_expression_optional, call_expression_optional, binary_expression_operator, logical_expression_operator, unary_expression_operator, update_expression_operator, update_expression_prefix, identifier_name_name, numeric_literal_kind, numeric_literal_negative, big_int_literal_value, object_property_kind, object_property_method, object_property_shorthand, object_property_computed, assignment_expression_operator, function_kind, function_is_async, function_generator, function_declare, formal_parameter_is_override, formal_parameter_readonly, formal_parameter_optional, arrow_function_expression_is_async, as_flag}
+use Rattle.jsgen_tree.specs.Values.{variable_declaration_kind, variable_declaration_declare, variable_declarator_definite, for_of_statement_is_await, static_member_expression_optional, computed_member_expression_optional, call_expression_optional, binary_expression_operator, logical_expression_operator, unary_expression_operator, update_expression_operator, update_expression_prefix, identifier_name_name, numeric_literal_kind, numeric_literal_negative, big_int_literal_value, object_property_kind, object_property_method, object_property_shorthand, object_property_computed, assignment_expression_operator, function_kind, function_is_async, function_generator, function_declare, formal_parameter_is_override, formal_parameter_readonly, formal_parameter_optional, arrow_function_expression_is_async, reg_exp_literal_pattern, reg_exp_literal_flags, method_definition_kind, method_definition_computed, method_definition_is_static, method_definition_is_override, method_definition_is_abstract, method_definition_optional, as_flag}
 use Rattle.jsgen_tree.specs.Inside.{ends_open, written_name_in, is_proto, is_method, after_minus, unless_minus, behind_minus, is_negative_number}
 use Rattle.jsgen_tree.specs.declared.collections.PropertyKind.{PropertyKind}
 use Rattle.jsgen_tree.specs.declared.collections.PropertyKind.TheVariants as property_kinds
 use Rattle.jsgen_tree.specs.Nodes as tree
 use Rattle.std.proofs.lemmas.Bool.{both_ways}
 use Rattle.std.proofs.lemmas.Option.{same_Some}
-use Rattle.jsgen_model.specs.Normal.{normal, normal_slots, normal_maybe, normal_trees, normal_maybe_trees, unbraced, nothing_of, by_text, number_text, minus_before, big_integer, is_computed, property_values, is_written_as_method, is_proto_shorthand, chain, same_operator, joined, links, parts_of, flattened, link_values, call_values, function_values, if_set}
+use Rattle.jsgen_model.specs.Normal.{normal, normal_slots, normal_maybe, normal_trees, normal_maybe_trees, unbraced, nothing_of, by_text, number_text, minus_before, big_integer, is_computed, property_values, is_written_as_method, is_proto_shorthand, chain, same_operator, joined, links, parts_of, flattened, link_values, call_values, function_values, if_set, method_values, as_method}
+use Rattle.jsgen_model.specs.Renamed.{written_out}
+use Rattle.jsgen_tree.specs.declared.classes.MethodDefinitionKind.{MethodDefinitionKind}
+use Rattle.jsgen_tree.specs.declared.classes.MethodDefinitionKind.TheVariants as method_kinds
+use Rattle.jsgen_reading_laws.proofs.Patterns.{pattern_again}
 use Rattle.jsgen_reading_laws.proofs.Joined.{joined_normal, joined_nothing, flattened_joined}
 
 -- ---- chains
@@ -146,11 +150,22 @@ flag_again : (b : Bool) → as_flag (if_set b) ≡ b
 flag_again true = refl
 flag_again false = refl
 
+-- a constructor is a method once and for all
+method_kind_again : (k : MethodDefinitionKind) → as_method (as_method k) ≡ as_method k
+method_kind_again method_kinds.Constructor = refl
+method_kind_again k = refl
+
+-- a property that is written out stays so
+written_out_again : (t : Tree) (m : Maybe) → normal t ≡ t → normal_maybe m ≡ m → normal (written_out (nothing_of 0) t t m) ≡ written_out (nothing_of 0) t t m
+written_out_again (tree.identifier_reference b) absent e f = ap (λ u. written_out (nothing_of 0) (tree.identifier_reference b) u absent) e
+written_out_again (tree.identifier_reference b) (given v) e f = λ i. written_out (nothing_of 0) (tree.identifier_reference b) (e i) (f i)
+written_out_again t m e f = λ i. written_out (nothing_of 0) (e i) (e i) (f i)
+
 -- ---- the whole
 
 mutual
   pub normal_again : (t : Tree) → normal (normal t) ≡ normal t
-  normal_again (tree.program a comments directives body) = let e = normal_trees_again directives in let f = normal_trees_again body in λ i. tree.program (nothing_of 4) no_trees (e i) (f i)
+  normal_again (tree.program a comments hashbang directives body) = let h = normal_maybe_again hashbang in let e = normal_trees_again directives in let f = normal_trees_again body in λ i. tree.program (nothing_of 4) no_trees (h i) (e i) (f i)
   normal_again (tree.comment a) = refl
   normal_again (tree.directive a) = refl
   normal_again (tree.expression_statement a expression) = ap (λ e. tree.expression_statement (nothing_of 0) e) (normal_again expression)
@@ -218,6 +233,16 @@ mutual
   normal_again (tree.function a id params body) = let s = flag_again (function_is_async a) in let u = flag_again (function_generator a) in let v = flag_again (function_declare a) in let e = normal_maybe_again id in let f = normal_again params in let g = normal_maybe_again body in λ i. tree.function (function_values (function_kind a) (if_set (s i)) (if_set (u i)) (if_set (v i))) (e i) (f i) (g i)
   normal_again (tree.function_body a directives statements) = let e = normal_trees_again directives in let f = normal_trees_again statements in λ i. tree.function_body (nothing_of 0) (e i) (f i)
   normal_again (tree.return_statement a argument) = ap (λ m. tree.return_statement (nothing_of 0) m) (normal_maybe_again argument)
+  normal_again (tree.reg_exp_literal a) = ap (λ w. tree.reg_exp_literal (bare (text w ∷ text (reg_exp_literal_flags a) ∷ []))) (pattern_again (reg_exp_literal_pattern a))
+  normal_again (tree.method_definition a key value) =
+      let k = method_kind_again (method_definition_kind a) in
+      let s = flag_again (method_definition_is_override a) in
+      let u = flag_again (method_definition_is_abstract a) in
+      let v = flag_again (method_definition_optional a) in
+      let e = normal_again key in
+      let f = normal_again value in
+      λ i. tree.method_definition (method_values (k i) (method_definition_computed a) (method_definition_is_static a) (if_set (s i)) (if_set (u i)) (if_set (v i))) (e i) (f i)
+  normal_again (tree.target_property_identifier a binding init) = written_out_again (normal binding) (normal_maybe init) (normal_again binding) (normal_maybe_again init)
   normal_again (node type a slots) = ap (λ s. node type (bare a.values) s) (normal_slots_again slots)
 
   flattened_again : (ts : Trees) → flattened (normal_trees (flattened (normal_trees ts))) ≡ flattened (normal_trees ts)

@@ -36,7 +36,7 @@ use Rattle.jsgen_model.specs.Normal.{normal, nothing_of, named, unnumbered, by_t
 use Rattle.jsgen_model.specs.Renamed.{renamed}
 use Rattle.jsgen_place.specs.declared.place.Place.{Place}
 use Rattle.jsgen_place.specs.Place.{in_brackets}
-use Rattle.jsgen_model.specs.Spell.{spell, key_text, needs_brackets, key_items, accessor_word, method_or_property, spell_method, signed, number_items, big_text, big_integer_items, before_value, items_unless, unless_said}
+use Rattle.jsgen_model.specs.Spell.{spell, key_text, needs_brackets, key_items, accessor_word, method_or_property, method_words, spell_method, signed, number_items, big_text, big_integer_items, before_value, items_unless, unless_said}
 use Rattle.jsgen_model.specs.Valid.{named_faults, shorthand_faults}
 use Rattle.jsgen_token_laws.proofs.Last.{Last, Open, After, line_of, Operand, Begun, begun_ready, Knows}
 use Rattle.jsgen_token_laws.proofs.Writes.{Writes, wrote_both}
@@ -269,7 +269,7 @@ before_laid {names} p shorthand (Some w) value key t = by (is_proto w) value
 
 -- a method and an accessor are spelled by the word, the key and the function, other properties by the key and the value
 abbrev pub method_items : Atoms → Tree → Tree → Items
-method_items a x v = accessor_word (object_property_kind a) ⊕ (key_items (needs_brackets (object_property_computed a) x) x (spell x (in_brackets levels.Comma)) ⊕ spell_method v (in_brackets levels.Comma))
+method_items a x v = accessor_word (object_property_kind a) ⊕ (method_words v ⊕ (key_items (needs_brackets (object_property_computed a) x) x (spell x (in_brackets levels.Comma)) ⊕ spell_method v (in_brackets levels.Comma)))
 
 abbrev before_items : Atoms → Tree → Tree → Items
 before_items a x v = before_value (object_property_shorthand a) (written_name_in x) (looked_up_in (without_parentheses v)) (key_items (needs_brackets (object_property_computed a) x) x (spell x (in_brackets levels.Comma)))

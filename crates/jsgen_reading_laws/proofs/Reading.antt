@@ -8,7 +8,7 @@ use Rattle.jsgen_syntax.specs.declared.buffer.IndentChar.TheVariants as indents
 use Rattle.jsgen_tree.specs.declared.types.NodeType.TheVariants as types
 use Rattle.jsgen_tree.specs.Options.{Options}
 use Rattle.jsgen_tree.specs.Job.{Tables, JobData}
-use Rattle.jsgen_tree.specs.Tree.{Tree, no_trees, type_of}
+use Rattle.jsgen_tree.specs.Tree.{Tree, absent, no_trees, type_of}
 use Rattle.jsgen_tree.specs.Nodes as tree
 use Rattle.jsgen_model.specs.Tokens.{◌⧺◌}
 use Rattle.jsgen_model.specs.Items.{◌⊕◌, due_semicolon}
@@ -50,13 +50,13 @@ read_as options tables t (family.a_program {a} {comments} {directives} {body} v 
       tokens = b.tokens ⧺ d.tokens;
       are_tokens = all_tokens p (layout due_semicolon q) d.last (b.tokens ⧺ d.tokens) refl (wrote_both b.writes d.writes);
       plain = all_plain (b.tokens ⧺ d.tokens);
-      reading = tree.program (nothing_of 4) no_trees b.reading.0 b.reading.1;
+      reading = tree.program (nothing_of 4) no_trees absent b.reading.0 b.reading.1;
       reads = grammar.a_module (b.reads.read false (b.tokens ⧺ d.tokens) (d.ends b.tokens));
-      same = λ i. tree.program (nothing_of 4) no_trees (b.same.0 i) (b.same.1 i);
+      same = λ i. tree.program (nothing_of 4) no_trees absent (b.same.0 i) (b.same.1 i);
     }
 
 pub printed_is_read : (job : JobData) → type_of job.program ≡ types.Program → IsValid job → IsPlain job.program → IsQuiet job → IsReadAs (printed job) job
-printed_is_read job s v p q = read_as job.options job.tables job.program (program_valid (surroundings_of job) refl job.program p (ap is_program s) v)
+printed_is_read job s v p q = read_as job.options job.tables job.program (program_valid 0 (surroundings_of job) refl job.program p (ap is_program s) v)
 
 -- the bytes spell the characters that they were made of
 on_bytes : (text : List ℕ) (job : JobData) → IsReadAs text job → IsReadAs (chars (encode_utf8_all text)) job

@@ -1,36 +1,53 @@
 -- What stays as it is where names are printed by tables; and without tables all does.
 use Rattle.std.specs.Option.{option_map_or}
-use Rattle.std.proofs.Common.{◌≡◌, false, not, ◌&&◌, ◌||◌, [], ◌∷◌, refl, ap}
+use Rattle.std.proofs.Common.{◌≡◌, None, false, not, ◌&&◌, ◌||◌, [], ◌∷◌, refl, ap}
 use Rattle.jsgen_tree.specs.Atom.{no_value, declaration_kind, binary_operator, logical_operator, unary_operator, update_operator, assignment_operator, flag}
-use Rattle.jsgen_tree.specs.Tree.{Tree, node, Slots, no_slots, one, maybe, many, maybe_many, Maybe, absent, given, Trees, no_trees, more, hole, MaybeTrees, no_list, listed}
+use Rattle.jsgen_tree.specs.Tree.{Tree, node, Slots, no_slots, one, maybe, many, maybe_many, Maybe, absent, given, Trees, no_trees, more, hole, MaybeTrees, no_list, listed, Atoms}
 use Rattle.jsgen_tree.specs.Places.{bare}
-use Rattle.jsgen_tree.specs.Values.{variable_declaration_kind, variable_declaration_declare, variable_declarator_definite, for_of_statement_is_await, static_member_expression_optional, computed_member_expression_optional, call_expression_optional, binary_expression_operator, logical_expression_operator, unary_expression_operator, update_expression_operator, update_expression_prefix, object_property_kind, object_property_method, object_property_shorthand, object_property_computed, assignment_expression_operator, function_kind, function_is_async, function_generator, function_declare, formal_parameter_is_override, formal_parameter_readonly, formal_parameter_optional, arrow_function_expression_is_async}
+use Rattle.jsgen_tree.specs.Values.{variable_declaration_kind, variable_declaration_declare, variable_declarator_definite, for_of_statement_is_await, static_member_expression_optional, computed_member_expression_optional, call_expression_optional, binary_expression_operator, logical_expression_operator, unary_expression_operator, update_expression_operator, update_expression_prefix, object_property_kind, object_property_method, object_property_shorthand, object_property_computed, assignment_expression_operator, function_kind, function_is_async, function_generator, function_declare, formal_parameter_is_override, formal_parameter_readonly, formal_parameter_optional, arrow_function_expression_is_async, method_definition_kind, method_definition_computed, method_definition_is_static, method_definition_is_override, method_definition_is_abstract, method_definition_optional}
 use Rattle.jsgen_tree.specs.Inside.{written_name_in, is_proto, is_method, is_negative_number}
 use Rattle.jsgen_tree.specs.Job.{Tables, no_tables}
 use Rattle.jsgen_tree.specs.Nodes as tree
-use Rattle.jsgen_model.specs.Normal.{normal, normal_slots, normal_maybe, normal_trees, normal_maybe_trees, unbraced, nothing_of, chain, joined, links, flattened, link_values, call_values, property_values, is_written_as_method, function_values, if_set}
-use Rattle.jsgen_model.specs.Renamed.{renamed, renamed_slots, renamed_maybe, renamed_trees, renamed_maybe_trees}
+use Rattle.jsgen_model.specs.Normal.{normal, normal_slots, normal_maybe, normal_trees, normal_maybe_trees, unbraced, nothing_of, chain, joined, links, flattened, link_values, call_values, property_values, is_written_as_method, function_values, if_set, method_values, as_method}
+use Rattle.jsgen_model.specs.Renamed.{written_out, renamed, renamed_slots, renamed_maybe, renamed_trees, renamed_maybe_trees}
 
 -- ---- by any tables
+
+-- a property that is written out is no name, and no number
+written_out_unwritten : (a : Atoms) (binding t : Tree) (init : Maybe) → written_name_in (written_out a binding t init) ≡ None
+written_out_unwritten a (tree.identifier_reference b) t init = refl
+written_out_unwritten a binding t init = refl
+
+written_out_unsigned : (a : Atoms) (binding t : Tree) (init : Maybe) → is_negative_number (written_out a binding t init) ≡ false
+written_out_unsigned a (tree.identifier_reference b) t init = refl
+written_out_unsigned a binding t init = refl
 
 -- no key gets another name, or another sign
 pub written_as_it_was : (names : Tables) (t : Tree) → written_name_in (renamed names t) ≡ written_name_in t
 written_as_it_was names (tree.identifier_reference a) = refl
 written_as_it_was names (tree.binding_identifier a) = refl
 written_as_it_was names (tree.identifier_name a) = refl
+written_as_it_was names (tree.target_property_identifier a binding init) = written_out_unwritten a binding (renamed names binding) (renamed_maybe names init)
 written_as_it_was names t = refl
 
 pub signed_as_it_was : (names : Tables) (t : Tree) → is_negative_number (renamed names t) ≡ is_negative_number t
 signed_as_it_was names (tree.identifier_reference a) = refl
 signed_as_it_was names (tree.binding_identifier a) = refl
 signed_as_it_was names (tree.numeric_literal a) = refl
+signed_as_it_was names (tree.target_property_identifier a binding init) = written_out_unsigned a binding (renamed names binding) (renamed_maybe names init)
 signed_as_it_was names t = refl
 
 -- ---- without tables
 
+-- a property that a reference alone says is written out by the printed name or by its own, which are one
+written_out_again : (a : Atoms) (t : Tree) (init : Maybe) → normal (renamed no_tables t) ≡ normal t → normal_maybe (renamed_maybe no_tables init) ≡ normal_maybe init → normal (written_out a t (renamed no_tables t) (renamed_maybe no_tables init)) ≡ written_out (nothing_of 0) (normal t) (normal t) (normal_maybe init)
+written_out_again a (tree.identifier_reference b) absent e f = refl
+written_out_again a (tree.identifier_reference b) (given v) e f = ap (λ m. written_out (nothing_of 0) (normal (tree.identifier_reference b)) (normal (tree.identifier_reference b)) m) f
+written_out_again a t init e f = λ i. written_out (nothing_of 0) (e i) (e i) (f i)
+
 mutual
   pub unrenamed : (t : Tree) → normal (renamed no_tables t) ≡ normal t
-  unrenamed (tree.program a comments directives body) = let e = unrenamed_trees directives in let f = unrenamed_trees body in λ i. tree.program (nothing_of 4) no_trees (e i) (f i)
+  unrenamed (tree.program a comments hashbang directives body) = let h = unrenamed_maybe hashbang in let e = unrenamed_trees directives in let f = unrenamed_trees body in λ i. tree.program (nothing_of 4) no_trees (h i) (e i) (f i)
   unrenamed (tree.comment a) = refl
   unrenamed (tree.directive a) = refl
   unrenamed (tree.expression_statement a expression) = ap (λ e. tree.expression_statement (nothing_of 0) e) (unrenamed expression)
@@ -94,6 +111,9 @@ mutual
   unrenamed (tree.function a id params body) = let e = unrenamed_maybe id in let f = unrenamed params in let g = unrenamed_maybe body in λ i. tree.function (function_values (function_kind a) (if_set (function_is_async a)) (if_set (function_generator a)) (if_set (function_declare a))) (e i) (f i) (g i)
   unrenamed (tree.function_body a directives statements) = let e = unrenamed_trees directives in let f = unrenamed_trees statements in λ i. tree.function_body (nothing_of 0) (e i) (f i)
   unrenamed (tree.return_statement a argument) = ap (λ m. tree.return_statement (nothing_of 0) m) (unrenamed_maybe argument)
+  unrenamed (tree.reg_exp_literal a) = refl
+  unrenamed (tree.method_definition a key value) = let e = unrenamed key in let f = unrenamed value in λ i. tree.method_definition (method_values (as_method (method_definition_kind a)) (method_definition_computed a) (method_definition_is_static a) (if_set (method_definition_is_override a)) (if_set (method_definition_is_abstract a)) (if_set (method_definition_optional a))) (e i) (f i)
+  unrenamed (tree.target_property_identifier a binding init) = written_out_again a binding init (unrenamed binding) (unrenamed_maybe init)
   unrenamed (node type a slots) = ap (λ s. node type (bare a.values) s) (unrenamed_slots slots)
 
   unrenamed_slots : (s : Slots) → normal_slots (renamed_slots no_tables s) ≡ normal_slots s

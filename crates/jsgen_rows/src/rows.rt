@@ -4,7 +4,7 @@ ghost use Rattle.std.specs.Prelude.{◌≡◌};
 ghost use Rattle.serde_json.specs.View.{view};
 ghost use Rattle.jsgen_fields.specs.Reads.{Gives, read_typed};
 ghost use Rattle.jsgen_pool.specs.Pool.{entries};
-ghost use Rattle.jsgen_fields.specs.Parts.{is_in_statements, is_in_expressions, is_in_collections, is_in_operations, is_in_assignments, is_in_functions, is_in_loops, is_in_choices, is_in_patterns, is_in_targets};
+ghost use Rattle.jsgen_fields.specs.Parts.{is_in_statements, is_in_expressions, is_in_collections, is_in_operations, is_in_assignments, is_in_functions, is_in_templates, is_in_loops, is_in_choices, is_in_patterns, is_in_targets, is_in_classes};
 
 use jsgen_class_rows::classes::read_in_classes;
 use jsgen_expression_rows::assignments::read_in_assignments;
@@ -12,8 +12,10 @@ use jsgen_expression_rows::collections::read_in_collections;
 use jsgen_expression_rows::expressions::read_in_expressions;
 use jsgen_expression_rows::functions::read_in_functions;
 use jsgen_expression_rows::operations::read_in_operations;
+use jsgen_expression_rows::templates::read_in_templates;
 use jsgen_fields::InputFault;
 use jsgen_fields::asked::{ReadNode, RowOf};
+use jsgen_module_rows::modules::read_in_modules;
 use jsgen_pattern_rows::patterns::read_in_patterns;
 use jsgen_pattern_rows::targets::read_in_targets;
 use jsgen_pool::Kept;
@@ -115,6 +117,20 @@ fn is_in_functions(node_type: NodeType) -> bool
             | NodeType::Function
             | NodeType::FunctionBody
             | NodeType::ArrowFunctionExpression
+            | NodeType::AwaitExpression
+            | NodeType::YieldExpression
+    )
+}
+
+fn is_in_templates(node_type: NodeType) -> bool
+    ensures { result ≡ is_in_templates node_type }
+{
+    matches!(
+        &node_type,
+        NodeType::TemplateElement
+            | NodeType::TemplateLiteral
+            | NodeType::TaggedTemplateExpression
+            | NodeType::ImportExpression
     )
 }
 
@@ -177,6 +193,22 @@ fn is_in_targets(node_type: NodeType) -> bool
     )
 }
 
+fn is_in_classes(node_type: NodeType) -> bool
+    ensures { result ≡ is_in_classes node_type }
+{
+    matches!(
+        &node_type,
+        NodeType::PrivateIdentifier
+            | NodeType::PrivateFieldExpression
+            | NodeType::PrivateInExpression
+            | NodeType::Class
+            | NodeType::ClassBody
+            | NodeType::StaticBlock
+            | NodeType::MethodDefinition
+            | NodeType::PropertyDefinition
+    )
+}
+
 /// The row of a type.
 pub fn read_typed<N: ReadNode + Drop, R: RowOf<N> + Drop>(
     alloc: Global,
@@ -207,6 +239,9 @@ pub fn read_typed<N: ReadNode + Drop, R: RowOf<N> + Drop>(
     if is_in_functions(node_type) {
         return read_in_functions::<N, R>(alloc, kept, node_type, number, span, row);
     }
+    if is_in_templates(node_type) {
+        return read_in_templates::<N, R>(alloc, kept, node_type, number, span, row);
+    }
     if is_in_loops(node_type) {
         return read_in_loops::<N, R>(alloc, kept, node_type, number, span, row);
     }
@@ -219,5 +254,8 @@ pub fn read_typed<N: ReadNode + Drop, R: RowOf<N> + Drop>(
     if is_in_targets(node_type) {
         return read_in_targets::<N, R>(alloc, kept, node_type, number, span, row);
     }
-    read_in_classes::<N, R>(alloc, kept, node_type, number, span, row)
+    if is_in_classes(node_type) {
+        return read_in_classes::<N, R>(alloc, kept, node_type, number, span, row);
+    }
+    read_in_modules::<N, R>(alloc, kept, node_type, number, span, row)
 }

@@ -1,13 +1,8 @@
 // What classes and their members keep (ECMA-262, 15.7).
-ghost use Rattle.std.specs.Prelude.{◌≡◌, not, ◌||◌};
-ghost use Rattle.jsgen_tree.specs.declared.functions.FunctionKind.TheVariants as kinds;
-ghost use Rattle.jsgen_model.specs.Valid.{fault_if, stands_among, same_kind, as_function_kind, as_property, is_private};
-ghost use Rattle.jsgen_model.specs.declared.fault.TreeFault.TheVariants as faults;
-ghost use Rattle.jsgen_rules.specs.Verdict.{verdict};
+ghost use Rattle.std.specs.Prelude.{◌≡◌};
+ghost use Rattle.jsgen_model.specs.Valid.{fits_place, as_function_kind, as_property, is_private};
 
 use crate::functions::function_fits;
-use jsgen_model::TreeFault;
-use jsgen_syntax::Span;
 use jsgen_tree::{ClassKind, FunctionKind, MethodDefinitionKind, NodeSet, NodeType, PropertyKind};
 
 fn as_function_kind(kind: ClassKind) -> FunctionKind
@@ -19,22 +14,12 @@ fn as_function_kind(kind: ClassKind) -> FunctionKind
     }
 }
 
-/// Whether a class of this kind stands at a place that asks for this set, where a function of its kind would.
-pub fn class_fits(kind: ClassKind, set: NodeSet) -> bool
-    ensures { result ≡ same_kind (as_function_kind kind) (stands_among set) }
+/// Whether a class of this kind, with a name or without one, stands at a place that asks for this set, where a function of its kind
+/// would.
+pub fn class_fits(kind: ClassKind, has_name: bool, set: NodeSet) -> bool
+    ensures { result ≡ fits_place set (as_function_kind kind) has_name }
 {
-    function_fits(as_function_kind(kind), set)
-}
-
-/// A class that is declared has a name.
-pub fn check_class(kind: ClassKind, has_name: bool, span: Span) -> Result<(), TreeFault>
-    ensures { result ≡ verdict (fault_if (not (has_name || same_kind (as_function_kind kind) kinds.Expression)) (faults.Place span.start)) }
-{
-    let needs_name = matches!(kind, ClassKind::Declaration);
-    if needs_name && !has_name {
-        return Err(TreeFault::Place { start: span.start });
-    }
-    Ok(())
+    function_fits(as_function_kind(kind), has_name, set)
 }
 
 /// The kind of property whose parameters a method of this kind has.

@@ -54,7 +54,8 @@ fn ends_at_close(text: &str) -> bool
     state.is_closed()
 }
 
-fn has_line_end(text: &str) -> bool
+/// Whether a line ends in the text.
+pub fn has_line_end(text: &str) -> bool
     ensures { result ≡ has_line_end (chars text.now) }
 {
     text.chars().any(|c| is_line_terminator(c))

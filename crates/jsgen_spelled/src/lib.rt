@@ -17,7 +17,10 @@ pub use expressions::{
     print_identifier_name, print_null_literal, print_parenthesized_expression,
     print_reg_exp_literal, print_this_expression,
 };
-pub use functions::{print_formal_parameter, print_formal_parameter_rest};
+pub use functions::{
+    print_await_expression, print_formal_parameter, print_formal_parameter_rest,
+    print_yield_expression,
+};
 pub use loops::{
     print_break_statement, print_continue_statement, print_debugger_statement,
     print_label_identifier, print_labeled_statement, print_return_statement, print_throw_statement,

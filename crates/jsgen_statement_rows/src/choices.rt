@@ -15,10 +15,11 @@ use jsgen_fields::asked::{
 };
 use jsgen_fields::fields::boxed;
 use jsgen_fields::kept::{row_of_catch_clause, row_of_statement, row_of_switch_case};
+use jsgen_fields::list_fields::{statement_list, switch_case_list};
 use jsgen_fields::others::OtherStatement;
 use jsgen_fields::set_fields::{
     needed_block_statement, needed_expression, optional_binding_pattern, optional_block_statement,
-    optional_catch_clause, optional_expression, statement_list, switch_case_list,
+    optional_catch_clause, optional_expression,
 };
 use jsgen_fields::values::field_not_given;
 use jsgen_pool::Kept;

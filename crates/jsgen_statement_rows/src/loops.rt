@@ -20,7 +20,7 @@ use jsgen_fields::set_fields::{
     needed_expression, needed_for_statement_left, needed_label_identifier, needed_statement,
     optional_expression, optional_for_statement_init, optional_label_identifier,
 };
-use jsgen_fields::values::{field_not_given, needed_text};
+use jsgen_fields::values::{needed_text, optional_flag};
 use jsgen_pool::Kept;
 use jsgen_syntax::Span;
 use jsgen_tree::{
@@ -136,10 +136,10 @@ fn read_for_of_statement<
     ensures { Gives R.plain result (entries R.plain kept.new.items)
         (read_node number types.ForOfStatement for_of_statement_fields span (view row.now) (entries R.plain kept.old.items)) }
 {
-    match field_not_given(number, 2, row, "is_await") {
-        Ok(()) => {}
+    let is_await = match optional_flag(number, 2, row, "is_await") {
+        Ok(is_await) => is_await,
         Err(fault) => return Err(fault),
-    }
+    };
     let left = match needed_for_statement_left::<N, R>(alloc, kept, number, 3, row, "left") {
         Ok(left) => left,
         Err(fault) => return Err(fault),
@@ -154,6 +154,7 @@ fn read_for_of_statement<
     };
     let node = ForOfStatement {
         span,
+        is_await,
         left,
         right,
         body,

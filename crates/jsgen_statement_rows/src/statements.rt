@@ -18,10 +18,13 @@ use jsgen_fields::kept::{
     row_of_binding_pattern, row_of_comment, row_of_declaration, row_of_directive, row_of_program,
     row_of_statement, row_of_variable_declarator,
 };
+use jsgen_fields::list_fields::{
+    comment_list, directive_list, statement_list, variable_declarator_list,
+};
 use jsgen_fields::others::{OtherDeclaration, OtherStatement};
 use jsgen_fields::set_fields::{
-    comment_list, directive_list, needed_binding_pattern, needed_expression, needed_statement,
-    optional_expression, optional_statement, statement_list, variable_declarator_list,
+    needed_binding_pattern, needed_expression, needed_statement, optional_expression,
+    optional_hashbang, optional_statement,
 };
 use jsgen_fields::values::{
     field_not_given, needed_number, needed_text, neither_given, optional_flag, optional_number,
@@ -67,10 +70,10 @@ fn read_program<N: HoldsDeclaration + HoldsStatement + Drop, R: RowOf<N> + Drop>
         Ok(comments) => comments,
         Err(fault) => return Err(fault),
     };
-    match field_not_given(number, 7, row, "hashbang") {
-        Ok(()) => {}
+    let hashbang = match optional_hashbang::<N, R>(alloc, kept, number, 7, row, "hashbang") {
+        Ok(hashbang) => hashbang,
         Err(fault) => return Err(fault),
-    }
+    };
     let directives = match directive_list::<N, R>(alloc, kept, number, 8, row, "directives") {
         Ok(directives) => directives,
         Err(fault) => return Err(fault),
@@ -84,6 +87,7 @@ fn read_program<N: HoldsDeclaration + HoldsStatement + Drop, R: RowOf<N> + Drop>
         source,
         kind,
         comments,
+        hashbang,
         directives,
         body,
     };

@@ -14,6 +14,7 @@ use Rattle.jsgen_tree.specs.declared.sets.ForStatementInit.{ForStatementInit}
 use Rattle.jsgen_tree.specs.declared.sets.ForStatementLeft.{ForStatementLeft}
 use Rattle.jsgen_tree.specs.declared.sets.ObjectPropertyKind.{ObjectPropertyKind}
 use Rattle.jsgen_tree.specs.declared.sets.PropertyKey.{PropertyKey}
+use Rattle.jsgen_tree.specs.declared.sets.ExportDefaultDeclarationKind.{ExportDefaultDeclarationKind}
 use Rattle.jsgen_tree.specs.declared.nodes.ExpressionNode.{ExpressionNode}
 use Rattle.jsgen_tree.specs.declared.nodes.AssignmentTargetNode.{AssignmentTargetNode}
 use Rattle.jsgen_tree.specs.declared.nodes.StatementNode.{StatementNode}
@@ -37,6 +38,8 @@ use Rattle.jsgen_tree.specs.declared.functions.FormalParameters.{FormalParameter
 use Rattle.jsgen_tree.specs.declared.functions.Function.{Function}
 use Rattle.jsgen_tree.specs.declared.functions.FunctionBody.{FunctionBody}
 use Rattle.jsgen_tree.specs.declared.functions.ArrowFunctionExpression.{ArrowFunctionExpression}
+use Rattle.jsgen_tree.specs.declared.functions.YieldExpression.{YieldExpression}
+use Rattle.jsgen_tree.specs.declared.templates.ImportExpression.{ImportExpression}
 use Rattle.jsgen_tree.specs.declared.loops.ForStatement.{ForStatement}
 use Rattle.jsgen_tree.specs.declared.loops.ForInStatement.{ForInStatement}
 use Rattle.jsgen_tree.specs.declared.loops.ForOfStatement.{ForOfStatement}
@@ -59,6 +62,7 @@ use Rattle.jsgen_tree.specs.declared.classes.PrivateFieldExpression.{PrivateFiel
 use Rattle.jsgen_tree.specs.declared.classes.Class.{Class}
 use Rattle.jsgen_tree.specs.declared.classes.MethodDefinition.{MethodDefinition}
 use Rattle.jsgen_tree.specs.declared.classes.PropertyDefinition.{PropertyDefinition}
+use Rattle.jsgen_tree.specs.declared.modules.ExportDefaultDeclaration.{ExportDefaultDeclaration}
 use Rattle.jsgen_tree.specs.declared.sets.Argument.TheVariants as arguments
 use Rattle.jsgen_tree.specs.declared.sets.ArrayExpressionElement.TheVariants as array_expression_elements
 use Rattle.jsgen_tree.specs.declared.sets.ChainElement.TheVariants as chain_elements
@@ -71,6 +75,7 @@ use Rattle.jsgen_tree.specs.declared.sets.ForStatementInit.TheVariants as for_st
 use Rattle.jsgen_tree.specs.declared.sets.ForStatementLeft.TheVariants as for_statement_lefts
 use Rattle.jsgen_tree.specs.declared.sets.ObjectPropertyKind.TheVariants as object_property_kinds
 use Rattle.jsgen_tree.specs.declared.sets.PropertyKey.TheVariants as property_keys
+use Rattle.jsgen_tree.specs.declared.sets.ExportDefaultDeclarationKind.TheVariants as export_default_declaration_kinds
 
 -- ---- a member of a set that doesn't nest, by its type
 
@@ -127,6 +132,11 @@ with_property_key P of_identifier_name of_private_identifier of_expression (prop
 with_property_key P of_identifier_name of_private_identifier of_expression (property_keys.PrivateIdentifier b) = of_private_identifier b
 with_property_key P of_identifier_name of_private_identifier of_expression (property_keys.Expression b) = of_expression b
 
+pub with_export_default_declaration_kind : {N : Type 0} (P : ExportDefaultDeclarationKind N → Type 0) → ((b : Box (Function N) Global) → P (export_default_declaration_kinds.Function b)) → ((b : Box (Class N) Global) → P (export_default_declaration_kinds.Class b)) → ((b : Box (ExpressionNode N) Global) → P (export_default_declaration_kinds.Expression b)) → (n : ExportDefaultDeclarationKind N) → P n
+with_export_default_declaration_kind P of_function of_class of_expression (export_default_declaration_kinds.Function b) = of_function b
+with_export_default_declaration_kind P of_function of_class of_expression (export_default_declaration_kinds.Class b) = of_class b
+with_export_default_declaration_kind P of_function of_class of_expression (export_default_declaration_kinds.Expression b) = of_expression b
+
 -- ---- a struct with an optional child, and without it
 
 pub variable_declarator_by_init : {N : Type 0} (P : VariableDeclarator N → Type 0) → ((n : VariableDeclarator N) → P (record n { init = None })) → ((c : ExpressionNode N) (n : VariableDeclarator N) → P (record n { init = Some c })) → (n : VariableDeclarator N) → P n
@@ -173,6 +183,12 @@ arrow_function_expression_by_params P all n = all n.params n
 
 pub arrow_function_expression_by_body : {N : Type 0} (P : ArrowFunctionExpression N → Type 0) → ((b : Box (FunctionBody N) Global) (n : ArrowFunctionExpression N) → P (record n { body = (arrow_function_bodys.FunctionBody b) })) → ((b : Box (ExpressionNode N) Global) (n : ArrowFunctionExpression N) → P (record n { body = (arrow_function_bodys.Expression b) })) → (n : ArrowFunctionExpression N) → P n
 arrow_function_expression_by_body P of_function_body of_expression n = elim n.body as (λ o. P (record n { body = o })) [ arrow_function_bodys.FunctionBody b ↦ of_function_body b n | arrow_function_bodys.Expression b ↦ of_expression b n ]
+
+pub yield_expression_by_argument : {N : Type 0} (P : YieldExpression N → Type 0) → ((n : YieldExpression N) → P (record n { argument = None })) → ((c : ExpressionNode N) (n : YieldExpression N) → P (record n { argument = Some c })) → (n : YieldExpression N) → P n
+yield_expression_by_argument P none some n = elim n.argument as (λ o. P (record n { argument = o })) [ None ↦ none n | Some c ↦ some c n ]
+
+pub import_expression_by_options : {N : Type 0} (P : ImportExpression N → Type 0) → ((n : ImportExpression N) → P (record n { options = None })) → ((c : ExpressionNode N) (n : ImportExpression N) → P (record n { options = Some c })) → (n : ImportExpression N) → P n
+import_expression_by_options P none some n = elim n.options as (λ o. P (record n { options = o })) [ None ↦ none n | Some c ↦ some c n ]
 
 pub for_statement_by_init : {N : Type 0} (P : ForStatement N → Type 0) → ((n : ForStatement N) → P (record n { init = None })) → ((b : Box (VariableDeclaration N) Global) (n : ForStatement N) → P (record n { init = (Some (for_statement_inits.VariableDeclaration b)) })) → ((b : Box (ExpressionNode N) Global) (n : ForStatement N) → P (record n { init = (Some (for_statement_inits.Expression b)) })) → (n : ForStatement N) → P n
 for_statement_by_init P none of_variable_declaration of_expression n = elim n.init as (λ o. P (record n { init = o })) [ None ↦ none n | Some c ↦ elim c as (λ o. P (record n { init = (Some o) })) [ for_statement_inits.VariableDeclaration b ↦ of_variable_declaration b n | for_statement_inits.Expression b ↦ of_expression b n ] ]
@@ -249,6 +265,9 @@ boxed_assignment_target_property_property_by_binding P of_assignment_target of_a
 pub class_by_heritage : {N : Type 0} (P : Class N → Type 0) → ((n : Class N) → P (record n { heritage = None })) → ((c : ExpressionNode N) (n : Class N) → P (record n { heritage = Some c })) → (n : Class N) → P n
 class_by_heritage P none some n = elim n.heritage as (λ o. P (record n { heritage = o })) [ None ↦ none n | Some c ↦ some c n ]
 
+pub boxed_class_by_heritage : {N : Type 0} (P : Box (Class N) Global → Type 0) → ((n : Box (Class N) Global) → P (record n { value = record n.value { heritage = None } })) → ((c : ExpressionNode N) (n : Box (Class N) Global) → P (record n { value = record n.value { heritage = Some c } })) → (n : Box (Class N) Global) → P n
+boxed_class_by_heritage P none some n = elim n.value.heritage as (λ o. P (record n { value = record n.value { heritage = o } })) [ None ↦ none n | Some c ↦ some c n ]
+
 pub method_definition_by_key : {N : Type 0} (P : MethodDefinition N → Type 0) → ((b : Box IdentifierName Global) (n : MethodDefinition N) → P (record n { key = (property_keys.IdentifierName b) })) → ((b : Box PrivateIdentifier Global) (n : MethodDefinition N) → P (record n { key = (property_keys.PrivateIdentifier b) })) → ((b : Box (ExpressionNode N) Global) (n : MethodDefinition N) → P (record n { key = (property_keys.Expression b) })) → (n : MethodDefinition N) → P n
 method_definition_by_key P of_identifier_name of_private_identifier of_expression n = elim n.key as (λ o. P (record n { key = o })) [ property_keys.IdentifierName b ↦ of_identifier_name b n | property_keys.PrivateIdentifier b ↦ of_private_identifier b n | property_keys.Expression b ↦ of_expression b n ]
 
@@ -260,3 +279,6 @@ property_definition_by_key P of_identifier_name of_private_identifier of_express
 
 pub property_definition_by_value : {N : Type 0} (P : PropertyDefinition N → Type 0) → ((n : PropertyDefinition N) → P (record n { value = None })) → ((c : ExpressionNode N) (n : PropertyDefinition N) → P (record n { value = Some c })) → (n : PropertyDefinition N) → P n
 property_definition_by_value P none some n = elim n.value as (λ o. P (record n { value = o })) [ None ↦ none n | Some c ↦ some c n ]
+
+pub export_default_declaration_by_declaration : {N : Type 0} (P : ExportDefaultDeclaration N → Type 0) → ((b : Box (Function N) Global) (n : ExportDefaultDeclaration N) → P (record n { declaration = (export_default_declaration_kinds.Function b) })) → ((b : Box (Class N) Global) (n : ExportDefaultDeclaration N) → P (record n { declaration = (export_default_declaration_kinds.Class b) })) → ((b : Box (ExpressionNode N) Global) (n : ExportDefaultDeclaration N) → P (record n { declaration = (export_default_declaration_kinds.Expression b) })) → (n : ExportDefaultDeclaration N) → P n
+export_default_declaration_by_declaration P of_function of_class of_expression n = elim n.declaration as (λ o. P (record n { declaration = o })) [ export_default_declaration_kinds.Function b ↦ of_function b n | export_default_declaration_kinds.Class b ↦ of_class b n | export_default_declaration_kinds.Expression b ↦ of_expression b n ]

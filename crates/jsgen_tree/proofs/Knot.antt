@@ -1,7 +1,7 @@
 -- Generated from tools/nodes/table.txt; edit that and run tools/nodes/generate.
 -- The plain data of the recursive type is, set by set, that of what it holds.
 use Rattle.std.proofs.Common.{◌≡◌, refl, sym, ap, ◌∙◌}
-use Rattle.jsgen_tree.proofs.Cases.{with_argument, with_array_expression_element, with_assignment_target_maybe_default, with_assignment_target_property, with_object_property_kind, variable_declarator_by_init, if_statement_by_alternate, chain_expression_by_expression, boxed_object_property_by_key, update_expression_by_argument, formal_parameter_by_initializer, boxed_formal_parameters_by_rest, function_by_params, boxed_function_by_params, function_by_body, boxed_function_by_body, arrow_function_expression_by_params, arrow_function_expression_by_body, for_statement_by_init, for_statement_by_test, for_statement_by_update, for_in_statement_by_left, for_of_statement_by_left, return_statement_by_argument, switch_case_by_test, try_statement_by_handler, try_statement_by_finalizer, boxed_catch_clause_by_param, object_pattern_by_rest, binding_property_by_key, array_pattern_by_rest, array_assignment_target_by_rest, object_assignment_target_by_rest, boxed_assignment_target_property_identifier_by_init, boxed_assignment_target_property_property_by_name, boxed_assignment_target_property_property_by_binding, class_by_heritage, method_definition_by_key, method_definition_by_value, property_definition_by_key, property_definition_by_value}
+use Rattle.jsgen_tree.proofs.Cases.{with_argument, with_array_expression_element, with_assignment_target_maybe_default, with_assignment_target_property, with_object_property_kind, variable_declarator_by_init, if_statement_by_alternate, chain_expression_by_expression, boxed_object_property_by_key, update_expression_by_argument, formal_parameter_by_initializer, boxed_formal_parameters_by_rest, function_by_params, boxed_function_by_params, function_by_body, boxed_function_by_body, arrow_function_expression_by_params, arrow_function_expression_by_body, yield_expression_by_argument, import_expression_by_options, for_statement_by_init, for_statement_by_test, for_statement_by_update, for_in_statement_by_left, for_of_statement_by_left, return_statement_by_argument, switch_case_by_test, try_statement_by_handler, try_statement_by_finalizer, boxed_catch_clause_by_param, object_pattern_by_rest, binding_property_by_key, array_pattern_by_rest, array_assignment_target_by_rest, object_assignment_target_by_rest, boxed_assignment_target_property_identifier_by_init, boxed_assignment_target_property_property_by_name, boxed_assignment_target_property_property_by_binding, class_by_heritage, boxed_class_by_heritage, method_definition_by_key, method_definition_by_value, property_definition_by_key, property_definition_by_value, export_default_declaration_by_declaration}
 use Rattle.jsgen_tree.specs.Plain.{node_plain, layer}
 use Rattle.jsgen_tree.specs.Spans.{expression_span, assignment_target_span, declaration_span, statement_span, binding_pattern_span, class_element_span}
 use Rattle.jsgen_tree.specs.Tree.{Tree, given, trees, holed, span_of}
@@ -62,6 +62,11 @@ natural_expression h (expressions.ArrowFunctionExpression b) = (arrow_function_e
 natural_expression h (expressions.Class b) = (class_by_heritage (λ n. layer (map-Node Node Tree h (opened.Expression (expressions.Class (record b { value = n })))) ≡ expression_plain h (expressions.Class (record b { value = n }))) (λ n. same_slots (same_maybe refl (same_maybe refl (same_one (same_slots (same_many (ap trees (map_after _ _ _ (λ n. refl) n.body.value.body.items)) refl)) refl)))) (λ n_heritage. (λ n. same_slots (same_maybe refl (same_maybe refl (same_one (same_slots (same_many (ap trees (map_after _ _ _ (λ n. refl) n.body.value.body.items)) refl)) refl)))))) b.value
 natural_expression h (expressions.PrivateFieldExpression b) = refl
 natural_expression h (expressions.PrivateInExpression b) = refl
+natural_expression h (expressions.AwaitExpression b) = refl
+natural_expression h (expressions.YieldExpression b) = (yield_expression_by_argument (λ n. layer (map-Node Node Tree h (opened.Expression (expressions.YieldExpression (record b { value = n })))) ≡ expression_plain h (expressions.YieldExpression (record b { value = n }))) (λ n. refl) (λ n_argument. (λ n. refl))) b.value
+natural_expression h (expressions.TemplateLiteral b) = same_slots (same_many refl (same_many (ap trees (map_after _ _ _ (λ n. refl) b.value.expressions.items)) refl))
+natural_expression h (expressions.TaggedTemplateExpression b) = same_slots (same_one refl (same_one (same_slots (same_many refl (same_many (ap trees (map_after _ _ _ (λ n. refl) b.value.quasi.value.expressions.items)) refl))) refl))
+natural_expression h (expressions.ImportExpression b) = (import_expression_by_options (λ n. layer (map-Node Node Tree h (opened.Expression (expressions.ImportExpression (record b { value = n })))) ≡ expression_plain h (expressions.ImportExpression (record b { value = n }))) (λ n. refl) (λ n_options. (λ n. refl))) b.value
 
 natural_assignment_target : (h : Node → Tree) (n : AssignmentTarget Node) → layer (map-Node Node Tree h (opened.AssignmentTarget n)) ≡ assignment_target_plain h n
 natural_assignment_target h (assignment_targets.IdentifierReference b) = refl
@@ -95,6 +100,12 @@ natural_statement h (statements.ThrowStatement b) = refl
 natural_statement h (statements.DebuggerStatement b) = refl
 natural_statement h (statements.SwitchStatement b) = same_slots (same_one refl (same_many (ap trees (map_after _ _ _ (switch_case_by_test _ (λ n. same_slots (same_maybe refl (same_many (ap trees (map_after _ _ _ (λ n. refl) n.consequent.items)) refl))) (λ n_test. (λ n. same_slots (same_maybe refl (same_many (ap trees (map_after _ _ _ (λ n. refl) n.consequent.items)) refl))))) b.value.cases.items)) refl))
 natural_statement h (statements.TryStatement b) = (try_statement_by_handler (λ n. layer (map-Node Node Tree h (opened.Statement (statements.TryStatement (record b { value = n })))) ≡ statement_plain h (statements.TryStatement (record b { value = n }))) (try_statement_by_finalizer _ (λ n. same_slots (same_one (same_slots (same_many (ap trees (map_after _ _ _ (λ n. refl) n.block.value.body.items)) refl)) (same_maybe refl (same_maybe refl refl)))) (λ n_finalizer. (λ n. same_slots (same_one (same_slots (same_many (ap trees (map_after _ _ _ (λ n. refl) n.block.value.body.items)) refl)) (same_maybe refl (same_maybe (ap (λ t. given t) (same_slots (same_many (ap trees (map_after _ _ _ (λ n. refl) n_finalizer.value.body.items)) refl))) refl)))))) (boxed_catch_clause_by_param _ (λ n_handler. (try_statement_by_finalizer _ (λ n. same_slots (same_one (same_slots (same_many (ap trees (map_after _ _ _ (λ n. refl) n.block.value.body.items)) refl)) (same_maybe (ap (λ t. given t) (same_slots (same_maybe refl (same_one (same_slots (same_many (ap trees (map_after _ _ _ (λ n. refl) n_handler.value.body.value.body.items)) refl)) refl)))) (same_maybe refl refl)))) (λ n_finalizer. (λ n. same_slots (same_one (same_slots (same_many (ap trees (map_after _ _ _ (λ n. refl) n.block.value.body.items)) refl)) (same_maybe (ap (λ t. given t) (same_slots (same_maybe refl (same_one (same_slots (same_many (ap trees (map_after _ _ _ (λ n. refl) n_handler.value.body.value.body.items)) refl)) refl)))) (same_maybe (ap (λ t. given t) (same_slots (same_many (ap trees (map_after _ _ _ (λ n. refl) n_finalizer.value.body.items)) refl))) refl))))))) (λ n_handler_param. (λ n_handler. (try_statement_by_finalizer _ (λ n. same_slots (same_one (same_slots (same_many (ap trees (map_after _ _ _ (λ n. refl) n.block.value.body.items)) refl)) (same_maybe (ap (λ t. given t) (same_slots (same_maybe refl (same_one (same_slots (same_many (ap trees (map_after _ _ _ (λ n. refl) n_handler.value.body.value.body.items)) refl)) refl)))) (same_maybe refl refl)))) (λ n_finalizer. (λ n. same_slots (same_one (same_slots (same_many (ap trees (map_after _ _ _ (λ n. refl) n.block.value.body.items)) refl)) (same_maybe (ap (λ t. given t) (same_slots (same_maybe refl (same_one (same_slots (same_many (ap trees (map_after _ _ _ (λ n. refl) n_handler.value.body.value.body.items)) refl)) refl)))) (same_maybe (ap (λ t. given t) (same_slots (same_many (ap trees (map_after _ _ _ (λ n. refl) n_finalizer.value.body.items)) refl))) refl)))))))))) b.value
+natural_statement h (statements.ImportDeclaration b) = refl
+natural_statement h (statements.ExportDeclaration b) = refl
+natural_statement h (statements.ExportNamedDeclaration b) = refl
+natural_statement h (statements.ExportFromDeclaration b) = refl
+natural_statement h (statements.ExportAllDeclaration b) = refl
+natural_statement h (statements.ExportDefaultDeclaration b) = (export_default_declaration_by_declaration (λ n. layer (map-Node Node Tree h (opened.Statement (statements.ExportDefaultDeclaration (record b { value = n })))) ≡ statement_plain h (statements.ExportDefaultDeclaration (record b { value = n }))) (boxed_function_by_params _ (boxed_formal_parameters_by_rest _ (λ n_declaration_params. (boxed_function_by_body _ (λ n_declaration. (λ n. same_slots (same_one (same_slots (same_maybe refl (same_one (same_slots (same_many (ap trees (map_after _ _ _ (formal_parameter_by_initializer _ (λ n. refl) (λ n_initializer. (λ n. refl))) n_declaration_params.value.items.items)) (same_maybe refl refl))) (same_maybe refl refl)))) refl))) (λ n_declaration_body. (λ n_declaration. (λ n. same_slots (same_one (same_slots (same_maybe refl (same_one (same_slots (same_many (ap trees (map_after _ _ _ (formal_parameter_by_initializer _ (λ n. refl) (λ n_initializer. (λ n. refl))) n_declaration_params.value.items.items)) (same_maybe refl refl))) (same_maybe (ap (λ t. given t) (same_slots (same_many refl (same_many (ap trees (map_after _ _ _ (λ n. refl) n_declaration_body.value.statements.items)) refl)))) refl)))) refl)))))) (λ n_declaration_params_rest. (λ n_declaration_params. (boxed_function_by_body _ (λ n_declaration. (λ n. same_slots (same_one (same_slots (same_maybe refl (same_one (same_slots (same_many (ap trees (map_after _ _ _ (formal_parameter_by_initializer _ (λ n. refl) (λ n_initializer. (λ n. refl))) n_declaration_params.value.items.items)) (same_maybe refl refl))) (same_maybe refl refl)))) refl))) (λ n_declaration_body. (λ n_declaration. (λ n. same_slots (same_one (same_slots (same_maybe refl (same_one (same_slots (same_many (ap trees (map_after _ _ _ (formal_parameter_by_initializer _ (λ n. refl) (λ n_initializer. (λ n. refl))) n_declaration_params.value.items.items)) (same_maybe refl refl))) (same_maybe (ap (λ t. given t) (same_slots (same_many refl (same_many (ap trees (map_after _ _ _ (λ n. refl) n_declaration_body.value.statements.items)) refl)))) refl)))) refl))))))))) (boxed_class_by_heritage _ (λ n_declaration. (λ n. same_slots (same_one (same_slots (same_maybe refl (same_maybe refl (same_one (same_slots (same_many (ap trees (map_after _ _ _ (λ n. refl) n_declaration.value.body.value.body.items)) refl)) refl)))) refl))) (λ n_declaration_heritage. (λ n_declaration. (λ n. same_slots (same_one (same_slots (same_maybe refl (same_maybe refl (same_one (same_slots (same_many (ap trees (map_after _ _ _ (λ n. refl) n_declaration.value.body.value.body.items)) refl)) refl)))) refl))))) (λ n_declaration. (λ n. refl))) b.value
 
 natural_binding_pattern : (h : Node → Tree) (n : BindingPattern Node) → layer (map-Node Node Tree h (opened.BindingPattern n)) ≡ binding_pattern_plain h n
 natural_binding_pattern h (binding_patterns.BindingIdentifier b) = refl
@@ -159,6 +170,11 @@ of_expression h (expressions.ArrowFunctionExpression b) = refl
 of_expression h (expressions.Class b) = refl
 of_expression h (expressions.PrivateFieldExpression b) = refl
 of_expression h (expressions.PrivateInExpression b) = refl
+of_expression h (expressions.AwaitExpression b) = refl
+of_expression h (expressions.YieldExpression b) = refl
+of_expression h (expressions.TemplateLiteral b) = refl
+of_expression h (expressions.TaggedTemplateExpression b) = refl
+of_expression h (expressions.ImportExpression b) = refl
 
 pub expression_spans : (n : Expression Node) → expression_span n ≡ span_of (node_plain (nodes.Expression n))
 expression_spans n = of_expression node_plain n ∙ ap span_of (sym (plain_expression n))
@@ -201,6 +217,12 @@ of_statement h (statements.ThrowStatement b) = refl
 of_statement h (statements.DebuggerStatement b) = refl
 of_statement h (statements.SwitchStatement b) = refl
 of_statement h (statements.TryStatement b) = refl
+of_statement h (statements.ImportDeclaration b) = refl
+of_statement h (statements.ExportDeclaration b) = refl
+of_statement h (statements.ExportNamedDeclaration b) = refl
+of_statement h (statements.ExportFromDeclaration b) = refl
+of_statement h (statements.ExportAllDeclaration b) = refl
+of_statement h (statements.ExportDefaultDeclaration b) = refl
 
 pub statement_spans : (n : Statement Node) → statement_span (λ n. span_of (node_plain n)) n ≡ span_of (node_plain (nodes.Statement n))
 statement_spans n = of_statement node_plain n ∙ ap span_of (sym (plain_statement n))

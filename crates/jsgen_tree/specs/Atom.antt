@@ -15,6 +15,8 @@ use Rattle.jsgen_syntax.specs.declared.operator.AssignmentOperator.{AssignmentOp
 use Rattle.jsgen_tree.specs.declared.functions.FunctionKind.{FunctionKind}
 use Rattle.jsgen_tree.specs.declared.classes.ClassKind.{ClassKind}
 use Rattle.jsgen_tree.specs.declared.classes.MethodDefinitionKind.{MethodDefinitionKind}
+use Rattle.jsgen_tree.specs.declared.modules.ImportOrExportKind.{ImportOrExportKind}
+use Rattle.jsgen_tree.specs.declared.modules.WithKeyword.{WithKeyword}
 
 pub data Atom : Type 0 where
   -- of a field that is absent
@@ -39,3 +41,5 @@ pub data Atom : Type 0 where
   kind_of_function : FunctionKind → Atom
   class_form : ClassKind → Atom
   kind_of_method : MethodDefinitionKind → Atom
+  kind_of_import : ImportOrExportKind → Atom
+  with_keyword : WithKeyword → Atom

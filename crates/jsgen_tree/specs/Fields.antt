@@ -21,6 +21,8 @@ use Rattle.jsgen_syntax.specs.declared.operator.AssignmentOperator.TheVariants a
 use Rattle.jsgen_tree.specs.declared.functions.FunctionKind.TheVariants as kind_of_functions
 use Rattle.jsgen_tree.specs.declared.classes.ClassKind.TheVariants as class_forms
 use Rattle.jsgen_tree.specs.declared.classes.MethodDefinitionKind.TheVariants as kind_of_methods
+use Rattle.jsgen_tree.specs.declared.modules.ImportOrExportKind.TheVariants as kind_of_imports
+use Rattle.jsgen_tree.specs.declared.modules.WithKeyword.TheVariants as with_keywords
 
 -- ---- words
 
@@ -66,10 +68,16 @@ class_form_words = means (codes "declaration") (atoms.class_form class_forms.Dec
 abbrev pub kind_of_method_words : List Word
 kind_of_method_words = means (codes "constructor") (atoms.kind_of_method kind_of_methods.Constructor) ∷ means (codes "method") (atoms.kind_of_method kind_of_methods.Method) ∷ means (codes "get") (atoms.kind_of_method kind_of_methods.Get) ∷ means (codes "set") (atoms.kind_of_method kind_of_methods.Set) ∷ []
 
+abbrev pub kind_of_import_words : List Word
+kind_of_import_words = means (codes "value") (atoms.kind_of_import kind_of_imports.Value) ∷ []
+
+abbrev pub with_keyword_words : List Word
+with_keyword_words = means (codes "with") (atoms.with_keyword with_keywords.With) ∷ []
+
 -- ---- fields: one list for each type, in the order of their numbers, from 2 on
 
 abbrev pub fields : NodeType → List Field
-fields types.Program = has_by_default (atoms.text []) (codes "source") sorts.text ∷ needs (codes "kind") (sorts.word source_kind_words) ∷ not_yet (codes "jsx") sorts.flag ∷ not_yet (codes "typescript") sorts.flag ∷ may_have (codes "comments") (sorts.children sets.Comment) ∷ not_yet (codes "hashbang") sorts.unread_child ∷ may_have (codes "directives") (sorts.children sets.Directive) ∷ may_have (codes "body") (sorts.children sets.Statement) ∷ []
+fields types.Program = has_by_default (atoms.text []) (codes "source") sorts.text ∷ needs (codes "kind") (sorts.word source_kind_words) ∷ not_yet (codes "jsx") sorts.flag ∷ not_yet (codes "typescript") sorts.flag ∷ may_have (codes "comments") (sorts.children sets.Comment) ∷ may_have (codes "hashbang") (sorts.child sets.Hashbang) ∷ may_have (codes "directives") (sorts.children sets.Directive) ∷ may_have (codes "body") (sorts.children sets.Statement) ∷ []
 fields types.Comment = needs (codes "kind") (sorts.word kind_of_comment_words) ∷ needs (codes "content") (sorts.word content_of_comment_words) ∷ has_by_default (atoms.flag false) (codes "leading") sorts.flag ∷ needs (codes "attached_to") sorts.number ∷ has_by_default (atoms.flag false) (codes "preceded_by_newline") sorts.flag ∷ has_by_default (atoms.flag false) (codes "followed_by_newline") sorts.flag ∷ []
 fields types.Directive = needs (codes "directive") sorts.text ∷ []
 fields types.VariableDeclaration = needs (codes "kind") (sorts.word declaration_kind_words) ∷ not_yet (codes "declare") sorts.flag ∷ may_have (codes "declarations") (sorts.children sets.VariableDeclarator) ∷ []
@@ -111,12 +119,18 @@ fields types.AssignmentExpression = needs (codes "operator") (sorts.word assignm
 fields types.FormalParameter = not_yet (codes "decorators") sorts.unread_child ∷ not_yet (codes "accessibility") sorts.unread_child ∷ not_yet (codes "is_override") sorts.flag ∷ not_yet (codes "readonly") sorts.flag ∷ needs (codes "pattern") (sorts.child sets.BindingPattern) ∷ not_yet (codes "optional") sorts.flag ∷ not_yet (codes "type_annotation") sorts.unread_child ∷ may_have (codes "initializer") (sorts.child sets.Expression) ∷ []
 fields types.FormalParameterRest = not_yet (codes "decorators") sorts.unread_child ∷ needs (codes "argument") (sorts.child sets.BindingPattern) ∷ not_yet (codes "type_annotation") sorts.unread_child ∷ []
 fields types.FormalParameters = may_have (codes "items") (sorts.children sets.FormalParameter) ∷ may_have (codes "rest") (sorts.child sets.FormalParameterRest) ∷ []
-fields types.Function = needs (codes "kind") (sorts.word kind_of_function_words) ∷ may_have (codes "id") (sorts.child sets.BindingIdentifier) ∷ not_yet (codes "is_async") sorts.flag ∷ not_yet (codes "generator") sorts.flag ∷ not_yet (codes "declare") sorts.flag ∷ has_by_default (atoms.flag false) (codes "pure") sorts.flag ∷ has_by_default (atoms.flag false) (codes "pife") sorts.flag ∷ not_yet (codes "type_parameters") sorts.unread_child ∷ not_yet (codes "this_param") sorts.unread_child ∷ needs (codes "params") (sorts.child sets.FormalParameters) ∷ not_yet (codes "return_type") sorts.unread_child ∷ may_have (codes "body") (sorts.child sets.FunctionBody) ∷ []
+fields types.Function = needs (codes "kind") (sorts.word kind_of_function_words) ∷ may_have (codes "id") (sorts.child sets.BindingIdentifier) ∷ has_by_default (atoms.flag false) (codes "is_async") sorts.flag ∷ has_by_default (atoms.flag false) (codes "generator") sorts.flag ∷ not_yet (codes "declare") sorts.flag ∷ has_by_default (atoms.flag false) (codes "pure") sorts.flag ∷ has_by_default (atoms.flag false) (codes "pife") sorts.flag ∷ not_yet (codes "type_parameters") sorts.unread_child ∷ not_yet (codes "this_param") sorts.unread_child ∷ needs (codes "params") (sorts.child sets.FormalParameters) ∷ not_yet (codes "return_type") sorts.unread_child ∷ may_have (codes "body") (sorts.child sets.FunctionBody) ∷ []
 fields types.FunctionBody = may_have (codes "directives") (sorts.children sets.Directive) ∷ may_have (codes "statements") (sorts.children sets.Statement) ∷ []
-fields types.ArrowFunctionExpression = not_yet (codes "is_async") sorts.flag ∷ has_by_default (atoms.flag false) (codes "pure") sorts.flag ∷ has_by_default (atoms.flag false) (codes "pife") sorts.flag ∷ not_yet (codes "type_parameters") sorts.unread_child ∷ needs (codes "params") (sorts.child sets.FormalParameters) ∷ not_yet (codes "return_type") sorts.unread_child ∷ needs (codes "body") (sorts.child sets.ArrowFunctionBody) ∷ []
+fields types.ArrowFunctionExpression = has_by_default (atoms.flag false) (codes "is_async") sorts.flag ∷ has_by_default (atoms.flag false) (codes "pure") sorts.flag ∷ has_by_default (atoms.flag false) (codes "pife") sorts.flag ∷ not_yet (codes "type_parameters") sorts.unread_child ∷ needs (codes "params") (sorts.child sets.FormalParameters) ∷ not_yet (codes "return_type") sorts.unread_child ∷ needs (codes "body") (sorts.child sets.ArrowFunctionBody) ∷ []
+fields types.AwaitExpression = needs (codes "argument") (sorts.child sets.Expression) ∷ []
+fields types.YieldExpression = has_by_default (atoms.flag false) (codes "delegate") sorts.flag ∷ may_have (codes "argument") (sorts.child sets.Expression) ∷ []
+fields types.TemplateElement = needs (codes "raw") sorts.text ∷ may_have (codes "cooked") sorts.units ∷ []
+fields types.TemplateLiteral = may_have (codes "quasis") (sorts.children sets.TemplateElement) ∷ may_have (codes "expressions") (sorts.children sets.Expression) ∷ []
+fields types.TaggedTemplateExpression = needs (codes "tag") (sorts.child sets.Expression) ∷ not_yet (codes "type_arguments") sorts.unread_child ∷ needs (codes "quasi") (sorts.child sets.TemplateLiteral) ∷ []
+fields types.ImportExpression = not_yet (codes "phase") sorts.unread_child ∷ needs (codes "source") (sorts.child sets.Expression) ∷ may_have (codes "options") (sorts.child sets.Expression) ∷ []
 fields types.ForStatement = may_have (codes "init") (sorts.child sets.ForStatementInit) ∷ may_have (codes "test") (sorts.child sets.Expression) ∷ may_have (codes "update") (sorts.child sets.Expression) ∷ needs (codes "body") (sorts.child sets.Statement) ∷ []
 fields types.ForInStatement = needs (codes "left") (sorts.child sets.ForStatementLeft) ∷ needs (codes "right") (sorts.child sets.Expression) ∷ needs (codes "body") (sorts.child sets.Statement) ∷ []
-fields types.ForOfStatement = not_yet (codes "is_await") sorts.flag ∷ needs (codes "left") (sorts.child sets.ForStatementLeft) ∷ needs (codes "right") (sorts.child sets.Expression) ∷ needs (codes "body") (sorts.child sets.Statement) ∷ []
+fields types.ForOfStatement = has_by_default (atoms.flag false) (codes "is_await") sorts.flag ∷ needs (codes "left") (sorts.child sets.ForStatementLeft) ∷ needs (codes "right") (sorts.child sets.Expression) ∷ needs (codes "body") (sorts.child sets.Statement) ∷ []
 fields types.WhileStatement = needs (codes "test") (sorts.child sets.Expression) ∷ needs (codes "body") (sorts.child sets.Statement) ∷ []
 fields types.DoWhileStatement = needs (codes "body") (sorts.child sets.Statement) ∷ needs (codes "test") (sorts.child sets.Expression) ∷ []
 fields types.LabelIdentifier = needs (codes "name") sorts.text ∷ []
@@ -149,3 +163,16 @@ fields types.ClassBody = may_have (codes "body") (sorts.children sets.ClassEleme
 fields types.StaticBlock = may_have (codes "body") (sorts.children sets.Statement) ∷ []
 fields types.MethodDefinition = not_yet (codes "decorators") sorts.unread_child ∷ needs (codes "kind") (sorts.word kind_of_method_words) ∷ needs (codes "key") (sorts.child sets.PropertyKey) ∷ needs (codes "value") (sorts.child sets.Function) ∷ not_yet (codes "accessibility") sorts.unread_child ∷ has_by_default (atoms.flag false) (codes "computed") sorts.flag ∷ has_by_default (atoms.flag false) (codes "is_static") sorts.flag ∷ not_yet (codes "is_override") sorts.flag ∷ not_yet (codes "is_abstract") sorts.flag ∷ not_yet (codes "optional") sorts.flag ∷ []
 fields types.PropertyDefinition = not_yet (codes "decorators") sorts.unread_child ∷ needs (codes "key") (sorts.child sets.PropertyKey) ∷ not_yet (codes "accessibility") sorts.unread_child ∷ has_by_default (atoms.flag false) (codes "computed") sorts.flag ∷ not_yet (codes "declare") sorts.flag ∷ not_yet (codes "is_abstract") sorts.flag ∷ has_by_default (atoms.flag false) (codes "is_static") sorts.flag ∷ not_yet (codes "is_override") sorts.flag ∷ not_yet (codes "readonly") sorts.flag ∷ not_yet (codes "optional") sorts.flag ∷ not_yet (codes "definite") sorts.flag ∷ not_yet (codes "type_annotation") sorts.unread_child ∷ may_have (codes "value") (sorts.child sets.Expression) ∷ []
+fields types.Hashbang = needs (codes "value") sorts.text ∷ []
+fields types.ImportDeclaration = needs (codes "import_kind") (sorts.word kind_of_import_words) ∷ not_yet (codes "phase") sorts.unread_child ∷ may_have (codes "specifiers") (sorts.maybe_children sets.ImportDeclarationSpecifier) ∷ needs (codes "source") (sorts.child sets.StringLiteral) ∷ may_have (codes "with_clause") (sorts.child sets.WithClause) ∷ []
+fields types.ImportDefaultSpecifier = needs (codes "local") (sorts.child sets.BindingIdentifier) ∷ []
+fields types.ImportNamespaceSpecifier = needs (codes "local") (sorts.child sets.BindingIdentifier) ∷ []
+fields types.ImportSpecifier = needs (codes "import_kind") (sorts.word kind_of_import_words) ∷ needs (codes "imported") (sorts.child sets.ModuleExportName) ∷ needs (codes "local") (sorts.child sets.BindingIdentifier) ∷ []
+fields types.WithClause = needs (codes "keyword") (sorts.word with_keyword_words) ∷ may_have (codes "entries") (sorts.children sets.ImportAttribute) ∷ []
+fields types.ImportAttribute = needs (codes "key") (sorts.child sets.ImportAttributeKey) ∷ needs (codes "value") (sorts.child sets.StringLiteral) ∷ []
+fields types.ExportDeclaration = needs (codes "declaration") (sorts.child sets.Declaration) ∷ []
+fields types.ExportNamedDeclaration = needs (codes "export_kind") (sorts.word kind_of_import_words) ∷ may_have (codes "specifiers") (sorts.children sets.ExportSpecifier) ∷ []
+fields types.ExportFromDeclaration = needs (codes "export_kind") (sorts.word kind_of_import_words) ∷ may_have (codes "specifiers") (sorts.children sets.ExportSpecifier) ∷ needs (codes "source") (sorts.child sets.StringLiteral) ∷ may_have (codes "with_clause") (sorts.child sets.WithClause) ∷ []
+fields types.ExportSpecifier = needs (codes "export_kind") (sorts.word kind_of_import_words) ∷ needs (codes "local") (sorts.child sets.ModuleExportName) ∷ needs (codes "exported") (sorts.child sets.ModuleExportName) ∷ []
+fields types.ExportAllDeclaration = needs (codes "export_kind") (sorts.word kind_of_import_words) ∷ may_have (codes "exported") (sorts.child sets.ModuleExportName) ∷ needs (codes "source") (sorts.child sets.StringLiteral) ∷ may_have (codes "with_clause") (sorts.child sets.WithClause) ∷ []
+fields types.ExportDefaultDeclaration = needs (codes "declaration") (sorts.child sets.ExportDefaultDeclarationKind) ∷ []

@@ -1,7 +1,7 @@
 -- What a statement ends in, what a declaration declares by, what stands within the parentheses of an expression, what a link goes on from, which name a node is, and whether a number is negative.
 use Rattle.std.specs.Prelude.{◌≡◌, ◌==◌, ℕ, List, [], ◌∷◌, Bool, true, false, Option, Some, None, is_some, option_and_then, codes, if◌then◌else◌, ◌||◌}
 use Rattle.std.specs.Str.{bytes_eq}
-use Rattle.jsgen_tree.specs.Tree.{Tree, Atoms, absent, given, type_of}
+use Rattle.jsgen_tree.specs.Tree.{Tree, Maybe, Atoms, absent, given, type_of}
 use Rattle.jsgen_tree.specs.Nodes.{parenthesized, if_statement, for_statement, for_in_statement, for_of_statement, while_statement, labeled_statement, variable_declaration, function, identifier_reference, identifier_name, numeric_literal, big_int_literal, static_member, computed_member, call, binding_identifier, assignment_pattern, private_member, class}
 use Rattle.jsgen_tree.specs.Named.{Named, looked_up, bound}
 use Rattle.jsgen_tree.specs.Values.{variable_declaration_kind, identifier_reference_name, identifier_reference_reference, binding_identifier_name, binding_identifier_symbol, identifier_name_name, numeric_literal_negative, big_int_literal_value, static_member_expression_optional, computed_member_expression_optional, call_expression_optional, private_field_expression_optional, class_kind}
@@ -32,10 +32,14 @@ abbrev pub function_in : Tree → Option Tree
 function_in (function a id params body) = Some (function a id params body)
 function_in t = None
 
--- of which kind a class is
-abbrev pub class_kind_in : Tree → Option ClassKind
-class_kind_in (class a id heritage body) = Some (class_kind a)
-class_kind_in t = None
+abbrev pub has_name : Maybe → Bool
+has_name absent = false
+has_name (given id) = true
+
+-- of which kind a class is, and whether it has a name
+abbrev pub class_head_in : Tree → Option (ClassKind × Bool)
+class_head_in (class a id heritage body) = Some (class_kind a, has_name id)
+class_head_in t = None
 
 -- a property is a method or an accessor, whose function follows its key (ECMA-262, 15.4)
 abbrev pub is_method : PropertyKind → Bool → Bool

@@ -1,10 +1,10 @@
 -- Generated from tools/nodes/table.txt; edit that and run tools/nodes/generate.
 -- The row of each type of node, as a pattern.
-use Rattle.jsgen_tree.specs.Tree.{Tree, Trees, Maybe, Atoms, node, no_slots, one, maybe, many}
+use Rattle.jsgen_tree.specs.Tree.{Tree, Trees, Maybe, MaybeTrees, Atoms, node, no_slots, one, maybe, many, maybe_many}
 use Rattle.jsgen_tree.specs.declared.types.NodeType.TheVariants as types
 
-pattern abbrev pub program : Atoms → Trees → Trees → Trees → Tree
-program a comments directives body = node types.Program a (many comments (many directives (many body no_slots)))
+pattern abbrev pub program : Atoms → Trees → Maybe → Trees → Trees → Tree
+program a comments hashbang_child directives body = node types.Program a (many comments (maybe hashbang_child (many directives (many body no_slots))))
 
 pattern abbrev pub comment : Atoms → Tree
 comment a = node types.Comment a no_slots
@@ -138,6 +138,24 @@ function_body a directives statements = node types.FunctionBody a (many directiv
 pattern abbrev pub arrow_function : Atoms → Tree → Tree → Tree
 arrow_function a params body = node types.ArrowFunctionExpression a (one params (one body no_slots))
 
+pattern abbrev pub await_expression : Atoms → Tree → Tree
+await_expression a argument = node types.AwaitExpression a (one argument no_slots)
+
+pattern abbrev pub yield_expression : Atoms → Maybe → Tree
+yield_expression a argument = node types.YieldExpression a (maybe argument no_slots)
+
+pattern abbrev pub template_element : Atoms → Tree
+template_element a = node types.TemplateElement a no_slots
+
+pattern abbrev pub template_literal : Atoms → Trees → Trees → Tree
+template_literal a quasis expressions = node types.TemplateLiteral a (many quasis (many expressions no_slots))
+
+pattern abbrev pub tagged_template : Atoms → Tree → Tree → Tree
+tagged_template a tag quasi = node types.TaggedTemplateExpression a (one tag (one quasi no_slots))
+
+pattern abbrev pub import_call : Atoms → Tree → Maybe → Tree
+import_call a source options = node types.ImportExpression a (one source (maybe options no_slots))
+
 pattern abbrev pub for_statement : Atoms → Maybe → Maybe → Maybe → Tree → Tree
 for_statement a init test update_child body = node types.ForStatement a (maybe init (maybe test (maybe update_child (one body no_slots))))
 
@@ -242,3 +260,42 @@ method_definition a key value = node types.MethodDefinition a (one key (one valu
 
 pattern abbrev pub property_definition : Atoms → Tree → Maybe → Tree
 property_definition a key value = node types.PropertyDefinition a (one key (maybe value no_slots))
+
+pattern abbrev pub hashbang : Atoms → Tree
+hashbang a = node types.Hashbang a no_slots
+
+pattern abbrev pub import_declaration : Atoms → MaybeTrees → Tree → Maybe → Tree
+import_declaration a specifiers source with_clause_child = node types.ImportDeclaration a (maybe_many specifiers (one source (maybe with_clause_child no_slots)))
+
+pattern abbrev pub import_default_specifier : Atoms → Tree → Tree
+import_default_specifier a local = node types.ImportDefaultSpecifier a (one local no_slots)
+
+pattern abbrev pub import_namespace_specifier : Atoms → Tree → Tree
+import_namespace_specifier a local = node types.ImportNamespaceSpecifier a (one local no_slots)
+
+pattern abbrev pub import_specifier : Atoms → Tree → Tree → Tree
+import_specifier a imported local = node types.ImportSpecifier a (one imported (one local no_slots))
+
+pattern abbrev pub with_clause : Atoms → Trees → Tree
+with_clause a entries = node types.WithClause a (many entries no_slots)
+
+pattern abbrev pub import_attribute : Atoms → Tree → Tree → Tree
+import_attribute a key value = node types.ImportAttribute a (one key (one value no_slots))
+
+pattern abbrev pub export_declaration : Atoms → Tree → Tree
+export_declaration a declaration = node types.ExportDeclaration a (one declaration no_slots)
+
+pattern abbrev pub export_named_declaration : Atoms → Trees → Tree
+export_named_declaration a specifiers = node types.ExportNamedDeclaration a (many specifiers no_slots)
+
+pattern abbrev pub export_from_declaration : Atoms → Trees → Tree → Maybe → Tree
+export_from_declaration a specifiers source with_clause_child = node types.ExportFromDeclaration a (many specifiers (one source (maybe with_clause_child no_slots)))
+
+pattern abbrev pub export_specifier : Atoms → Tree → Tree → Tree
+export_specifier a local exported = node types.ExportSpecifier a (one local (one exported no_slots))
+
+pattern abbrev pub export_all_declaration : Atoms → Maybe → Tree → Maybe → Tree
+export_all_declaration a exported source with_clause_child = node types.ExportAllDeclaration a (maybe exported (one source (maybe with_clause_child no_slots)))
+
+pattern abbrev pub export_default_declaration : Atoms → Tree → Tree
+export_default_declaration a declaration = node types.ExportDefaultDeclaration a (one declaration no_slots)

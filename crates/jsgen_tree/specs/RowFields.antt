@@ -140,6 +140,24 @@ function_body_fields = fields types.FunctionBody
 abbrev pub arrow_function_expression_fields : List Field
 arrow_function_expression_fields = fields types.ArrowFunctionExpression
 
+abbrev pub await_expression_fields : List Field
+await_expression_fields = fields types.AwaitExpression
+
+abbrev pub yield_expression_fields : List Field
+yield_expression_fields = fields types.YieldExpression
+
+abbrev pub template_element_fields : List Field
+template_element_fields = fields types.TemplateElement
+
+abbrev pub template_literal_fields : List Field
+template_literal_fields = fields types.TemplateLiteral
+
+abbrev pub tagged_template_expression_fields : List Field
+tagged_template_expression_fields = fields types.TaggedTemplateExpression
+
+abbrev pub import_expression_fields : List Field
+import_expression_fields = fields types.ImportExpression
+
 abbrev pub for_statement_fields : List Field
 for_statement_fields = fields types.ForStatement
 
@@ -244,3 +262,42 @@ method_definition_fields = fields types.MethodDefinition
 
 abbrev pub property_definition_fields : List Field
 property_definition_fields = fields types.PropertyDefinition
+
+abbrev pub hashbang_fields : List Field
+hashbang_fields = fields types.Hashbang
+
+abbrev pub import_declaration_fields : List Field
+import_declaration_fields = fields types.ImportDeclaration
+
+abbrev pub import_default_specifier_fields : List Field
+import_default_specifier_fields = fields types.ImportDefaultSpecifier
+
+abbrev pub import_namespace_specifier_fields : List Field
+import_namespace_specifier_fields = fields types.ImportNamespaceSpecifier
+
+abbrev pub import_specifier_fields : List Field
+import_specifier_fields = fields types.ImportSpecifier
+
+abbrev pub with_clause_fields : List Field
+with_clause_fields = fields types.WithClause
+
+abbrev pub import_attribute_fields : List Field
+import_attribute_fields = fields types.ImportAttribute
+
+abbrev pub export_declaration_fields : List Field
+export_declaration_fields = fields types.ExportDeclaration
+
+abbrev pub export_named_declaration_fields : List Field
+export_named_declaration_fields = fields types.ExportNamedDeclaration
+
+abbrev pub export_from_declaration_fields : List Field
+export_from_declaration_fields = fields types.ExportFromDeclaration
+
+abbrev pub export_specifier_fields : List Field
+export_specifier_fields = fields types.ExportSpecifier
+
+abbrev pub export_all_declaration_fields : List Field
+export_all_declaration_fields = fields types.ExportAllDeclaration
+
+abbrev pub export_default_declaration_fields : List Field
+export_default_declaration_fields = fields types.ExportDefaultDeclaration

@@ -2,10 +2,10 @@
 -- The plain data of each struct and set, from that of what nests.
 use Rattle.std.specs.Prelude.{[], ◌∷◌, map, option_map}
 use Rattle.jsgen_syntax.specs.Units.{js_units}
-use Rattle.jsgen_tree.specs.Characters.{characters, number_if_given, numeric_values}
-use Rattle.jsgen_tree.specs.Tree.{Tree, optional, trees, holed}
-use Rattle.jsgen_tree.specs.Atom.{no_value, text, units, number, flag, kind_of_comment, content_of_comment, source_kind, declaration_kind, binary_operator, logical_operator, property_kind, unary_operator, update_operator, assignment_operator, kind_of_function, class_form, kind_of_method}
-use Rattle.jsgen_tree.specs.Nodes.{program, comment, directive, variable_declaration, variable_declarator, binding_identifier, expression_statement, block, if_statement, empty_statement, identifier_reference, this_expression, null_literal, boolean_literal, numeric_literal, big_int_literal, string_literal, reg_exp_literal, parenthesized, binary, logical, identifier_name, static_member, computed_member, call, chain, spread, array, object_property, object_expression, unary, new_target, update, new_expression, super, import_meta, conditional, sequence, assignment, formal_parameter, formal_parameter_rest, formal_parameters, function, function_body, arrow_function, for_statement, for_in_statement, for_of_statement, while_statement, do_while_statement, label_identifier, labeled_statement, continue_statement, break_statement, return_statement, throw_statement, debugger_statement, switch_statement, switch_case, try_statement, catch_clause, object_pattern, binding_property, binding_rest_element, array_pattern, assignment_pattern, array_target, object_target, target_with_default, target_property_identifier, target_property, target_rest, private_identifier, private_member, private_in, class, class_body, static_block, method_definition, property_definition}
+use Rattle.jsgen_tree.specs.Characters.{characters, number_if_given, units_if_given, numeric_values}
+use Rattle.jsgen_tree.specs.Tree.{Tree, optional, optional_list, trees, holed}
+use Rattle.jsgen_tree.specs.Atom.{no_value, text, units, number, flag, kind_of_comment, content_of_comment, source_kind, declaration_kind, binary_operator, logical_operator, property_kind, unary_operator, update_operator, assignment_operator, kind_of_function, class_form, kind_of_method, kind_of_import, with_keyword}
+use Rattle.jsgen_tree.specs.Nodes.{program, comment, directive, variable_declaration, variable_declarator, binding_identifier, expression_statement, block, if_statement, empty_statement, identifier_reference, this_expression, null_literal, boolean_literal, numeric_literal, big_int_literal, string_literal, reg_exp_literal, parenthesized, binary, logical, identifier_name, static_member, computed_member, call, chain, spread, array, object_property, object_expression, unary, new_target, update, new_expression, super, import_meta, conditional, sequence, assignment, formal_parameter, formal_parameter_rest, formal_parameters, function, function_body, arrow_function, await_expression, yield_expression, template_element, template_literal, tagged_template, import_call, for_statement, for_in_statement, for_of_statement, while_statement, do_while_statement, label_identifier, labeled_statement, continue_statement, break_statement, return_statement, throw_statement, debugger_statement, switch_statement, switch_case, try_statement, catch_clause, object_pattern, binding_property, binding_rest_element, array_pattern, assignment_pattern, array_target, object_target, target_with_default, target_property_identifier, target_property, target_rest, private_identifier, private_member, private_in, class, class_body, static_block, method_definition, property_definition, hashbang, import_declaration, import_default_specifier, import_namespace_specifier, import_specifier, with_clause, import_attribute, export_declaration, export_named_declaration, export_from_declaration, export_specifier, export_all_declaration, export_default_declaration}
 use Rattle.jsgen_tree.specs.declared.nodes.ExpressionNode.{ExpressionNode}
 use Rattle.jsgen_tree.specs.declared.nodes.AssignmentTargetNode.{AssignmentTargetNode}
 use Rattle.jsgen_tree.specs.declared.nodes.DeclarationNode.{DeclarationNode}
@@ -57,6 +57,12 @@ use Rattle.jsgen_tree.specs.declared.functions.FormalParameters.{FormalParameter
 use Rattle.jsgen_tree.specs.declared.functions.Function.{Function}
 use Rattle.jsgen_tree.specs.declared.functions.FunctionBody.{FunctionBody}
 use Rattle.jsgen_tree.specs.declared.functions.ArrowFunctionExpression.{ArrowFunctionExpression}
+use Rattle.jsgen_tree.specs.declared.functions.AwaitExpression.{AwaitExpression}
+use Rattle.jsgen_tree.specs.declared.functions.YieldExpression.{YieldExpression}
+use Rattle.jsgen_tree.specs.declared.templates.TemplateElement.{TemplateElement}
+use Rattle.jsgen_tree.specs.declared.templates.TemplateLiteral.{TemplateLiteral}
+use Rattle.jsgen_tree.specs.declared.templates.TaggedTemplateExpression.{TaggedTemplateExpression}
+use Rattle.jsgen_tree.specs.declared.templates.ImportExpression.{ImportExpression}
 use Rattle.jsgen_tree.specs.declared.loops.ForStatement.{ForStatement}
 use Rattle.jsgen_tree.specs.declared.loops.ForInStatement.{ForInStatement}
 use Rattle.jsgen_tree.specs.declared.loops.ForOfStatement.{ForOfStatement}
@@ -92,6 +98,19 @@ use Rattle.jsgen_tree.specs.declared.classes.ClassBody.{ClassBody}
 use Rattle.jsgen_tree.specs.declared.classes.StaticBlock.{StaticBlock}
 use Rattle.jsgen_tree.specs.declared.classes.MethodDefinition.{MethodDefinition}
 use Rattle.jsgen_tree.specs.declared.classes.PropertyDefinition.{PropertyDefinition}
+use Rattle.jsgen_tree.specs.declared.modules.Hashbang.{Hashbang}
+use Rattle.jsgen_tree.specs.declared.modules.ImportDeclaration.{ImportDeclaration}
+use Rattle.jsgen_tree.specs.declared.modules.ImportDefaultSpecifier.{ImportDefaultSpecifier}
+use Rattle.jsgen_tree.specs.declared.modules.ImportNamespaceSpecifier.{ImportNamespaceSpecifier}
+use Rattle.jsgen_tree.specs.declared.modules.ImportSpecifier.{ImportSpecifier}
+use Rattle.jsgen_tree.specs.declared.modules.WithClause.{WithClause}
+use Rattle.jsgen_tree.specs.declared.modules.ImportAttribute.{ImportAttribute}
+use Rattle.jsgen_tree.specs.declared.modules.ExportDeclaration.{ExportDeclaration}
+use Rattle.jsgen_tree.specs.declared.modules.ExportNamedDeclaration.{ExportNamedDeclaration}
+use Rattle.jsgen_tree.specs.declared.modules.ExportFromDeclaration.{ExportFromDeclaration}
+use Rattle.jsgen_tree.specs.declared.modules.ExportSpecifier.{ExportSpecifier}
+use Rattle.jsgen_tree.specs.declared.modules.ExportAllDeclaration.{ExportAllDeclaration}
+use Rattle.jsgen_tree.specs.declared.modules.ExportDefaultDeclaration.{ExportDefaultDeclaration}
 use Rattle.jsgen_tree.specs.declared.sets.Expression.{Expression}
 use Rattle.jsgen_tree.specs.declared.sets.Argument.{Argument}
 use Rattle.jsgen_tree.specs.declared.sets.ArrayExpressionElement.{ArrayExpressionElement}
@@ -110,6 +129,10 @@ use Rattle.jsgen_tree.specs.declared.sets.Declaration.{Declaration}
 use Rattle.jsgen_tree.specs.declared.sets.Statement.{Statement}
 use Rattle.jsgen_tree.specs.declared.sets.BindingPattern.{BindingPattern}
 use Rattle.jsgen_tree.specs.declared.sets.ClassElement.{ClassElement}
+use Rattle.jsgen_tree.specs.declared.sets.ModuleExportName.{ModuleExportName}
+use Rattle.jsgen_tree.specs.declared.sets.ImportDeclarationSpecifier.{ImportDeclarationSpecifier}
+use Rattle.jsgen_tree.specs.declared.sets.ImportAttributeKey.{ImportAttributeKey}
+use Rattle.jsgen_tree.specs.declared.sets.ExportDefaultDeclarationKind.{ExportDefaultDeclarationKind}
 use Rattle.jsgen_tree.specs.declared.sets.Expression.TheVariants as expression
 use Rattle.jsgen_tree.specs.declared.sets.Argument.TheVariants as argument
 use Rattle.jsgen_tree.specs.declared.sets.ArrayExpressionElement.TheVariants as array_expression_element
@@ -128,6 +151,10 @@ use Rattle.jsgen_tree.specs.declared.sets.Declaration.TheVariants as declaration
 use Rattle.jsgen_tree.specs.declared.sets.Statement.TheVariants as statement
 use Rattle.jsgen_tree.specs.declared.sets.BindingPattern.TheVariants as binding_pattern
 use Rattle.jsgen_tree.specs.declared.sets.ClassElement.TheVariants as class_element
+use Rattle.jsgen_tree.specs.declared.sets.ModuleExportName.TheVariants as module_export_name
+use Rattle.jsgen_tree.specs.declared.sets.ImportDeclarationSpecifier.TheVariants as import_declaration_specifier
+use Rattle.jsgen_tree.specs.declared.sets.ImportAttributeKey.TheVariants as import_attribute_key
+use Rattle.jsgen_tree.specs.declared.sets.ExportDefaultDeclarationKind.TheVariants as export_default_declaration_kind
 
 -- ---- children that nest
 
@@ -154,11 +181,14 @@ in_class_element plain n = plain n.node
 abbrev pub comment_row : Comment → Tree
 comment_row n = comment (record { span = n.span; values = kind_of_comment n.kind ∷ content_of_comment n.content ∷ flag n.leading ∷ number n.attached_to ∷ flag n.preceded_by_newline ∷ flag n.followed_by_newline ∷ [] })
 
+abbrev pub hashbang_row : Hashbang → Tree
+hashbang_row n = hashbang (record { span = n.span; values = text (characters n.value) ∷ [] })
+
 abbrev pub directive_row : Directive → Tree
 directive_row n = directive (record { span = n.span; values = text (characters n.directive) ∷ [] })
 
 abbrev pub program_row : {N : Type 0} → (N → Tree) → Program N → Tree
-program_row plain n = program (record { span = n.span; values = text (characters n.source) ∷ source_kind n.kind ∷ no_value ∷ no_value ∷ [] }) (trees (map comment_row n.comments.items)) (trees (map directive_row n.directives.items)) (trees (map (in_statement plain) n.body.items))
+program_row plain n = program (record { span = n.span; values = text (characters n.source) ∷ source_kind n.kind ∷ no_value ∷ no_value ∷ [] }) (trees (map comment_row n.comments.items)) (optional (option_map (λ b. hashbang_row b.value) n.hashbang)) (trees (map directive_row n.directives.items)) (trees (map (in_statement plain) n.body.items))
 
 abbrev pub variable_declarator_row : {N : Type 0} → (N → Tree) → VariableDeclarator N → Tree
 variable_declarator_row plain n = variable_declarator (record { span = n.span; values = no_value ∷ [] }) (in_binding_pattern plain n.id) (optional (option_map (in_expression plain) n.init))
@@ -316,14 +346,32 @@ abbrev pub function_body_row : {N : Type 0} → (N → Tree) → FunctionBody N 
 function_body_row plain n = function_body (record { span = n.span; values = [] }) (trees (map directive_row n.directives.items)) (trees (map (in_statement plain) n.statements.items))
 
 abbrev pub function_row : {N : Type 0} → (N → Tree) → Function N → Tree
-function_row plain n = function (record { span = n.span; values = kind_of_function n.kind ∷ no_value ∷ no_value ∷ no_value ∷ flag n.pure ∷ flag n.pife ∷ [] }) (optional (option_map (λ b. binding_identifier_row b.value) n.id)) (formal_parameters_row plain n.params.value) (optional (option_map (λ b. function_body_row plain b.value) n.body))
+function_row plain n = function (record { span = n.span; values = kind_of_function n.kind ∷ flag n.is_async ∷ flag n.generator ∷ no_value ∷ flag n.pure ∷ flag n.pife ∷ [] }) (optional (option_map (λ b. binding_identifier_row b.value) n.id)) (formal_parameters_row plain n.params.value) (optional (option_map (λ b. function_body_row plain b.value) n.body))
 
 abbrev pub in_arrow_function_body : {N : Type 0} → (N → Tree) → ArrowFunctionBody N → Tree
 in_arrow_function_body plain (arrow_function_body.FunctionBody b) = function_body_row plain b.value
 in_arrow_function_body plain (arrow_function_body.Expression b) = in_expression plain b.value
 
 abbrev pub arrow_function_expression_row : {N : Type 0} → (N → Tree) → ArrowFunctionExpression N → Tree
-arrow_function_expression_row plain n = arrow_function (record { span = n.span; values = no_value ∷ flag n.pure ∷ flag n.pife ∷ [] }) (formal_parameters_row plain n.params.value) (in_arrow_function_body plain n.body)
+arrow_function_expression_row plain n = arrow_function (record { span = n.span; values = flag n.is_async ∷ flag n.pure ∷ flag n.pife ∷ [] }) (formal_parameters_row plain n.params.value) (in_arrow_function_body plain n.body)
+
+abbrev pub await_expression_row : {N : Type 0} → (N → Tree) → AwaitExpression N → Tree
+await_expression_row plain n = await_expression (record { span = n.span; values = [] }) (in_expression plain n.argument)
+
+abbrev pub yield_expression_row : {N : Type 0} → (N → Tree) → YieldExpression N → Tree
+yield_expression_row plain n = yield_expression (record { span = n.span; values = flag n.delegate ∷ [] }) (optional (option_map (in_expression plain) n.argument))
+
+abbrev pub template_element_row : TemplateElement → Tree
+template_element_row n = template_element (record { span = n.span; values = text (characters n.raw) ∷ units_if_given n.cooked ∷ [] })
+
+abbrev pub template_literal_row : {N : Type 0} → (N → Tree) → TemplateLiteral N → Tree
+template_literal_row plain n = template_literal (record { span = n.span; values = [] }) (trees (map template_element_row n.quasis.items)) (trees (map (in_expression plain) n.expressions.items))
+
+abbrev pub tagged_template_expression_row : {N : Type 0} → (N → Tree) → TaggedTemplateExpression N → Tree
+tagged_template_expression_row plain n = tagged_template (record { span = n.span; values = [] }) (in_expression plain n.tag) (template_literal_row plain n.quasi.value)
+
+abbrev pub import_expression_row : {N : Type 0} → (N → Tree) → ImportExpression N → Tree
+import_expression_row plain n = import_call (record { span = n.span; values = [] }) (in_expression plain n.source) (optional (option_map (in_expression plain) n.options))
 
 abbrev pub in_for_statement_init : {N : Type 0} → (N → Tree) → ForStatementInit N → Tree
 in_for_statement_init plain (for_statement_init.VariableDeclaration b) = variable_declaration_row plain b.value
@@ -340,7 +388,7 @@ abbrev pub for_in_statement_row : {N : Type 0} → (N → Tree) → ForInStateme
 for_in_statement_row plain n = for_in_statement (record { span = n.span; values = [] }) (in_for_statement_left plain n.left) (in_expression plain n.right) (in_statement plain n.body)
 
 abbrev pub for_of_statement_row : {N : Type 0} → (N → Tree) → ForOfStatement N → Tree
-for_of_statement_row plain n = for_of_statement (record { span = n.span; values = no_value ∷ [] }) (in_for_statement_left plain n.left) (in_expression plain n.right) (in_statement plain n.body)
+for_of_statement_row plain n = for_of_statement (record { span = n.span; values = flag n.is_await ∷ [] }) (in_for_statement_left plain n.left) (in_expression plain n.right) (in_statement plain n.body)
 
 abbrev pub while_statement_row : {N : Type 0} → (N → Tree) → WhileStatement N → Tree
 while_statement_row plain n = while_statement (record { span = n.span; values = [] }) (in_expression plain n.test) (in_statement plain n.body)
@@ -440,6 +488,61 @@ method_definition_row plain n = method_definition (record { span = n.span; value
 abbrev pub property_definition_row : {N : Type 0} → (N → Tree) → PropertyDefinition N → Tree
 property_definition_row plain n = property_definition (record { span = n.span; values = flag n.computed ∷ no_value ∷ no_value ∷ flag n.is_static ∷ no_value ∷ no_value ∷ no_value ∷ no_value ∷ [] }) (in_property_key plain n.key) (optional (option_map (in_expression plain) n.value))
 
+abbrev pub import_default_specifier_row : ImportDefaultSpecifier → Tree
+import_default_specifier_row n = import_default_specifier (record { span = n.span; values = [] }) (binding_identifier_row n.local.value)
+
+abbrev pub import_namespace_specifier_row : ImportNamespaceSpecifier → Tree
+import_namespace_specifier_row n = import_namespace_specifier (record { span = n.span; values = [] }) (binding_identifier_row n.local.value)
+
+abbrev pub in_module_export_name : ModuleExportName → Tree
+in_module_export_name (module_export_name.IdentifierName b) = identifier_name_row b.value
+in_module_export_name (module_export_name.IdentifierReference b) = identifier_reference_row b.value
+in_module_export_name (module_export_name.StringLiteral b) = string_literal_row b.value
+
+abbrev pub import_specifier_row : ImportSpecifier → Tree
+import_specifier_row n = import_specifier (record { span = n.span; values = kind_of_import n.import_kind ∷ [] }) (in_module_export_name n.imported) (binding_identifier_row n.local.value)
+
+abbrev pub in_import_declaration_specifier : ImportDeclarationSpecifier → Tree
+in_import_declaration_specifier (import_declaration_specifier.ImportDefaultSpecifier b) = import_default_specifier_row b.value
+in_import_declaration_specifier (import_declaration_specifier.ImportNamespaceSpecifier b) = import_namespace_specifier_row b.value
+in_import_declaration_specifier (import_declaration_specifier.ImportSpecifier b) = import_specifier_row b.value
+
+abbrev pub in_import_attribute_key : ImportAttributeKey → Tree
+in_import_attribute_key (import_attribute_key.IdentifierName b) = identifier_name_row b.value
+in_import_attribute_key (import_attribute_key.StringLiteral b) = string_literal_row b.value
+
+abbrev pub import_attribute_row : ImportAttribute → Tree
+import_attribute_row n = import_attribute (record { span = n.span; values = [] }) (in_import_attribute_key n.key) (string_literal_row n.value.value)
+
+abbrev pub with_clause_row : WithClause → Tree
+with_clause_row n = with_clause (record { span = n.span; values = with_keyword n.keyword ∷ [] }) (trees (map import_attribute_row n.entries.items))
+
+abbrev pub import_declaration_row : ImportDeclaration → Tree
+import_declaration_row n = import_declaration (record { span = n.span; values = kind_of_import n.import_kind ∷ [] }) (optional_list (option_map (λ v. map in_import_declaration_specifier v.items) n.specifiers)) (string_literal_row n.source.value) (optional (option_map (λ b. with_clause_row b.value) n.with_clause))
+
+abbrev pub export_declaration_row : {N : Type 0} → (N → Tree) → ExportDeclaration N → Tree
+export_declaration_row plain n = export_declaration (record { span = n.span; values = [] }) (in_declaration plain n.declaration)
+
+abbrev pub export_specifier_row : ExportSpecifier → Tree
+export_specifier_row n = export_specifier (record { span = n.span; values = kind_of_import n.export_kind ∷ [] }) (in_module_export_name n.local) (in_module_export_name n.exported)
+
+abbrev pub export_named_declaration_row : ExportNamedDeclaration → Tree
+export_named_declaration_row n = export_named_declaration (record { span = n.span; values = kind_of_import n.export_kind ∷ [] }) (trees (map export_specifier_row n.specifiers.items))
+
+abbrev pub export_from_declaration_row : ExportFromDeclaration → Tree
+export_from_declaration_row n = export_from_declaration (record { span = n.span; values = kind_of_import n.export_kind ∷ [] }) (trees (map export_specifier_row n.specifiers.items)) (string_literal_row n.source.value) (optional (option_map (λ b. with_clause_row b.value) n.with_clause))
+
+abbrev pub export_all_declaration_row : ExportAllDeclaration → Tree
+export_all_declaration_row n = export_all_declaration (record { span = n.span; values = kind_of_import n.export_kind ∷ [] }) (optional (option_map in_module_export_name n.exported)) (string_literal_row n.source.value) (optional (option_map (λ b. with_clause_row b.value) n.with_clause))
+
+abbrev pub in_export_default_declaration_kind : {N : Type 0} → (N → Tree) → ExportDefaultDeclarationKind N → Tree
+in_export_default_declaration_kind plain (export_default_declaration_kind.Function b) = function_row plain b.value
+in_export_default_declaration_kind plain (export_default_declaration_kind.Class b) = class_row plain b.value
+in_export_default_declaration_kind plain (export_default_declaration_kind.Expression b) = in_expression plain b.value
+
+abbrev pub export_default_declaration_row : {N : Type 0} → (N → Tree) → ExportDefaultDeclaration N → Tree
+export_default_declaration_row plain n = export_default_declaration (record { span = n.span; values = [] }) (in_export_default_declaration_kind plain n.declaration)
+
 abbrev pub in_assignment_target_pattern : {N : Type 0} → (N → Tree) → AssignmentTargetPattern N → Tree
 in_assignment_target_pattern plain (assignment_target_pattern.ArrayAssignmentTarget b) = array_assignment_target_row plain b.value
 in_assignment_target_pattern plain (assignment_target_pattern.ObjectAssignmentTarget b) = object_assignment_target_row plain b.value
@@ -478,6 +581,11 @@ expression_plain plain (expression.ArrowFunctionExpression b) = arrow_function_e
 expression_plain plain (expression.Class b) = class_row plain b.value
 expression_plain plain (expression.PrivateFieldExpression b) = private_field_expression_row plain b.value
 expression_plain plain (expression.PrivateInExpression b) = private_in_expression_row plain b.value
+expression_plain plain (expression.AwaitExpression b) = await_expression_row plain b.value
+expression_plain plain (expression.YieldExpression b) = yield_expression_row plain b.value
+expression_plain plain (expression.TemplateLiteral b) = template_literal_row plain b.value
+expression_plain plain (expression.TaggedTemplateExpression b) = tagged_template_expression_row plain b.value
+expression_plain plain (expression.ImportExpression b) = import_expression_row plain b.value
 
 abbrev pub assignment_target_plain : {N : Type 0} → (N → Tree) → AssignmentTarget N → Tree
 assignment_target_plain plain (assignment_target.IdentifierReference b) = identifier_reference_row b.value
@@ -511,6 +619,12 @@ statement_plain plain (statement.ThrowStatement b) = throw_statement_row plain b
 statement_plain plain (statement.DebuggerStatement b) = debugger_statement_row b.value
 statement_plain plain (statement.SwitchStatement b) = switch_statement_row plain b.value
 statement_plain plain (statement.TryStatement b) = try_statement_row plain b.value
+statement_plain plain (statement.ImportDeclaration b) = import_declaration_row b.value
+statement_plain plain (statement.ExportDeclaration b) = export_declaration_row plain b.value
+statement_plain plain (statement.ExportNamedDeclaration b) = export_named_declaration_row b.value
+statement_plain plain (statement.ExportFromDeclaration b) = export_from_declaration_row b.value
+statement_plain plain (statement.ExportAllDeclaration b) = export_all_declaration_row b.value
+statement_plain plain (statement.ExportDefaultDeclaration b) = export_default_declaration_row plain b.value
 
 abbrev pub binding_pattern_plain : {N : Type 0} → (N → Tree) → BindingPattern N → Tree
 binding_pattern_plain plain (binding_pattern.BindingIdentifier b) = binding_identifier_row b.value

@@ -38,6 +38,11 @@ is_expression types.ArrowFunctionExpression = true
 is_expression types.Class = true
 is_expression types.PrivateFieldExpression = true
 is_expression types.PrivateInExpression = true
+is_expression types.AwaitExpression = true
+is_expression types.YieldExpression = true
+is_expression types.TemplateLiteral = true
+is_expression types.TaggedTemplateExpression = true
+is_expression types.ImportExpression = true
 is_expression type = false
 
 abbrev pub is_argument : NodeType → Bool
@@ -131,6 +136,12 @@ is_statement types.ThrowStatement = true
 is_statement types.DebuggerStatement = true
 is_statement types.SwitchStatement = true
 is_statement types.TryStatement = true
+is_statement types.ImportDeclaration = true
+is_statement types.ExportDeclaration = true
+is_statement types.ExportNamedDeclaration = true
+is_statement types.ExportFromDeclaration = true
+is_statement types.ExportAllDeclaration = true
+is_statement types.ExportDefaultDeclaration = true
 is_statement type = is_declaration type
 
 abbrev pub is_binding_pattern : NodeType → Bool
@@ -146,9 +157,33 @@ is_class_element types.MethodDefinition = true
 is_class_element types.PropertyDefinition = true
 is_class_element type = false
 
+abbrev pub is_module_export_name : NodeType → Bool
+is_module_export_name types.IdentifierName = true
+is_module_export_name types.IdentifierReference = true
+is_module_export_name types.StringLiteral = true
+is_module_export_name type = false
+
+abbrev pub is_import_declaration_specifier : NodeType → Bool
+is_import_declaration_specifier types.ImportDefaultSpecifier = true
+is_import_declaration_specifier types.ImportNamespaceSpecifier = true
+is_import_declaration_specifier types.ImportSpecifier = true
+is_import_declaration_specifier type = false
+
+abbrev pub is_import_attribute_key : NodeType → Bool
+is_import_attribute_key types.IdentifierName = true
+is_import_attribute_key types.StringLiteral = true
+is_import_attribute_key type = false
+
+abbrev pub is_export_default_declaration_kind : NodeType → Bool
+is_export_default_declaration_kind type = is_expression type
+
 abbrev pub is_comment : NodeType → Bool
 is_comment types.Comment = true
 is_comment type = false
+
+abbrev pub is_hashbang : NodeType → Bool
+is_hashbang types.Hashbang = true
+is_hashbang type = false
 
 abbrev pub is_directive : NodeType → Bool
 is_directive types.Directive = true
@@ -181,6 +216,14 @@ is_formal_parameters type = false
 abbrev pub is_function_body : NodeType → Bool
 is_function_body types.FunctionBody = true
 is_function_body type = false
+
+abbrev pub is_template_element : NodeType → Bool
+is_template_element types.TemplateElement = true
+is_template_element type = false
+
+abbrev pub is_template_literal : NodeType → Bool
+is_template_literal types.TemplateLiteral = true
+is_template_literal type = false
 
 abbrev pub is_label_identifier : NodeType → Bool
 is_label_identifier types.LabelIdentifier = true
@@ -226,8 +269,25 @@ abbrev pub is_function : NodeType → Bool
 is_function types.Function = true
 is_function type = false
 
+abbrev pub is_string_literal : NodeType → Bool
+is_string_literal types.StringLiteral = true
+is_string_literal type = false
+
+abbrev pub is_with_clause : NodeType → Bool
+is_with_clause types.WithClause = true
+is_with_clause type = false
+
+abbrev pub is_import_attribute : NodeType → Bool
+is_import_attribute types.ImportAttribute = true
+is_import_attribute type = false
+
+abbrev pub is_export_specifier : NodeType → Bool
+is_export_specifier types.ExportSpecifier = true
+is_export_specifier type = false
+
 abbrev pub in_set : NodeSet → NodeType → Bool
 in_set sets.Comment t = is_comment t
+in_set sets.Hashbang t = is_hashbang t
 in_set sets.Directive t = is_directive t
 in_set sets.Statement t = is_statement t
 in_set sets.VariableDeclarator t = is_variable_declarator t
@@ -247,6 +307,8 @@ in_set sets.BindingIdentifier t = is_binding_identifier t
 in_set sets.FormalParameters t = is_formal_parameters t
 in_set sets.FunctionBody t = is_function_body t
 in_set sets.ArrowFunctionBody t = is_arrow_function_body t
+in_set sets.TemplateElement t = is_template_element t
+in_set sets.TemplateLiteral t = is_template_literal t
 in_set sets.ForStatementInit t = is_for_statement_init t
 in_set sets.ForStatementLeft t = is_for_statement_left t
 in_set sets.LabelIdentifier t = is_label_identifier t
@@ -263,5 +325,15 @@ in_set sets.PrivateIdentifier t = is_private_identifier t
 in_set sets.ClassBody t = is_class_body t
 in_set sets.ClassElement t = is_class_element t
 in_set sets.Function t = is_function t
+in_set sets.ImportDeclarationSpecifier t = is_import_declaration_specifier t
+in_set sets.StringLiteral t = is_string_literal t
+in_set sets.WithClause t = is_with_clause t
+in_set sets.ModuleExportName t = is_module_export_name t
+in_set sets.ImportAttribute t = is_import_attribute t
+in_set sets.ImportAttributeKey t = is_import_attribute_key t
+in_set sets.Declaration t = is_declaration t
+in_set sets.ExportSpecifier t = is_export_specifier t
+in_set sets.ExportDefaultDeclarationKind t = is_export_default_declaration_kind t
 in_set sets.Link t = is_expression t
 in_set sets.BindingElement t = is_binding_pattern t
+in_set sets.ModuleItem t = is_statement t

@@ -19,6 +19,10 @@ use Rattle.jsgen_tree.specs.declared.sets.Declaration.{Declaration}
 use Rattle.jsgen_tree.specs.declared.sets.Statement.{Statement}
 use Rattle.jsgen_tree.specs.declared.sets.BindingPattern.{BindingPattern}
 use Rattle.jsgen_tree.specs.declared.sets.ClassElement.{ClassElement}
+use Rattle.jsgen_tree.specs.declared.sets.ModuleExportName.{ModuleExportName}
+use Rattle.jsgen_tree.specs.declared.sets.ImportDeclarationSpecifier.{ImportDeclarationSpecifier}
+use Rattle.jsgen_tree.specs.declared.sets.ImportAttributeKey.{ImportAttributeKey}
+use Rattle.jsgen_tree.specs.declared.sets.ExportDefaultDeclarationKind.{ExportDefaultDeclarationKind}
 use Rattle.jsgen_tree.specs.declared.sets.Expression.TheVariants as expression
 use Rattle.jsgen_tree.specs.declared.sets.Argument.TheVariants as argument
 use Rattle.jsgen_tree.specs.declared.sets.ArrayExpressionElement.TheVariants as array_expression_element
@@ -37,6 +41,10 @@ use Rattle.jsgen_tree.specs.declared.sets.Declaration.TheVariants as declaration
 use Rattle.jsgen_tree.specs.declared.sets.Statement.TheVariants as statement
 use Rattle.jsgen_tree.specs.declared.sets.BindingPattern.TheVariants as binding_pattern
 use Rattle.jsgen_tree.specs.declared.sets.ClassElement.TheVariants as class_element
+use Rattle.jsgen_tree.specs.declared.sets.ModuleExportName.TheVariants as module_export_name
+use Rattle.jsgen_tree.specs.declared.sets.ImportDeclarationSpecifier.TheVariants as import_declaration_specifier
+use Rattle.jsgen_tree.specs.declared.sets.ImportAttributeKey.TheVariants as import_attribute_key
+use Rattle.jsgen_tree.specs.declared.sets.ExportDefaultDeclarationKind.TheVariants as export_default_declaration_kind
 
 abbrev pub expression_span : {N : Type 0} → Expression N → Span
 expression_span (expression.IdentifierReference b) = b.value.span
@@ -70,6 +78,11 @@ expression_span (expression.ArrowFunctionExpression b) = b.value.span
 expression_span (expression.Class b) = b.value.span
 expression_span (expression.PrivateFieldExpression b) = b.value.span
 expression_span (expression.PrivateInExpression b) = b.value.span
+expression_span (expression.AwaitExpression b) = b.value.span
+expression_span (expression.YieldExpression b) = b.value.span
+expression_span (expression.TemplateLiteral b) = b.value.span
+expression_span (expression.TaggedTemplateExpression b) = b.value.span
+expression_span (expression.ImportExpression b) = b.value.span
 
 abbrev pub argument_span : {N : Type 0} → (N → Span) → Argument N → Span
 argument_span own (argument.SpreadElement b) = b.value.span
@@ -156,6 +169,12 @@ statement_span own (statement.ThrowStatement b) = b.value.span
 statement_span own (statement.DebuggerStatement b) = b.value.span
 statement_span own (statement.SwitchStatement b) = b.value.span
 statement_span own (statement.TryStatement b) = b.value.span
+statement_span own (statement.ImportDeclaration b) = b.value.span
+statement_span own (statement.ExportDeclaration b) = b.value.span
+statement_span own (statement.ExportNamedDeclaration b) = b.value.span
+statement_span own (statement.ExportFromDeclaration b) = b.value.span
+statement_span own (statement.ExportAllDeclaration b) = b.value.span
+statement_span own (statement.ExportDefaultDeclaration b) = b.value.span
 
 abbrev pub binding_pattern_span : {N : Type 0} → BindingPattern N → Span
 binding_pattern_span (binding_pattern.BindingIdentifier b) = b.value.span
@@ -167,3 +186,22 @@ abbrev pub class_element_span : {N : Type 0} → ClassElement N → Span
 class_element_span (class_element.StaticBlock b) = b.value.span
 class_element_span (class_element.MethodDefinition b) = b.value.span
 class_element_span (class_element.PropertyDefinition b) = b.value.span
+
+abbrev pub module_export_name_span : ModuleExportName → Span
+module_export_name_span (module_export_name.IdentifierName b) = b.value.span
+module_export_name_span (module_export_name.IdentifierReference b) = b.value.span
+module_export_name_span (module_export_name.StringLiteral b) = b.value.span
+
+abbrev pub import_declaration_specifier_span : ImportDeclarationSpecifier → Span
+import_declaration_specifier_span (import_declaration_specifier.ImportDefaultSpecifier b) = b.value.span
+import_declaration_specifier_span (import_declaration_specifier.ImportNamespaceSpecifier b) = b.value.span
+import_declaration_specifier_span (import_declaration_specifier.ImportSpecifier b) = b.value.span
+
+abbrev pub import_attribute_key_span : ImportAttributeKey → Span
+import_attribute_key_span (import_attribute_key.IdentifierName b) = b.value.span
+import_attribute_key_span (import_attribute_key.StringLiteral b) = b.value.span
+
+abbrev pub export_default_declaration_kind_span : {N : Type 0} → (N → Span) → ExportDefaultDeclarationKind N → Span
+export_default_declaration_kind_span own (export_default_declaration_kind.Function b) = b.value.span
+export_default_declaration_kind_span own (export_default_declaration_kind.Class b) = b.value.span
+export_default_declaration_kind_span own (export_default_declaration_kind.Expression b) = own b.value.node

@@ -51,6 +51,11 @@ holed [] = no_trees
 holed (None ∷ os) = hole (holed os)
 holed (Some t ∷ os) = more t (holed os)
 
+-- a list, or none
+abbrev pub optional_list : Option (List Tree) → MaybeTrees
+optional_list None = no_list
+optional_list (Some ts) = listed (trees ts)
+
 abbrev pub type_of : Tree → NodeType
 type_of (node type a slots) = type
 

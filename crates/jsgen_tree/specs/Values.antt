@@ -15,7 +15,9 @@ use Rattle.jsgen_syntax.specs.declared.operator.AssignmentOperator.{AssignmentOp
 use Rattle.jsgen_tree.specs.declared.functions.FunctionKind.{FunctionKind}
 use Rattle.jsgen_tree.specs.declared.classes.ClassKind.{ClassKind}
 use Rattle.jsgen_tree.specs.declared.classes.MethodDefinitionKind.{MethodDefinitionKind}
-use Rattle.jsgen_tree.specs.Atom.{Atom, text, units, digits, number, flag, kind_of_comment, content_of_comment, source_kind, declaration_kind, numeric_kind, binary_operator, logical_operator, property_kind, unary_operator, update_operator, assignment_operator, kind_of_function, class_form, kind_of_method}
+use Rattle.jsgen_tree.specs.declared.modules.ImportOrExportKind.{ImportOrExportKind}
+use Rattle.jsgen_tree.specs.declared.modules.WithKeyword.{WithKeyword}
+use Rattle.jsgen_tree.specs.Atom.{Atom, text, units, digits, number, flag, kind_of_comment, content_of_comment, source_kind, declaration_kind, numeric_kind, binary_operator, logical_operator, property_kind, unary_operator, update_operator, assignment_operator, kind_of_function, class_form, kind_of_method, kind_of_import, with_keyword}
 use Rattle.jsgen_tree.specs.Tree.{Atoms}
 use Rattle.jsgen_tree.specs.Places.{value_at}
 use Rattle.jsgen_tree.specs.declared.statements.CommentKind.TheVariants as kind_of_comments
@@ -32,6 +34,8 @@ use Rattle.jsgen_syntax.specs.declared.operator.AssignmentOperator.TheVariants a
 use Rattle.jsgen_tree.specs.declared.functions.FunctionKind.TheVariants as kind_of_functions
 use Rattle.jsgen_tree.specs.declared.classes.ClassKind.TheVariants as class_forms
 use Rattle.jsgen_tree.specs.declared.classes.MethodDefinitionKind.TheVariants as kind_of_methods
+use Rattle.jsgen_tree.specs.declared.modules.ImportOrExportKind.TheVariants as kind_of_imports
+use Rattle.jsgen_tree.specs.declared.modules.WithKeyword.TheVariants as with_keywords
 
 -- ---- kinds of values; where the value is of another kind, any
 
@@ -111,9 +115,21 @@ abbrev pub as_kind_of_method : Atom → MethodDefinitionKind
 as_kind_of_method (kind_of_method x) = x
 as_kind_of_method v = kind_of_methods.Constructor
 
+abbrev pub as_kind_of_import : Atom → ImportOrExportKind
+as_kind_of_import (kind_of_import x) = x
+as_kind_of_import v = kind_of_imports.Value
+
+abbrev pub as_with_keyword : Atom → WithKeyword
+as_with_keyword (with_keyword x) = x
+as_with_keyword v = with_keywords.With
+
 abbrev pub as_number_if_given : Atom → Option ℕ
 as_number_if_given (number x) = Some x
 as_number_if_given v = None
+
+abbrev pub as_units_if_given : Atom → Option (List ℕ)
+as_units_if_given (units x) = Some x
+as_units_if_given v = None
 
 -- ---- fields, by the type of the node and the field's name
 
@@ -266,11 +282,9 @@ formal_parameter_optional a = as_flag (value_at 2 a.values)
 abbrev pub function_kind : Atoms → FunctionKind
 function_kind a = as_kind_of_function (value_at 0 a.values)
 
--- not read yet
 abbrev pub function_is_async : Atoms → Bool
 function_is_async a = as_flag (value_at 1 a.values)
 
--- not read yet
 abbrev pub function_generator : Atoms → Bool
 function_generator a = as_flag (value_at 2 a.values)
 
@@ -284,7 +298,6 @@ function_pure a = as_flag (value_at 4 a.values)
 abbrev pub function_pife : Atoms → Bool
 function_pife a = as_flag (value_at 5 a.values)
 
--- not read yet
 abbrev pub arrow_function_expression_is_async : Atoms → Bool
 arrow_function_expression_is_async a = as_flag (value_at 0 a.values)
 
@@ -294,7 +307,15 @@ arrow_function_expression_pure a = as_flag (value_at 1 a.values)
 abbrev pub arrow_function_expression_pife : Atoms → Bool
 arrow_function_expression_pife a = as_flag (value_at 2 a.values)
 
--- not read yet
+abbrev pub yield_expression_delegate : Atoms → Bool
+yield_expression_delegate a = as_flag (value_at 0 a.values)
+
+abbrev pub template_element_raw : Atoms → List ℕ
+template_element_raw a = as_text (value_at 0 a.values)
+
+abbrev pub template_element_cooked : Atoms → Option (List ℕ)
+template_element_cooked a = as_units_if_given (value_at 1 a.values)
+
 abbrev pub for_of_statement_is_await : Atoms → Bool
 for_of_statement_is_await a = as_flag (value_at 0 a.values)
 
@@ -374,3 +395,27 @@ property_definition_optional a = as_flag (value_at 6 a.values)
 -- not read yet
 abbrev pub property_definition_definite : Atoms → Bool
 property_definition_definite a = as_flag (value_at 7 a.values)
+
+abbrev pub hashbang_value : Atoms → List ℕ
+hashbang_value a = as_text (value_at 0 a.values)
+
+abbrev pub import_declaration_import_kind : Atoms → ImportOrExportKind
+import_declaration_import_kind a = as_kind_of_import (value_at 0 a.values)
+
+abbrev pub import_specifier_import_kind : Atoms → ImportOrExportKind
+import_specifier_import_kind a = as_kind_of_import (value_at 0 a.values)
+
+abbrev pub with_clause_keyword : Atoms → WithKeyword
+with_clause_keyword a = as_with_keyword (value_at 0 a.values)
+
+abbrev pub export_named_declaration_export_kind : Atoms → ImportOrExportKind
+export_named_declaration_export_kind a = as_kind_of_import (value_at 0 a.values)
+
+abbrev pub export_from_declaration_export_kind : Atoms → ImportOrExportKind
+export_from_declaration_export_kind a = as_kind_of_import (value_at 0 a.values)
+
+abbrev pub export_specifier_export_kind : Atoms → ImportOrExportKind
+export_specifier_export_kind a = as_kind_of_import (value_at 0 a.values)
+
+abbrev pub export_all_declaration_export_kind : Atoms → ImportOrExportKind
+export_all_declaration_export_kind a = as_kind_of_import (value_at 0 a.values)

@@ -8,6 +8,8 @@ use Rattle.jsgen_tree.specs.declared.collections.PropertyKind.{PropertyKind}
 use Rattle.jsgen_tree.specs.declared.functions.FunctionKind.{FunctionKind}
 use Rattle.jsgen_tree.specs.declared.classes.ClassKind.{ClassKind}
 use Rattle.jsgen_tree.specs.declared.classes.MethodDefinitionKind.{MethodDefinitionKind}
+use Rattle.jsgen_tree.specs.declared.modules.ImportOrExportKind.{ImportOrExportKind}
+use Rattle.jsgen_tree.specs.declared.modules.WithKeyword.{WithKeyword}
 use Rattle.jsgen_tree.specs.declared.statements.CommentKind.TheVariants as kind_of_comments
 use Rattle.jsgen_tree.specs.declared.statements.CommentContent.TheVariants as content_of_comments
 use Rattle.jsgen_tree.specs.declared.statements.VariableDeclarationKind.TheVariants as declaration_kinds
@@ -15,6 +17,8 @@ use Rattle.jsgen_tree.specs.declared.collections.PropertyKind.TheVariants as pro
 use Rattle.jsgen_tree.specs.declared.functions.FunctionKind.TheVariants as kind_of_functions
 use Rattle.jsgen_tree.specs.declared.classes.ClassKind.TheVariants as class_forms
 use Rattle.jsgen_tree.specs.declared.classes.MethodDefinitionKind.TheVariants as kind_of_methods
+use Rattle.jsgen_tree.specs.declared.modules.ImportOrExportKind.TheVariants as kind_of_imports
+use Rattle.jsgen_tree.specs.declared.modules.WithKeyword.TheVariants as with_keywords
 
 abbrev pub kind_of_comment_word : CommentKind → List ℕ
 kind_of_comment_word kind_of_comments.Line = codes "line"
@@ -59,3 +63,9 @@ method_word kind_of_methods.Constructor = codes "constructor"
 method_word kind_of_methods.Method = codes "method"
 method_word kind_of_methods.Get = codes "get"
 method_word kind_of_methods.Set = codes "set"
+
+abbrev pub import_word : ImportOrExportKind → List ℕ
+import_word kind_of_imports.Value = codes "value"
+
+abbrev pub with_word : WithKeyword → List ℕ
+with_word with_keywords.With = codes "with"

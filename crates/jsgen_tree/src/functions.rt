@@ -56,6 +56,8 @@ pub struct Function<N = Node> {
     pub span: Span,
     pub kind: FunctionKind,
     pub id: Option<Box<BindingIdentifier>>,
+    pub is_async: bool,
+    pub generator: bool,
     /// The function has no effect but its result. Nothing is printed for it.
     pub pure: bool,
     /// The function is likely called where it stands, so that it is printed in parentheses.
@@ -76,10 +78,26 @@ pub struct FunctionBody<N = Node> {
 #[derive(Drop)]
 pub struct ArrowFunctionExpression<N = Node> {
     pub span: Span,
+    pub is_async: bool,
     /// The function has no effect but its result. Nothing is printed for it.
     pub pure: bool,
     /// The function is likely called where it stands, so that it is printed in parentheses.
     pub pife: bool,
     pub params: Box<FormalParameters<N>>,
     pub body: ArrowFunctionBody<N>,
+}
+
+/// A value that is waited for (ECMA-262, 15.8).
+#[derive(Drop)]
+pub struct AwaitExpression<N = Node> {
+    pub span: Span,
+    pub argument: ExpressionNode<N>,
+}
+
+/// A value that a generator gives, or each value that another iterable value gives (ECMA-262, 15.5).
+#[derive(Drop)]
+pub struct YieldExpression<N = Node> {
+    pub span: Span,
+    pub delegate: bool,
+    pub argument: Option<ExpressionNode<N>>,
 }

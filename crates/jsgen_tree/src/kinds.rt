@@ -1,6 +1,6 @@
-// Which kind of declaration a node is, which function, and of which kind a class is.
+// Which kind of declaration a node is, which function, and of which kind a class is and whether it has a name.
 ghost use Rattle.std.specs.Prelude.{◌≡◌, option_map};
-ghost use Rattle.jsgen_tree.specs.Inside.{declared_kind, function_in, class_kind_in, is_method};
+ghost use Rattle.jsgen_tree.specs.Inside.{declared_kind, function_in, class_head_in, is_method};
 ghost use Rattle.jsgen_tree.specs.Rows.{function_row};
 ghost use Rattle.jsgen_tree.specs.Plain.{node_plain};
 
@@ -57,23 +57,23 @@ impl Node {
         }
     }
 
-    /// Of which kind it is, where it is a class.
-    #[cycle(class_kind)]
-    pub fn class_kind(&self) -> Option<ClassKind>
-        ensures { result ≡ class_kind_in (node_plain self.now) }
+    /// Of which kind it is, where it is a class, and whether it has a name.
+    #[cycle(class_head)]
+    pub fn class_head(&self) -> Option<(ClassKind, bool)>
+        ensures { result ≡ class_head_in (node_plain self.now) }
     {
         match self {
             Node::Expression(expression) => match expression {
-                Expression::Class(node) => Some(node.kind),
+                Expression::Class(node) => Some((node.kind, node.id.is_some())),
                 _ => None,
             },
             Node::AssignmentTarget(_) => None,
             Node::Statement(statement) => match statement {
-                Statement::Declaration(node) => node.get().class_kind(),
+                Statement::Declaration(node) => node.get().class_head(),
                 _ => None,
             },
             Node::Declaration(declaration) => match declaration {
-                Declaration::Class(node) => Some(node.kind),
+                Declaration::Class(node) => Some((node.kind, node.id.is_some())),
                 _ => None,
             },
             Node::BindingPattern(_) => None,

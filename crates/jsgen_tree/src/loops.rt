@@ -28,6 +28,8 @@ pub struct ForInStatement<N = Node> {
 #[derive(Drop)]
 pub struct ForOfStatement<N = Node> {
     pub span: Span,
+    /// The loop waits for each value.
+    pub is_await: bool,
     pub left: ForStatementLeft<N>,
     pub right: ExpressionNode<N>,
     pub body: StatementNode<N>,

@@ -2,15 +2,16 @@
 // The type of a member of each set.
 ghost use Rattle.std.specs.Prelude.{◌≡◌};
 ghost use Rattle.jsgen_tree.specs.Tree.{type_of};
-ghost use Rattle.jsgen_tree.specs.Rows.{expression_plain, assignment_target_plain, declaration_plain, statement_plain, binding_pattern_plain, class_element_plain, in_argument, in_array_expression_element, in_chain_element, in_simple_assignment_target, in_assignment_target_pattern, in_assignment_target_maybe_default, in_assignment_target_property, in_arrow_function_body, in_for_statement_init, in_for_statement_left, in_object_property_kind, in_property_key};
+ghost use Rattle.jsgen_tree.specs.Rows.{expression_plain, assignment_target_plain, declaration_plain, statement_plain, binding_pattern_plain, class_element_plain, in_argument, in_array_expression_element, in_chain_element, in_simple_assignment_target, in_assignment_target_pattern, in_assignment_target_maybe_default, in_assignment_target_property, in_arrow_function_body, in_for_statement_init, in_for_statement_left, in_object_property_kind, in_property_key, in_module_export_name, in_import_declaration_specifier, in_import_attribute_key, in_export_default_declaration_kind};
 ghost use Rattle.jsgen_tree.specs.Plain.{node_plain};
 
 use crate::nodes::Node;
 use crate::sets::{
     Argument, ArrayExpressionElement, ArrowFunctionBody, AssignmentTarget,
     AssignmentTargetMaybeDefault, AssignmentTargetPattern, AssignmentTargetProperty,
-    BindingPattern, ChainElement, ClassElement, Declaration, Expression, ForStatementInit,
-    ForStatementLeft, ObjectPropertyKind, PropertyKey, SimpleAssignmentTarget, Statement,
+    BindingPattern, ChainElement, ClassElement, Declaration, ExportDefaultDeclarationKind,
+    Expression, ForStatementInit, ForStatementLeft, ImportAttributeKey, ImportDeclarationSpecifier,
+    ModuleExportName, ObjectPropertyKind, PropertyKey, SimpleAssignmentTarget, Statement,
 };
 use crate::types::NodeType;
 
@@ -51,6 +52,11 @@ impl Expression {
             Expression::Class(_) => NodeType::Class,
             Expression::PrivateFieldExpression(_) => NodeType::PrivateFieldExpression,
             Expression::PrivateInExpression(_) => NodeType::PrivateInExpression,
+            Expression::AwaitExpression(_) => NodeType::AwaitExpression,
+            Expression::YieldExpression(_) => NodeType::YieldExpression,
+            Expression::TemplateLiteral(_) => NodeType::TemplateLiteral,
+            Expression::TaggedTemplateExpression(_) => NodeType::TaggedTemplateExpression,
+            Expression::ImportExpression(_) => NodeType::ImportExpression,
         }
     }
 }
@@ -262,6 +268,12 @@ impl Statement {
             Statement::DebuggerStatement(_) => NodeType::DebuggerStatement,
             Statement::SwitchStatement(_) => NodeType::SwitchStatement,
             Statement::TryStatement(_) => NodeType::TryStatement,
+            Statement::ImportDeclaration(_) => NodeType::ImportDeclaration,
+            Statement::ExportDeclaration(_) => NodeType::ExportDeclaration,
+            Statement::ExportNamedDeclaration(_) => NodeType::ExportNamedDeclaration,
+            Statement::ExportFromDeclaration(_) => NodeType::ExportFromDeclaration,
+            Statement::ExportAllDeclaration(_) => NodeType::ExportAllDeclaration,
+            Statement::ExportDefaultDeclaration(_) => NodeType::ExportDefaultDeclaration,
         }
     }
 }
@@ -289,6 +301,59 @@ impl ClassElement {
             ClassElement::StaticBlock(_) => NodeType::StaticBlock,
             ClassElement::MethodDefinition(_) => NodeType::MethodDefinition,
             ClassElement::PropertyDefinition(_) => NodeType::PropertyDefinition,
+        }
+    }
+}
+
+impl ModuleExportName {
+    /// The type of the node.
+    pub fn node_type(&self) -> NodeType
+        ensures { result ≡ type_of (in_module_export_name self.now) }
+    {
+        match self {
+            ModuleExportName::IdentifierName(_) => NodeType::IdentifierName,
+            ModuleExportName::IdentifierReference(_) => NodeType::IdentifierReference,
+            ModuleExportName::StringLiteral(_) => NodeType::StringLiteral,
+        }
+    }
+}
+
+impl ImportDeclarationSpecifier {
+    /// The type of the node.
+    pub fn node_type(&self) -> NodeType
+        ensures { result ≡ type_of (in_import_declaration_specifier self.now) }
+    {
+        match self {
+            ImportDeclarationSpecifier::ImportDefaultSpecifier(_) =>
+                NodeType::ImportDefaultSpecifier,
+            ImportDeclarationSpecifier::ImportNamespaceSpecifier(_) =>
+                NodeType::ImportNamespaceSpecifier,
+            ImportDeclarationSpecifier::ImportSpecifier(_) => NodeType::ImportSpecifier,
+        }
+    }
+}
+
+impl ImportAttributeKey {
+    /// The type of the node.
+    pub fn node_type(&self) -> NodeType
+        ensures { result ≡ type_of (in_import_attribute_key self.now) }
+    {
+        match self {
+            ImportAttributeKey::IdentifierName(_) => NodeType::IdentifierName,
+            ImportAttributeKey::StringLiteral(_) => NodeType::StringLiteral,
+        }
+    }
+}
+
+impl ExportDefaultDeclarationKind {
+    /// The type of the node.
+    pub fn node_type(&self) -> NodeType
+        ensures { result ≡ type_of (in_export_default_declaration_kind node_plain self.now) }
+    {
+        match self {
+            ExportDefaultDeclarationKind::Function(_) => NodeType::Function,
+            ExportDefaultDeclarationKind::Class(_) => NodeType::Class,
+            ExportDefaultDeclarationKind::Expression(node) => node.get().node_type(),
         }
     }
 }

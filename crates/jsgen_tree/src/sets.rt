@@ -14,11 +14,18 @@ use crate::expressions::{
     NumericLiteral, ParenthesizedExpression, RegExpLiteral, StaticMemberExpression, StringLiteral,
     ThisExpression,
 };
-use crate::functions::{ArrowFunctionExpression, Function, FunctionBody};
+use crate::functions::{
+    ArrowFunctionExpression, AwaitExpression, Function, FunctionBody, YieldExpression,
+};
 use crate::loops::{
     BreakStatement, ContinueStatement, DebuggerStatement, DoWhileStatement, ForInStatement,
     ForOfStatement, ForStatement, LabeledStatement, ReturnStatement, ThrowStatement,
     WhileStatement,
+};
+use crate::modules::{
+    ExportAllDeclaration, ExportDeclaration, ExportDefaultDeclaration, ExportFromDeclaration,
+    ExportNamedDeclaration, ImportDeclaration, ImportDefaultSpecifier, ImportNamespaceSpecifier,
+    ImportSpecifier,
 };
 use crate::nodes::{AssignmentTargetNode, DeclarationNode, ExpressionNode, Node};
 use crate::operations::{
@@ -33,6 +40,7 @@ use crate::targets::{
     ArrayAssignmentTarget, AssignmentTargetPropertyIdentifier, AssignmentTargetPropertyProperty,
     AssignmentTargetWithDefault, ObjectAssignmentTarget,
 };
+use crate::templates::{ImportExpression, TaggedTemplateExpression, TemplateLiteral};
 
 #[derive(Drop)]
 pub enum Expression<N = Node> {
@@ -67,6 +75,11 @@ pub enum Expression<N = Node> {
     Class(Box<Class<N>>),
     PrivateFieldExpression(Box<PrivateFieldExpression<N>>),
     PrivateInExpression(Box<PrivateInExpression<N>>),
+    AwaitExpression(Box<AwaitExpression<N>>),
+    YieldExpression(Box<YieldExpression<N>>),
+    TemplateLiteral(Box<TemplateLiteral<N>>),
+    TaggedTemplateExpression(Box<TaggedTemplateExpression<N>>),
+    ImportExpression(Box<ImportExpression<N>>),
 }
 
 /// What a call is given.
@@ -195,6 +208,12 @@ pub enum Statement<N = Node> {
     DebuggerStatement(Box<DebuggerStatement>),
     SwitchStatement(Box<SwitchStatement<N>>),
     TryStatement(Box<TryStatement<N>>),
+    ImportDeclaration(Box<ImportDeclaration>),
+    ExportDeclaration(Box<ExportDeclaration<N>>),
+    ExportNamedDeclaration(Box<ExportNamedDeclaration>),
+    ExportFromDeclaration(Box<ExportFromDeclaration>),
+    ExportAllDeclaration(Box<ExportAllDeclaration>),
+    ExportDefaultDeclaration(Box<ExportDefaultDeclaration<N>>),
 }
 
 #[derive(Drop)]
@@ -210,4 +229,35 @@ pub enum ClassElement<N = Node> {
     StaticBlock(Box<StaticBlock<N>>),
     MethodDefinition(Box<MethodDefinition<N>>),
     PropertyDefinition(Box<PropertyDefinition<N>>),
+}
+
+/// What an export is known by, or what is exported.
+#[derive(Drop)]
+pub enum ModuleExportName {
+    IdentifierName(Box<IdentifierName>),
+    IdentifierReference(Box<IdentifierReference>),
+    StringLiteral(Box<StringLiteral>),
+}
+
+/// What is imported of a module.
+#[derive(Drop)]
+pub enum ImportDeclarationSpecifier {
+    ImportDefaultSpecifier(Box<ImportDefaultSpecifier>),
+    ImportNamespaceSpecifier(Box<ImportNamespaceSpecifier>),
+    ImportSpecifier(Box<ImportSpecifier>),
+}
+
+/// What an attribute is known by.
+#[derive(Drop)]
+pub enum ImportAttributeKey {
+    IdentifierName(Box<IdentifierName>),
+    StringLiteral(Box<StringLiteral>),
+}
+
+/// What is exported by default: a function or a class that is declared, or an expression. A function or a class of kind `expression` is an expression.
+#[derive(Drop)]
+pub enum ExportDefaultDeclarationKind<N = Node> {
+    Function(Box<Function<N>>),
+    Class(Box<Class<N>>),
+    Expression(Box<ExpressionNode<N>>),
 }

@@ -1,52 +1,17 @@
 // Generated from tools/nodes/table.txt; edit that and run tools/nodes/generate.
-// The span of each node.
+// The span of each node: a set's is its member's.
 ghost use Rattle.std.specs.Prelude.{◌≡◌};
 ghost use Rattle.jsgen_tree.specs.Tree.{span_of};
 ghost use Rattle.jsgen_tree.specs.Plain.{node_plain};
-ghost use Rattle.jsgen_tree.specs.Spans.{expression_span, argument_span, array_expression_element_span, chain_element_span, simple_assignment_target_span, assignment_target_pattern_span, assignment_target_span, assignment_target_maybe_default_span, assignment_target_property_span, arrow_function_body_span, for_statement_init_span, for_statement_left_span, object_property_kind_span, property_key_span, declaration_span, statement_span, binding_pattern_span, class_element_span};
+ghost use Rattle.jsgen_tree.specs.Spans.{expression_span, argument_span, array_expression_element_span, chain_element_span, simple_assignment_target_span, assignment_target_pattern_span, assignment_target_span, assignment_target_maybe_default_span, assignment_target_property_span, arrow_function_body_span, for_statement_init_span, for_statement_left_span, object_property_kind_span, property_key_span, declaration_span, statement_span, binding_pattern_span, class_element_span, module_export_name_span, import_declaration_specifier_span, import_attribute_key_span, export_default_declaration_kind_span};
 
-use crate::assignments::{AssignmentExpression, ConditionalExpression, SequenceExpression};
-use crate::choices::{CatchClause, SwitchCase, SwitchStatement, TryStatement};
-use crate::classes::{
-    Class, ClassBody, MethodDefinition, PrivateFieldExpression, PrivateIdentifier,
-    PrivateInExpression, PropertyDefinition, StaticBlock,
-};
-use crate::collections::{ArrayExpression, ObjectExpression, ObjectProperty, SpreadElement};
-use crate::expressions::{
-    BigIntLiteral, BinaryExpression, BooleanLiteral, CallExpression, ChainExpression,
-    ComputedMemberExpression, IdentifierName, IdentifierReference, LogicalExpression, NullLiteral,
-    NumericLiteral, ParenthesizedExpression, RegExpLiteral, StaticMemberExpression, StringLiteral,
-    ThisExpression,
-};
-use crate::functions::{
-    ArrowFunctionExpression, FormalParameter, FormalParameterRest, FormalParameters, Function,
-    FunctionBody,
-};
-use crate::loops::{
-    BreakStatement, ContinueStatement, DebuggerStatement, DoWhileStatement, ForInStatement,
-    ForOfStatement, ForStatement, LabelIdentifier, LabeledStatement, ReturnStatement,
-    ThrowStatement, WhileStatement,
-};
 use crate::nodes::Node;
-use crate::operations::{
-    ImportMeta, NewExpression, NewTarget, Super, UnaryExpression, UpdateExpression,
-};
-use crate::patterns::{
-    ArrayPattern, AssignmentPattern, BindingProperty, BindingRestElement, ObjectPattern,
-};
 use crate::sets::{
     Argument, ArrayExpressionElement, ArrowFunctionBody, AssignmentTarget,
     AssignmentTargetMaybeDefault, AssignmentTargetPattern, AssignmentTargetProperty,
-    BindingPattern, ChainElement, ClassElement, Declaration, Expression, ForStatementInit,
-    ForStatementLeft, ObjectPropertyKind, PropertyKey, SimpleAssignmentTarget, Statement,
-};
-use crate::statements::{
-    BindingIdentifier, BlockStatement, Comment, Directive, EmptyStatement, ExpressionStatement,
-    IfStatement, Program, VariableDeclaration, VariableDeclarator,
-};
-use crate::targets::{
-    ArrayAssignmentTarget, AssignmentTargetPropertyIdentifier, AssignmentTargetPropertyProperty,
-    AssignmentTargetRest, AssignmentTargetWithDefault, ObjectAssignmentTarget,
+    BindingPattern, ChainElement, ClassElement, Declaration, ExportDefaultDeclarationKind,
+    Expression, ForStatementInit, ForStatementLeft, ImportAttributeKey, ImportDeclarationSpecifier,
+    ModuleExportName, ObjectPropertyKind, PropertyKey, SimpleAssignmentTarget, Statement,
 };
 use jsgen_syntax::Span;
 
@@ -58,646 +23,6 @@ pub trait GetSpan {
 
     fn span(&self) -> Span
         ensures { result ≡ own_span self.now };
-}
-
-impl<N> GetSpan for Program<N> {
-    ghost own_span = { λ n. n.span };
-
-    fn span(&self) -> Span {
-        self.span
-    }
-}
-
-impl GetSpan for Comment {
-    ghost own_span = { λ n. n.span };
-
-    fn span(&self) -> Span {
-        self.span
-    }
-}
-
-impl GetSpan for Directive {
-    ghost own_span = { λ n. n.span };
-
-    fn span(&self) -> Span {
-        self.span
-    }
-}
-
-impl<N> GetSpan for VariableDeclaration<N> {
-    ghost own_span = { λ n. n.span };
-
-    fn span(&self) -> Span {
-        self.span
-    }
-}
-
-impl<N> GetSpan for VariableDeclarator<N> {
-    ghost own_span = { λ n. n.span };
-
-    fn span(&self) -> Span {
-        self.span
-    }
-}
-
-impl GetSpan for BindingIdentifier {
-    ghost own_span = { λ n. n.span };
-
-    fn span(&self) -> Span {
-        self.span
-    }
-}
-
-impl<N> GetSpan for ExpressionStatement<N> {
-    ghost own_span = { λ n. n.span };
-
-    fn span(&self) -> Span {
-        self.span
-    }
-}
-
-impl<N> GetSpan for BlockStatement<N> {
-    ghost own_span = { λ n. n.span };
-
-    fn span(&self) -> Span {
-        self.span
-    }
-}
-
-impl<N> GetSpan for IfStatement<N> {
-    ghost own_span = { λ n. n.span };
-
-    fn span(&self) -> Span {
-        self.span
-    }
-}
-
-impl GetSpan for EmptyStatement {
-    ghost own_span = { λ n. n.span };
-
-    fn span(&self) -> Span {
-        self.span
-    }
-}
-
-impl GetSpan for IdentifierReference {
-    ghost own_span = { λ n. n.span };
-
-    fn span(&self) -> Span {
-        self.span
-    }
-}
-
-impl GetSpan for ThisExpression {
-    ghost own_span = { λ n. n.span };
-
-    fn span(&self) -> Span {
-        self.span
-    }
-}
-
-impl GetSpan for NullLiteral {
-    ghost own_span = { λ n. n.span };
-
-    fn span(&self) -> Span {
-        self.span
-    }
-}
-
-impl GetSpan for BooleanLiteral {
-    ghost own_span = { λ n. n.span };
-
-    fn span(&self) -> Span {
-        self.span
-    }
-}
-
-impl GetSpan for NumericLiteral {
-    ghost own_span = { λ n. n.span };
-
-    fn span(&self) -> Span {
-        self.span
-    }
-}
-
-impl GetSpan for BigIntLiteral {
-    ghost own_span = { λ n. n.span };
-
-    fn span(&self) -> Span {
-        self.span
-    }
-}
-
-impl GetSpan for StringLiteral {
-    ghost own_span = { λ n. n.span };
-
-    fn span(&self) -> Span {
-        self.span
-    }
-}
-
-impl GetSpan for RegExpLiteral {
-    ghost own_span = { λ n. n.span };
-
-    fn span(&self) -> Span {
-        self.span
-    }
-}
-
-impl<N> GetSpan for ParenthesizedExpression<N> {
-    ghost own_span = { λ n. n.span };
-
-    fn span(&self) -> Span {
-        self.span
-    }
-}
-
-impl<N> GetSpan for BinaryExpression<N> {
-    ghost own_span = { λ n. n.span };
-
-    fn span(&self) -> Span {
-        self.span
-    }
-}
-
-impl<N> GetSpan for LogicalExpression<N> {
-    ghost own_span = { λ n. n.span };
-
-    fn span(&self) -> Span {
-        self.span
-    }
-}
-
-impl GetSpan for IdentifierName {
-    ghost own_span = { λ n. n.span };
-
-    fn span(&self) -> Span {
-        self.span
-    }
-}
-
-impl<N> GetSpan for StaticMemberExpression<N> {
-    ghost own_span = { λ n. n.span };
-
-    fn span(&self) -> Span {
-        self.span
-    }
-}
-
-impl<N> GetSpan for ComputedMemberExpression<N> {
-    ghost own_span = { λ n. n.span };
-
-    fn span(&self) -> Span {
-        self.span
-    }
-}
-
-impl<N> GetSpan for CallExpression<N> {
-    ghost own_span = { λ n. n.span };
-
-    fn span(&self) -> Span {
-        self.span
-    }
-}
-
-impl<N> GetSpan for ChainExpression<N> {
-    ghost own_span = { λ n. n.span };
-
-    fn span(&self) -> Span {
-        self.span
-    }
-}
-
-impl<N> GetSpan for SpreadElement<N> {
-    ghost own_span = { λ n. n.span };
-
-    fn span(&self) -> Span {
-        self.span
-    }
-}
-
-impl<N> GetSpan for ArrayExpression<N> {
-    ghost own_span = { λ n. n.span };
-
-    fn span(&self) -> Span {
-        self.span
-    }
-}
-
-impl<N> GetSpan for ObjectProperty<N> {
-    ghost own_span = { λ n. n.span };
-
-    fn span(&self) -> Span {
-        self.span
-    }
-}
-
-impl<N> GetSpan for ObjectExpression<N> {
-    ghost own_span = { λ n. n.span };
-
-    fn span(&self) -> Span {
-        self.span
-    }
-}
-
-impl<N> GetSpan for UnaryExpression<N> {
-    ghost own_span = { λ n. n.span };
-
-    fn span(&self) -> Span {
-        self.span
-    }
-}
-
-impl GetSpan for NewTarget {
-    ghost own_span = { λ n. n.span };
-
-    fn span(&self) -> Span {
-        self.span
-    }
-}
-
-impl<N> GetSpan for UpdateExpression<N> {
-    ghost own_span = { λ n. n.span };
-
-    fn span(&self) -> Span {
-        self.span
-    }
-}
-
-impl<N> GetSpan for NewExpression<N> {
-    ghost own_span = { λ n. n.span };
-
-    fn span(&self) -> Span {
-        self.span
-    }
-}
-
-impl GetSpan for Super {
-    ghost own_span = { λ n. n.span };
-
-    fn span(&self) -> Span {
-        self.span
-    }
-}
-
-impl GetSpan for ImportMeta {
-    ghost own_span = { λ n. n.span };
-
-    fn span(&self) -> Span {
-        self.span
-    }
-}
-
-impl<N> GetSpan for ConditionalExpression<N> {
-    ghost own_span = { λ n. n.span };
-
-    fn span(&self) -> Span {
-        self.span
-    }
-}
-
-impl<N> GetSpan for SequenceExpression<N> {
-    ghost own_span = { λ n. n.span };
-
-    fn span(&self) -> Span {
-        self.span
-    }
-}
-
-impl<N> GetSpan for AssignmentExpression<N> {
-    ghost own_span = { λ n. n.span };
-
-    fn span(&self) -> Span {
-        self.span
-    }
-}
-
-impl<N> GetSpan for FormalParameter<N> {
-    ghost own_span = { λ n. n.span };
-
-    fn span(&self) -> Span {
-        self.span
-    }
-}
-
-impl<N> GetSpan for FormalParameterRest<N> {
-    ghost own_span = { λ n. n.span };
-
-    fn span(&self) -> Span {
-        self.span
-    }
-}
-
-impl<N> GetSpan for FormalParameters<N> {
-    ghost own_span = { λ n. n.span };
-
-    fn span(&self) -> Span {
-        self.span
-    }
-}
-
-impl<N> GetSpan for Function<N> {
-    ghost own_span = { λ n. n.span };
-
-    fn span(&self) -> Span {
-        self.span
-    }
-}
-
-impl<N> GetSpan for FunctionBody<N> {
-    ghost own_span = { λ n. n.span };
-
-    fn span(&self) -> Span {
-        self.span
-    }
-}
-
-impl<N> GetSpan for ArrowFunctionExpression<N> {
-    ghost own_span = { λ n. n.span };
-
-    fn span(&self) -> Span {
-        self.span
-    }
-}
-
-impl<N> GetSpan for ForStatement<N> {
-    ghost own_span = { λ n. n.span };
-
-    fn span(&self) -> Span {
-        self.span
-    }
-}
-
-impl<N> GetSpan for ForInStatement<N> {
-    ghost own_span = { λ n. n.span };
-
-    fn span(&self) -> Span {
-        self.span
-    }
-}
-
-impl<N> GetSpan for ForOfStatement<N> {
-    ghost own_span = { λ n. n.span };
-
-    fn span(&self) -> Span {
-        self.span
-    }
-}
-
-impl<N> GetSpan for WhileStatement<N> {
-    ghost own_span = { λ n. n.span };
-
-    fn span(&self) -> Span {
-        self.span
-    }
-}
-
-impl<N> GetSpan for DoWhileStatement<N> {
-    ghost own_span = { λ n. n.span };
-
-    fn span(&self) -> Span {
-        self.span
-    }
-}
-
-impl GetSpan for LabelIdentifier {
-    ghost own_span = { λ n. n.span };
-
-    fn span(&self) -> Span {
-        self.span
-    }
-}
-
-impl<N> GetSpan for LabeledStatement<N> {
-    ghost own_span = { λ n. n.span };
-
-    fn span(&self) -> Span {
-        self.span
-    }
-}
-
-impl GetSpan for ContinueStatement {
-    ghost own_span = { λ n. n.span };
-
-    fn span(&self) -> Span {
-        self.span
-    }
-}
-
-impl GetSpan for BreakStatement {
-    ghost own_span = { λ n. n.span };
-
-    fn span(&self) -> Span {
-        self.span
-    }
-}
-
-impl<N> GetSpan for ReturnStatement<N> {
-    ghost own_span = { λ n. n.span };
-
-    fn span(&self) -> Span {
-        self.span
-    }
-}
-
-impl<N> GetSpan for ThrowStatement<N> {
-    ghost own_span = { λ n. n.span };
-
-    fn span(&self) -> Span {
-        self.span
-    }
-}
-
-impl GetSpan for DebuggerStatement {
-    ghost own_span = { λ n. n.span };
-
-    fn span(&self) -> Span {
-        self.span
-    }
-}
-
-impl<N> GetSpan for SwitchStatement<N> {
-    ghost own_span = { λ n. n.span };
-
-    fn span(&self) -> Span {
-        self.span
-    }
-}
-
-impl<N> GetSpan for SwitchCase<N> {
-    ghost own_span = { λ n. n.span };
-
-    fn span(&self) -> Span {
-        self.span
-    }
-}
-
-impl<N> GetSpan for TryStatement<N> {
-    ghost own_span = { λ n. n.span };
-
-    fn span(&self) -> Span {
-        self.span
-    }
-}
-
-impl<N> GetSpan for CatchClause<N> {
-    ghost own_span = { λ n. n.span };
-
-    fn span(&self) -> Span {
-        self.span
-    }
-}
-
-impl<N> GetSpan for ObjectPattern<N> {
-    ghost own_span = { λ n. n.span };
-
-    fn span(&self) -> Span {
-        self.span
-    }
-}
-
-impl<N> GetSpan for BindingProperty<N> {
-    ghost own_span = { λ n. n.span };
-
-    fn span(&self) -> Span {
-        self.span
-    }
-}
-
-impl<N> GetSpan for BindingRestElement<N> {
-    ghost own_span = { λ n. n.span };
-
-    fn span(&self) -> Span {
-        self.span
-    }
-}
-
-impl<N> GetSpan for ArrayPattern<N> {
-    ghost own_span = { λ n. n.span };
-
-    fn span(&self) -> Span {
-        self.span
-    }
-}
-
-impl<N> GetSpan for AssignmentPattern<N> {
-    ghost own_span = { λ n. n.span };
-
-    fn span(&self) -> Span {
-        self.span
-    }
-}
-
-impl<N> GetSpan for ArrayAssignmentTarget<N> {
-    ghost own_span = { λ n. n.span };
-
-    fn span(&self) -> Span {
-        self.span
-    }
-}
-
-impl<N> GetSpan for ObjectAssignmentTarget<N> {
-    ghost own_span = { λ n. n.span };
-
-    fn span(&self) -> Span {
-        self.span
-    }
-}
-
-impl<N> GetSpan for AssignmentTargetWithDefault<N> {
-    ghost own_span = { λ n. n.span };
-
-    fn span(&self) -> Span {
-        self.span
-    }
-}
-
-impl<N> GetSpan for AssignmentTargetPropertyIdentifier<N> {
-    ghost own_span = { λ n. n.span };
-
-    fn span(&self) -> Span {
-        self.span
-    }
-}
-
-impl<N> GetSpan for AssignmentTargetPropertyProperty<N> {
-    ghost own_span = { λ n. n.span };
-
-    fn span(&self) -> Span {
-        self.span
-    }
-}
-
-impl<N> GetSpan for AssignmentTargetRest<N> {
-    ghost own_span = { λ n. n.span };
-
-    fn span(&self) -> Span {
-        self.span
-    }
-}
-
-impl GetSpan for PrivateIdentifier {
-    ghost own_span = { λ n. n.span };
-
-    fn span(&self) -> Span {
-        self.span
-    }
-}
-
-impl<N> GetSpan for PrivateFieldExpression<N> {
-    ghost own_span = { λ n. n.span };
-
-    fn span(&self) -> Span {
-        self.span
-    }
-}
-
-impl<N> GetSpan for PrivateInExpression<N> {
-    ghost own_span = { λ n. n.span };
-
-    fn span(&self) -> Span {
-        self.span
-    }
-}
-
-impl<N> GetSpan for Class<N> {
-    ghost own_span = { λ n. n.span };
-
-    fn span(&self) -> Span {
-        self.span
-    }
-}
-
-impl<N> GetSpan for ClassBody<N> {
-    ghost own_span = { λ n. n.span };
-
-    fn span(&self) -> Span {
-        self.span
-    }
-}
-
-impl<N> GetSpan for StaticBlock<N> {
-    ghost own_span = { λ n. n.span };
-
-    fn span(&self) -> Span {
-        self.span
-    }
-}
-
-impl<N> GetSpan for MethodDefinition<N> {
-    ghost own_span = { λ n. n.span };
-
-    fn span(&self) -> Span {
-        self.span
-    }
-}
-
-impl<N> GetSpan for PropertyDefinition<N> {
-    ghost own_span = { λ n. n.span };
-
-    fn span(&self) -> Span {
-        self.span
-    }
 }
 
 impl<N> GetSpan for Expression<N> {
@@ -736,6 +61,11 @@ impl<N> GetSpan for Expression<N> {
             Expression::Class(node) => node.span,
             Expression::PrivateFieldExpression(node) => node.span,
             Expression::PrivateInExpression(node) => node.span,
+            Expression::AwaitExpression(node) => node.span,
+            Expression::YieldExpression(node) => node.span,
+            Expression::TemplateLiteral(node) => node.span,
+            Expression::TaggedTemplateExpression(node) => node.span,
+            Expression::ImportExpression(node) => node.span,
         }
     }
 }
@@ -927,6 +257,12 @@ impl<N: GetSpan> GetSpan for Statement<N> {
             Statement::DebuggerStatement(node) => node.span,
             Statement::SwitchStatement(node) => node.span,
             Statement::TryStatement(node) => node.span,
+            Statement::ImportDeclaration(node) => node.span,
+            Statement::ExportDeclaration(node) => node.span,
+            Statement::ExportNamedDeclaration(node) => node.span,
+            Statement::ExportFromDeclaration(node) => node.span,
+            Statement::ExportAllDeclaration(node) => node.span,
+            Statement::ExportDefaultDeclaration(node) => node.span,
         }
     }
 }
@@ -952,6 +288,53 @@ impl<N> GetSpan for ClassElement<N> {
             ClassElement::StaticBlock(node) => node.span,
             ClassElement::MethodDefinition(node) => node.span,
             ClassElement::PropertyDefinition(node) => node.span,
+        }
+    }
+}
+
+impl GetSpan for ModuleExportName {
+    ghost own_span = { λ n. module_export_name_span n };
+
+    fn span(&self) -> Span {
+        match self {
+            ModuleExportName::IdentifierName(node) => node.span,
+            ModuleExportName::IdentifierReference(node) => node.span,
+            ModuleExportName::StringLiteral(node) => node.span,
+        }
+    }
+}
+
+impl GetSpan for ImportDeclarationSpecifier {
+    ghost own_span = { λ n. import_declaration_specifier_span n };
+
+    fn span(&self) -> Span {
+        match self {
+            ImportDeclarationSpecifier::ImportDefaultSpecifier(node) => node.span,
+            ImportDeclarationSpecifier::ImportNamespaceSpecifier(node) => node.span,
+            ImportDeclarationSpecifier::ImportSpecifier(node) => node.span,
+        }
+    }
+}
+
+impl GetSpan for ImportAttributeKey {
+    ghost own_span = { λ n. import_attribute_key_span n };
+
+    fn span(&self) -> Span {
+        match self {
+            ImportAttributeKey::IdentifierName(node) => node.span,
+            ImportAttributeKey::StringLiteral(node) => node.span,
+        }
+    }
+}
+
+impl<N: GetSpan> GetSpan for ExportDefaultDeclarationKind<N> {
+    ghost own_span = { λ n. export_default_declaration_kind_span N.own_span n };
+
+    fn span(&self) -> Span {
+        match self {
+            ExportDefaultDeclarationKind::Function(node) => node.span,
+            ExportDefaultDeclarationKind::Class(node) => node.span,
+            ExportDefaultDeclarationKind::Expression(node) => node.get().span(),
         }
     }
 }

@@ -3,6 +3,7 @@
 ghost use Rattle.std.specs.Prelude.{◌≡◌};
 ghost use Rattle.jsgen_tree.specs.Words.{kind_of_comment_word, content_of_comment_word, declaration_word};
 
+use crate::modules::Hashbang;
 use crate::nodes::{BindingPatternNode, ExpressionNode, Node, StatementNode};
 use crate::sets::PropertyKey;
 use jsgen_syntax::{SourceKind, Span};
@@ -99,6 +100,8 @@ pub struct Program<N = Node> {
     pub kind: SourceKind,
     /// The comments of the source. None is printed yet.
     pub comments: Vec<Comment>,
+    /// The first line of the source, where it begins with `#!`.
+    pub hashbang: Option<Box<Hashbang>>,
     pub directives: Vec<Directive>,
     pub body: Vec<StatementNode<N>>,
 }

@@ -1,7 +1,7 @@
 // Generated from tools/nodes/table.txt; edit that and run tools/nodes/generate.
 // The types of nodes, and the sets that a field's child may be of.
 ghost use Rattle.std.specs.Prelude.{◌≡◌};
-ghost use Rattle.jsgen_tree.specs.Sets.{in_set, is_expression, is_argument, is_array_expression_element, is_chain_element, is_simple_assignment_target, is_assignment_target_pattern, is_assignment_target, is_assignment_target_maybe_default, is_assignment_target_property, is_arrow_function_body, is_for_statement_init, is_for_statement_left, is_object_property_kind, is_property_key, is_declaration, is_statement, is_binding_pattern, is_class_element};
+ghost use Rattle.jsgen_tree.specs.Sets.{in_set, is_expression, is_argument, is_array_expression_element, is_chain_element, is_simple_assignment_target, is_assignment_target_pattern, is_assignment_target, is_assignment_target_maybe_default, is_assignment_target_property, is_arrow_function_body, is_for_statement_init, is_for_statement_left, is_object_property_kind, is_property_key, is_declaration, is_statement, is_binding_pattern, is_class_element, is_module_export_name, is_import_declaration_specifier, is_import_attribute_key, is_export_default_declaration_kind};
 
 /// The type of a node.
 #[derive(Clone, Copy, Debug, PartialEq, Eq)]
@@ -51,6 +51,12 @@ pub enum NodeType {
     Function,
     FunctionBody,
     ArrowFunctionExpression,
+    AwaitExpression,
+    YieldExpression,
+    TemplateElement,
+    TemplateLiteral,
+    TaggedTemplateExpression,
+    ImportExpression,
     ForStatement,
     ForInStatement,
     ForOfStatement,
@@ -86,12 +92,26 @@ pub enum NodeType {
     StaticBlock,
     MethodDefinition,
     PropertyDefinition,
+    Hashbang,
+    ImportDeclaration,
+    ImportDefaultSpecifier,
+    ImportNamespaceSpecifier,
+    ImportSpecifier,
+    WithClause,
+    ImportAttribute,
+    ExportDeclaration,
+    ExportNamedDeclaration,
+    ExportFromDeclaration,
+    ExportSpecifier,
+    ExportAllDeclaration,
+    ExportDefaultDeclaration,
 }
 
 /// What the child of a field may be: a member of a set, or a node of one type.
 #[derive(Clone, Copy, Debug, PartialEq, Eq)]
 pub enum NodeSet {
     Comment,
+    Hashbang,
     Directive,
     Statement,
     VariableDeclarator,
@@ -111,6 +131,8 @@ pub enum NodeSet {
     FormalParameters,
     FunctionBody,
     ArrowFunctionBody,
+    TemplateElement,
+    TemplateLiteral,
     ForStatementInit,
     ForStatementLeft,
     LabelIdentifier,
@@ -127,8 +149,18 @@ pub enum NodeSet {
     ClassBody,
     ClassElement,
     Function,
+    ImportDeclarationSpecifier,
+    StringLiteral,
+    WithClause,
+    ModuleExportName,
+    ImportAttribute,
+    ImportAttributeKey,
+    Declaration,
+    ExportSpecifier,
+    ExportDefaultDeclarationKind,
     Link,
     BindingElement,
+    ModuleItem,
 }
 
 impl NodeType {
@@ -138,6 +170,7 @@ impl NodeType {
     {
         match set {
             NodeSet::Comment => matches!(&self, NodeType::Comment),
+            NodeSet::Hashbang => matches!(&self, NodeType::Hashbang),
             NodeSet::Directive => matches!(&self, NodeType::Directive),
             NodeSet::Statement => self.is_statement(),
             NodeSet::VariableDeclarator => matches!(&self, NodeType::VariableDeclarator),
@@ -157,6 +190,8 @@ impl NodeType {
             NodeSet::FormalParameters => matches!(&self, NodeType::FormalParameters),
             NodeSet::FunctionBody => matches!(&self, NodeType::FunctionBody),
             NodeSet::ArrowFunctionBody => self.is_arrow_function_body(),
+            NodeSet::TemplateElement => matches!(&self, NodeType::TemplateElement),
+            NodeSet::TemplateLiteral => matches!(&self, NodeType::TemplateLiteral),
             NodeSet::ForStatementInit => self.is_for_statement_init(),
             NodeSet::ForStatementLeft => self.is_for_statement_left(),
             NodeSet::LabelIdentifier => matches!(&self, NodeType::LabelIdentifier),
@@ -173,8 +208,18 @@ impl NodeType {
             NodeSet::ClassBody => matches!(&self, NodeType::ClassBody),
             NodeSet::ClassElement => self.is_class_element(),
             NodeSet::Function => matches!(&self, NodeType::Function),
+            NodeSet::ImportDeclarationSpecifier => self.is_import_declaration_specifier(),
+            NodeSet::StringLiteral => matches!(&self, NodeType::StringLiteral),
+            NodeSet::WithClause => matches!(&self, NodeType::WithClause),
+            NodeSet::ModuleExportName => self.is_module_export_name(),
+            NodeSet::ImportAttribute => matches!(&self, NodeType::ImportAttribute),
+            NodeSet::ImportAttributeKey => self.is_import_attribute_key(),
+            NodeSet::Declaration => self.is_declaration(),
+            NodeSet::ExportSpecifier => matches!(&self, NodeType::ExportSpecifier),
+            NodeSet::ExportDefaultDeclarationKind => self.is_export_default_declaration_kind(),
             NodeSet::Link => self.is_expression(),
             NodeSet::BindingElement => self.is_binding_pattern(),
+            NodeSet::ModuleItem => self.is_statement(),
         }
     }
 
@@ -215,6 +260,11 @@ impl NodeType {
                 | NodeType::Class
                 | NodeType::PrivateFieldExpression
                 | NodeType::PrivateInExpression
+                | NodeType::AwaitExpression
+                | NodeType::YieldExpression
+                | NodeType::TemplateLiteral
+                | NodeType::TaggedTemplateExpression
+                | NodeType::ImportExpression
         )
     }
 
@@ -256,6 +306,11 @@ impl NodeType {
                 | NodeType::Class
                 | NodeType::PrivateFieldExpression
                 | NodeType::PrivateInExpression
+                | NodeType::AwaitExpression
+                | NodeType::YieldExpression
+                | NodeType::TemplateLiteral
+                | NodeType::TaggedTemplateExpression
+                | NodeType::ImportExpression
         )
     }
 
@@ -297,6 +352,11 @@ impl NodeType {
                 | NodeType::Class
                 | NodeType::PrivateFieldExpression
                 | NodeType::PrivateInExpression
+                | NodeType::AwaitExpression
+                | NodeType::YieldExpression
+                | NodeType::TemplateLiteral
+                | NodeType::TaggedTemplateExpression
+                | NodeType::ImportExpression
         )
     }
 
@@ -416,6 +476,11 @@ impl NodeType {
                 | NodeType::Class
                 | NodeType::PrivateFieldExpression
                 | NodeType::PrivateInExpression
+                | NodeType::AwaitExpression
+                | NodeType::YieldExpression
+                | NodeType::TemplateLiteral
+                | NodeType::TaggedTemplateExpression
+                | NodeType::ImportExpression
         )
     }
 
@@ -457,6 +522,11 @@ impl NodeType {
                 | NodeType::Class
                 | NodeType::PrivateFieldExpression
                 | NodeType::PrivateInExpression
+                | NodeType::AwaitExpression
+                | NodeType::YieldExpression
+                | NodeType::TemplateLiteral
+                | NodeType::TaggedTemplateExpression
+                | NodeType::ImportExpression
         )
     }
 
@@ -522,6 +592,11 @@ impl NodeType {
                 | NodeType::Class
                 | NodeType::PrivateFieldExpression
                 | NodeType::PrivateInExpression
+                | NodeType::AwaitExpression
+                | NodeType::YieldExpression
+                | NodeType::TemplateLiteral
+                | NodeType::TaggedTemplateExpression
+                | NodeType::ImportExpression
         )
     }
 
@@ -561,6 +636,12 @@ impl NodeType {
                 | NodeType::DebuggerStatement
                 | NodeType::SwitchStatement
                 | NodeType::TryStatement
+                | NodeType::ImportDeclaration
+                | NodeType::ExportDeclaration
+                | NodeType::ExportNamedDeclaration
+                | NodeType::ExportFromDeclaration
+                | NodeType::ExportAllDeclaration
+                | NodeType::ExportDefaultDeclaration
         )
     }
 
@@ -584,6 +665,80 @@ impl NodeType {
         matches!(
             &self,
             NodeType::StaticBlock | NodeType::MethodDefinition | NodeType::PropertyDefinition
+        )
+    }
+
+    /// Whether nodes of this type are in `ModuleExportName`.
+    pub fn is_module_export_name(self) -> bool
+        ensures { result ≡ is_module_export_name self }
+    {
+        matches!(
+            &self,
+            NodeType::IdentifierName | NodeType::IdentifierReference | NodeType::StringLiteral
+        )
+    }
+
+    /// Whether nodes of this type are in `ImportDeclarationSpecifier`.
+    pub fn is_import_declaration_specifier(self) -> bool
+        ensures { result ≡ is_import_declaration_specifier self }
+    {
+        matches!(
+            &self,
+            NodeType::ImportDefaultSpecifier
+                | NodeType::ImportNamespaceSpecifier
+                | NodeType::ImportSpecifier
+        )
+    }
+
+    /// Whether nodes of this type are in `ImportAttributeKey`.
+    pub fn is_import_attribute_key(self) -> bool
+        ensures { result ≡ is_import_attribute_key self }
+    {
+        matches!(&self, NodeType::IdentifierName | NodeType::StringLiteral)
+    }
+
+    /// Whether nodes of this type are in `ExportDefaultDeclarationKind`.
+    pub fn is_export_default_declaration_kind(self) -> bool
+        ensures { result ≡ is_export_default_declaration_kind self }
+    {
+        matches!(
+            &self,
+            NodeType::Function
+                | NodeType::Class
+                | NodeType::IdentifierReference
+                | NodeType::ThisExpression
+                | NodeType::NullLiteral
+                | NodeType::BooleanLiteral
+                | NodeType::NumericLiteral
+                | NodeType::BigIntLiteral
+                | NodeType::StringLiteral
+                | NodeType::RegExpLiteral
+                | NodeType::BinaryExpression
+                | NodeType::LogicalExpression
+                | NodeType::ParenthesizedExpression
+                | NodeType::StaticMemberExpression
+                | NodeType::ComputedMemberExpression
+                | NodeType::CallExpression
+                | NodeType::ChainExpression
+                | NodeType::ArrayExpression
+                | NodeType::ObjectExpression
+                | NodeType::UnaryExpression
+                | NodeType::UpdateExpression
+                | NodeType::NewExpression
+                | NodeType::NewTarget
+                | NodeType::Super
+                | NodeType::ImportMeta
+                | NodeType::ConditionalExpression
+                | NodeType::SequenceExpression
+                | NodeType::AssignmentExpression
+                | NodeType::ArrowFunctionExpression
+                | NodeType::PrivateFieldExpression
+                | NodeType::PrivateInExpression
+                | NodeType::AwaitExpression
+                | NodeType::YieldExpression
+                | NodeType::TemplateLiteral
+                | NodeType::TaggedTemplateExpression
+                | NodeType::ImportExpression
         )
     }
 }

@@ -3,7 +3,7 @@ use Rattle.std.specs.Prelude.{ℕ, List, [], ◌∷◌, false, flat_map, codes}
 use Rattle.std.specs.Char.Escape.{encode_utf16}
 use Rattle.jsgen_syntax.specs.declared.span.SourceKind.TheVariants.{Module}
 use Rattle.jsgen_tree.specs.Atom.{Atom, no_value, text, units, flag, source_kind}
-use Rattle.jsgen_tree.specs.Tree.{Tree, Atoms, no_trees, trees}
+use Rattle.jsgen_tree.specs.Tree.{Tree, Atoms, absent, no_trees, trees}
 use Rattle.jsgen_tree.specs.Nodes as tree
 use Rattle.jsgen_tree.specs.Options.{default_options}
 use Rattle.jsgen_tree.specs.Job.{JobData, no_tables}
@@ -34,7 +34,7 @@ statement expression = tree.expression_statement (holds []) expression
 
 -- a module of one statement, without a source
 abbrev pub only : Tree → Tree
-only s = tree.program (holds (text [] ∷ source_kind Module ∷ no_value ∷ no_value ∷ [])) no_trees no_trees (trees (s ∷ []))
+only s = tree.program (holds (text [] ∷ source_kind Module ∷ no_value ∷ no_value ∷ [])) no_trees absent no_trees (trees (s ∷ []))
 
 abbrev pub console_log : Tree
 console_log = member (reference (codes "console")) (codes "log")

@@ -122,6 +122,7 @@ pub fn only(alloc: Global, statement: StatementNode) -> Result<Program, Memory>
         source: String::new(alloc),
         kind: SourceKind::Module,
         comments: Vec::new(alloc),
+        hashbang: None,
         directives: Vec::new(alloc),
         body,
     })

@@ -43,14 +43,6 @@ test("a word that is unknown, and a file that isn't there, are one line and the 
   assert.match(ran("print", []).err, /^one file is wanted\nusage: /);
 });
 
-test("what isn't read is refused by print with its place", () => {
-  withFile("a;\nimport \"b\";\n", (file) => {
-    const { status, out, err } = ran("print", [file]);
-    assert.deepEqual([status, out], [1, ""]);
-    assert.match(err, /^ImportDeclaration in line 2, column 1 is not read yet\n/);
-  });
-});
-
 test("print writes a source file, minified where that is asked", { skip: unbuilt }, () => {
   withFile("const  a = f ( 1+2 , 'b' )", (file) => {
     assert.equal(ran("print", [file]).out, 'const a = f(1 + 2, "b");\n');
@@ -58,11 +50,11 @@ test("print writes a source file, minified where that is asked", { skip: unbuilt
   });
 });
 
-test("roundtrip cuts a file down, prints it and counts", { skip: unbuilt }, () => {
+test("roundtrip prints a file and counts", { skip: unbuilt }, () => {
   withFile("function f() { return a + b * 3 }\nclass B { c() { d(e[1]) } }\n", (file, folder) => {
     const { status, out } = ran("roundtrip", [folder, "--random", "3"]);
     assert.equal(status, 0);
-    assert.match(out, /^4 programs, /);
+    assert.match(out, /^4 programs; /);
     assert.match(out, / 0 bad; /);
   });
 });
@@ -78,12 +70,12 @@ function tripOf(source, printed) {
 }
 
 test("roundtrip tells file, line and what differs", () => {
-  const source = "export {};\nf();\ng(1);\n";
+  const source = "f();\ng(1);\n";
   const other = tripOf(source, "f();\ng(\n  2);");
   assert.equal(other.status, 1);
-  assert.ok(other.err.includes(`${other.file}:3: pretty: `), other.err);
+  assert.ok(other.err.includes(`${other.file}:2: pretty: `), other.err);
   assert.match(other.err, /\/arguments\/.*: "1" and "2"\n {2}printed: "f\(\);\\ng\(\\n {2}2\);\\n"/);
   const unparsed = tripOf(source, "f();\ng(;");
-  assert.ok(unparsed.err.includes(`${unparsed.file}:2: pretty: what is printed does not parse: `), unparsed.err);
-  assert.match(unparsed.out, /^1 programs, 0 of them whole; .* 16 bad; /);
+  assert.ok(unparsed.err.includes(`${unparsed.file}:1: pretty: what is printed does not parse: `), unparsed.err);
+  assert.match(unparsed.out, /^1 programs; .* 16 bad; /);
 });

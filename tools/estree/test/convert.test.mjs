@@ -95,10 +95,11 @@ test("parentheses are rows where the tree has them, but for those of a target", 
 });
 
 test("what isn't read yet is named with its place", () => {
-  const source = "a;\n  import \"b\";";
-  assert.throws(() => jobOf(parsed(source), { source }), {
+  const source = "a;\n  <b/>;";
+  const statement = { type: "ExpressionStatement", expression: { type: "JSXElement", start: 5, end: 9 } };
+  assert.throws(() => jobOf({ type: "Program", sourceType: "module", body: [statement] }, { source }), {
     name: "NotRead",
-    message: "ImportDeclaration in line 2, column 3 is not read yet",
+    message: "JSXElement in line 2, column 3 is not read yet",
   });
 });
 
@@ -164,23 +165,67 @@ test("functions have their kind, their parameters and their bodies, with directi
   assert.deepEqual(properties.map(({ kind, method }) => [kind, method]), [["init", true], ["get", undefined], ["set", undefined]]);
 });
 
-const NOT_READ_YET = [
-  ["f(async () => a)", "is_async of ArrowFunctionExpression in line 1, column 3 is not read yet"],
-  ["async function f() {}", "is_async of Function in line 1, column 1 is not read yet"],
-  ["function* f() {}", "generator of Function in line 1, column 1 is not read yet"],
-  ["f({ async g() {} })", "is_async of Function in line 1, column 12 is not read yet"],
-  ["for await (a of b) c", "is_await of ForOfStatement in line 1, column 1 is not read yet"],
-  ["f((a = `${b}`) => a)", "TemplateLiteral in line 1, column 8 is not read yet"],
-  ["let { a = `b` } = c", "TemplateLiteral in line 1, column 11 is not read yet"],
-  ["class A { async b() {} }", "is_async of Function in line 1, column 18 is not read yet"],
-  ["class A { *b() {} }", "generator of Function in line 1, column 13 is not read yet"],
-  ["export class A {}", "ExportNamedDeclaration in line 1, column 1 is not read yet"],
-  ["await a", "AwaitExpression in line 1, column 1 is not read yet"],
-];
+test("functions that are `async` and generators have their flags, and what they wait for and give", () => {
+  const of = (source, ...types) => rowsOf(source).filter(({ type }) => types.includes(type));
+  assert.deepEqual(of("async function f() { await a }", "Function", "AwaitExpression"), [
+    { type: "AwaitExpression", argument: 2 },
+    { type: "Function", kind: "declaration", id: 0, is_async: true, params: 1, body: 5 },
+  ]);
+  assert.deepEqual(of("function* f() { yield; yield* a }", "Function", "YieldExpression"), [
+    { type: "YieldExpression" },
+    { type: "YieldExpression", delegate: true, argument: 4 },
+    { type: "Function", kind: "declaration", id: 0, generator: true, params: 1, body: 7 },
+  ]);
+  assert.deepEqual(of("f(async () => a)", "ArrowFunctionExpression").map((row) => row.is_async), [true]);
+  assert.deepEqual(of("f({ async *g() {} })", "Function").map((row) => [row.is_async, row.generator]), [[true, true]]);
+  assert.deepEqual(of("for await (a of b) c", "ForOfStatement").map((row) => row.is_await), [true]);
+});
 
-for (const [source, message] of NOT_READ_YET) {
-  test(`${source} is refused`, () => assert.throws(() => jobOf(parsed(source), { source }), { name: "NotRead", message }));
-}
+test("templates have their pieces, by how they are written and what they stand for", () => {
+  assert.deepEqual(rowsOf("f`a\\u${b}\\n`").slice(0, -2), [
+    { type: "IdentifierReference", name: "f" },
+    { type: "TemplateElement", raw: "a\\u" },
+    { type: "TemplateElement", raw: "\\n", cooked: "\n" },
+    { type: "IdentifierReference", name: "b" },
+    { type: "TemplateLiteral", quasis: [1, 2], expressions: [3] },
+    { type: "TaggedTemplateExpression", tag: 0, quasi: 4 },
+  ]);
+});
+
+test("imports have their specifiers, and an empty list of them is told from none by the source", () => {
+  assert.deepEqual(rowsOf('import a, { b as c, "d e" as f } from "x"').slice(0, -1), [
+    { type: "BindingIdentifier", name: "a" },
+    { type: "ImportDefaultSpecifier", local: 0 },
+    { type: "BindingIdentifier", name: "c" },
+    { type: "IdentifierName", name: "b" },
+    { type: "ImportSpecifier", import_kind: "value", imported: 3, local: 2 },
+    { type: "BindingIdentifier", name: "f" },
+    { type: "StringLiteral", value: "d e" },
+    { type: "ImportSpecifier", import_kind: "value", imported: 6, local: 5 },
+    { type: "StringLiteral", value: "x" },
+    { type: "ImportDeclaration", import_kind: "value", specifiers: [1, 4, 7], source: 8 },
+  ]);
+  const specifiers = (source) => jobOf(parsed(source), { source }).rows.at(-2).specifiers;
+  assert.deepEqual(specifiers('import {} from "x"'), []);
+  assert.equal(specifiers('import /* {} */ "x"'), undefined);
+});
+
+test("exports are declarations, references, names of another module, or the default", () => {
+  const types = (source) => rowsOf(source).slice(0, -1).map(({ type }) => type);
+  assert.deepEqual(types("export let a"), ["BindingIdentifier", "VariableDeclarator", "VariableDeclaration", "ExportDeclaration"]);
+  assert.deepEqual(types("let a; export { a as b }").slice(3), ["IdentifierReference", "IdentifierName", "ExportSpecifier", "ExportNamedDeclaration"]);
+  assert.deepEqual(types('export { a as "b" } from "x"'), ["IdentifierName", "StringLiteral", "ExportSpecifier", "StringLiteral", "ExportFromDeclaration"]);
+  assert.deepEqual(types('export * as a from "x"'), ["IdentifierName", "StringLiteral", "ExportAllDeclaration"]);
+  assert.deepEqual(types("export default function () {}"), ["FormalParameters", "FunctionBody", "Function", "ExportDefaultDeclaration"]);
+  assert.deepEqual(types("export default a"), ["IdentifierReference", "ExportDefaultDeclaration"]);
+});
+
+test("a hashbang is the first line", () => {
+  const source = "#!/usr/bin/env node\na";
+  const { rows } = jobOf(parsed(source), { source });
+  assert.deepEqual(rows[0], { type: "Hashbang", span: [0, 19], value: "/usr/bin/env node" });
+  assert.equal(rows.at(-1).hashbang, 0);
+});
 
 // As Babel gives it with its plugin `estree`: nodes have members that acorn's don't have.
 function babelArrow(params, rest = {}) {

@@ -42,9 +42,9 @@ function tripIn(folder, words) {
 async function allCameBack(t, what, trips) {
   const ended = await Promise.all(trips);
   assert.ok(ended.every(({ status }) => status === 0), ended.map(({ out, err }) => `${err}${out}`).join(""));
-  const counts = ended.map(({ out }) => /^(\d+) programs, (\d+) of them whole; .*; (\d+) runs, 0 bad; /.exec(out).slice(1).map(Number));
-  const [programs, whole, runs] = [0, 1, 2].map((at) => counts.reduce((sum, count) => sum + count[at], 0));
-  t.diagnostic(`${what}: ${programs} programs, ${whole} of them whole files, ${runs} runs`);
+  const counts = ended.map(({ out }) => /^(\d+) programs; .*; (\d+) runs, 0 bad; /.exec(out).slice(1).map(Number));
+  const [programs, runs] = [0, 1].map((at) => counts.reduce((sum, count) => sum + count[at], 0));
+  t.diagnostic(`${what}: ${programs} programs, ${runs} runs`);
   return programs;
 }
 

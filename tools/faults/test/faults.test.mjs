@@ -63,7 +63,9 @@ test("the fields of a type are in order, with their sets and words", () => {
   const [elements] = format.types.get("ArrayExpression");
   assert.ok(elements.isList && elements.hasHoles && elements.types.has("SpreadElement") && elements.types.has("Super"));
   assert.ok(format.types.get("BinaryExpression")[0].words.includes("|"));
-  assert.ok(format.types.get("Program").find(({ name }) => name === "hashbang").isUnread);
+  assert.ok(format.types.get("Program").find(({ name }) => name === "jsx").isUnread);
+  const specifiers = format.types.get("ImportDeclaration").find(({ name }) => name === "specifiers");
+  assert.ok(specifiers.isList && !specifiers.hasHoles && !specifiers.isNeeded);
   assert.ok(format.options.get("minify").kind === "flag" && format.options.get("legal").words.includes("linked"));
   const kindsOf = (...names) => names.map((name) => format.options.get(name).kind);
   assert.deepEqual(kindsOf("indent_char", "indent_width", "initial_indent", "legal_path"), ["word", "whole", "number", "text"]);

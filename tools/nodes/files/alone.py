@@ -29,7 +29,8 @@ PLACES = {"itself": ("(at_level Lowest context)", "Place::at_level(Precedence::L
           "head": ("loop_head", "Place::loop_head()", "loop_head")}
 
 # What is printed by itself by a function of another form; and what has no children but a label.
-OTHERWISE, LABELLED = ("PropertyKey", "ForStatementLeft", "SwitchCase", "ClassElement"), ("ContinueStatement", "BreakStatement")
+OTHERWISE = ("PropertyKey", "ForStatementLeft", "SwitchCase", "ClassElement", "ModuleExportName", "ExportDefaultDeclarationKind")
+LABELLED = ("ContinueStatement", "BreakStatement")
 
 
 def at_level(name):
@@ -105,9 +106,9 @@ def is_chosen_here(table, name):
 def of_file(table, types):
     ghosts = [("Rattle.jsgen_tree.specs.Tree", ["type_of"])] + row_names(table)
     ghosts += [("Rattle.jsgen_syntax.specs.declared.precedence.Precedence.TheVariants", ["Lowest", "Comma"]),
-               ("Rattle.jsgen_place.specs.Place", ["at_level", "in_brackets", "among_statements", "loop_head"]),
+               ("Rattle.jsgen_place.specs.Place", ["at_level", "in_brackets", "among_statements", "within_statement", "loop_head", "plainly"]),
                ("Rattle.jsgen_model.specs.Items", ["◌⊕◌", "due_semicolon"]),
-               ("Rattle.jsgen_model.specs.Spell", ["spell", "key_text", "left_place", "element_end"])]
+               ("Rattle.jsgen_model.specs.Spell", ["spell", "key_text", "left_place", "element_end", "default_items", "is_declared"])]
     homes = print_functions(table, "jsgen_nodes")
     homes += [("jsgen_nodes::sets", [f"print_{snake(s.name)}" for s in table.nesting() + chosen(table)]),
               ("crate", ["PrintAlone", "PrintAtLevel"]), ("jsgen_nodes", ["InClass", "Inside", "PrintNode"]),
@@ -160,6 +161,10 @@ def spelled(table, name):
         return f"due_semicolon ⊕ {items}"
     if name == "ClassElement":
         return f"{items} ⊕ element_end (type_of {tree})"
+    if name == "ModuleExportName":
+        return f"spell {tree} plainly"
+    if name == "ExportDefaultDeclarationKind":
+        return f"default_items (is_declared {tree}) (spell {tree} within_statement) (spell {tree} (in_brackets Comma))"
     return f"key_text {tree} ({items})" if name == "PropertyKey" else items
 
 
@@ -172,6 +177,10 @@ def body(table, name, at):
         return f"p.print_due_semicolon();\n        print_switch_case(self, p, {at});"
     if name == "ClassElement":
         return f"print_ended_element(self, p, {at});"
+    if name == "ModuleExportName":
+        return "print_module_export_name(self, p);"
+    if name == "ExportDefaultDeclarationKind":
+        return "print_export_default_declaration_kind(self, p);"
     if not is_chosen_here(table, name):
         return f"print_{snake(name)}{turbofish(table, name)}(self, p, {at});"
     arms = "".join(f"            {name}::{m}(node) => {printed(table, m)},\n" for m in table.sets[name].members)

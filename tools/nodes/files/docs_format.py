@@ -49,7 +49,7 @@ def value(table, f):
         return VALUES[f.kind] + (", or absent" if f.many == "?" else "") + (", empty where it is absent" if f.default == '""' else "") \
             + (f", {'true only' if f.kind == 'flag' else 'needed'} where `kind` is `{f.only_for}`" if f.only_for else "")
     if f.is_list:
-        holes = ", with `null` in the place of one that is left out" if f.many == "?*" else ""
+        holes = {"?*": ", with `null` in the place of one that is left out", "*?": ", or absent"}.get(f.many, "")
         return f"a list of {plural(f.kind) if f.kind in table.sets else f'`{f.kind}`'}{holes}"
     name = f"`{f.kind}`" if f.kind in table.nodes else snake(f.kind).replace("_", " ")
     return f"{'an' if f.kind[0] in 'AEIOU' else 'a'} {name}{', or absent' if f.many == '?' else ''}"

@@ -16,7 +16,12 @@ SPECS = "Rattle.jsgen_nodes.specs.Parts"
 PROOFS = "Rattle.jsgen_nodes.proofs"
 
 # The sets that print otherwise than their members do elsewhere.
-OF_THEIR_OWN = ("PropertyKey", "ChainElement", "ForStatementLeft")
+OF_THEIR_OWN = ("PropertyKey", "ChainElement", "ForStatementLeft", "ModuleExportName", "ImportDeclarationSpecifier", "ExportDefaultDeclarationKind")
+
+# The types of a file of a crate below that are printed here, since functions and classes stand in them; and the sets that a crate
+# below prints by hand.
+ABOVE = ("ExportDefaultDeclaration",)
+OTHERS = {"jsgen_modules": ["print_module_export_name"]}
 
 
 def write(table):
@@ -33,7 +38,7 @@ def write(table):
     for s in divided(table):
         for at in range(len(parts(table, s))):
             files[f"crates/jsgen_nodes/proofs/sets/{function_name(table, s, at)}/Answers.antt"] = answers(table, s, at)
-    for s in chosen(table):
+    for s in chosen(table) + [s for s in table.nesting() if s not in divided(table)]:
         files[f"crates/jsgen_nodes/proofs/sets/print_{snake(s.name)}/Answers.antt"] = choice_answers(table, s)
     return files
 
@@ -43,7 +48,8 @@ def print_functions(table, at):
     files = [p for p in sorted((CRATE / "src").glob("*.rt")) if p.name not in ("sets.rt", "lib.rt")]
     by_hand = [(f"{at}::{p.stem}", re.findall(r"pub fn (print_\w+)", p.read_text())) for p in files]
     below = [(crate, [f"print_{snake(n.name)}" for n in spelled(table, crate)]) for crate in crates(table)]
-    below += [(crate, [f"print_{snake(n.name)}" for n in table.nodes.values() if n.file == file])
+    here = {name for _, names in by_hand for name in names}
+    below += [(crate, [name for n in table.nodes.values() if n.file == file and (name := f"print_{snake(n.name)}") not in here] + OTHERS.get(crate, []))
               for file, crate in table.print_crates.items() if is_by_hand(table, crate)]
     return by_hand + below + [("jsgen_inside", [f"print_{snake(name)}" for name in BY_HAND_BELOW])]
 
@@ -62,7 +68,7 @@ def is_by_hand(table, crate):
 
 def is_below(table, n):
     """Whether a type is printed in a crate below: by its spelling, or by hand."""
-    return n.spelling or is_by_hand(table, table.print_crates[n.file])
+    return n.spelling or is_by_hand(table, table.print_crates[n.file]) and n.name not in ABOVE
 
 
 # ---- the parts of a choice

@@ -122,10 +122,17 @@ def opened(table, n, name, boxed, motive, there, then):
         def each(there):
             return f"(λ {child}. {step(i + 1, there | {child: child})})"
 
+        def of_member(m):
+            def then(there):
+                return f"(λ {child}. {step(i + 1, there | {child: (child, m)})})"
+
+            if m in table.nodes and to_open(table, table.nodes[m]):
+                return " " + opened(table, table.nodes[m], child, True, "_", there, then)
+            return f" {then(there)}"
+
         if is_inner_set(table, f.kind):
             none = f" {step(i + 1, there | {child: None})}" if f.many == "?" else ""
-            cases = "".join(f" (λ {child}. {step(i + 1, there | {child: (child, m)})})" for m in table.sets[f.kind].members)
-            return f"({by}{none}{cases})"
+            return f"({by}{none}{''.join(of_member(m) for m in table.sets[f.kind].members)})"
 
         given = opened(table, table.nodes[f.kind], child, True, "_", there, each) if f.kind in table.nodes else each(there)
         return f"({by} {step(i + 1, there | {child: None})} {given})" if f.many == "?" else f"({by} {given})"

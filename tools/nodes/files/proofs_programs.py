@@ -3,7 +3,7 @@ particular to a type is proved by hand, in FormedRows.antt."""
 
 import layout
 from files.proofs_cases import CASES, aliases, is_inner_set, lemma_names, needs_steps, opened, to_open, variant
-from names import DECLARED, MODEL, SPECS, TREE, sets_in_antt
+from names import DECLARED, MODEL, SPECS, TREE, row_names, sets_in_antt
 from table import snake
 
 # The types of which more is asked than their children: what is shown of the node itself.
@@ -13,15 +13,23 @@ OWN = {"NumericLiteral": "number_is_formed {}.span {}.value {}.fits", "StringLit
 def write(table):
     clauses = [of_set(table, s) for s in table.nesting()]
     layer = "".join(f"\n  layer_is_formed (opened.{s.name} n) = {snake(s.name)}_is_formed n" for s in table.nesting())
-    body = "module _ {A : Type 0} (f : A → Node) (h : (a : A) → IsFormed (node_plain (f a))) where\n" + "\n\n".join(clauses) + f"""
+    leaves = "".join(of_leaves(table, s) + "\n\n" for s in table.sets.values() if not s.nests and not table.generic(s.name))
+    body = leaves + "module _ {A : Type 0} (f : A → Node) (h : (a : A) → IsFormed (node_plain (f a))) where\n" + "\n\n".join(clauses) + f"""
 
   pub layer_is_formed : (y : Node-F A) → IsFormed (layer (map-Node Node Tree node_plain (map-Node A Node f y))){layer}"""
     homes = [("Rattle.std.proofs.Common", ["refl"]), ("Rattle.std.proofs.lemmas.Bool", ["and_from"]), (f"{SPECS}.Plain", ["node_plain", "layer"]), (CASES, lemma_names(table)),
-             (f"{DECLARED}.nodes.Node", ["Node", "Node-F", "map-Node"])] + TREE + sets_in_antt(table)
-    homes += [("Rattle.jsgen_tree.proofs.Layers", ["with_hole"]), (f"{MODEL}.proofs.FormedRows", ["IsFormed", "no_hole", "all_formed", "no_hole_changed", "all_changed", "all_changed_or_holes", "if_given_formed", "number_is_formed", "string_is_formed"])]
+             (f"{DECLARED}.nodes.Node", ["Node", "Node-F", "map-Node"])] + TREE + row_names(table) + sets_in_antt(table)
+    homes += [("Rattle.jsgen_tree.proofs.Layers", ["with_hole"]), (f"{MODEL}.proofs.FormedRows", ["IsFormed", "no_hole", "all_formed", "no_hole_changed", "all_changed", "all_changed_or_holes", "if_given_formed", "no_hole_if_listed", "all_formed_if_listed", "number_is_formed", "string_is_formed"])]
     every = [(f"{DECLARED}.nodes.Node.TheOpen", "opened")] + aliases(table)
     about = "A node of Rust is formed where its children are."
     return {"crates/jsgen_model/proofs/Programs.antt": layout.antt(about, homes, every, body)}
+
+
+def of_leaves(table, s):
+    """Why each member of a set is formed, in which nothing nests."""
+    name, of = f"{snake(s.name)}_is_formed", s.name
+    clauses = "".join(f"\n{name} {variant(s, m)} = {row(table, table.nodes[m], 'b.value', 'n', {})}" for m in s.members)
+    return f"{name} : (n : {of}) → IsFormed (in_{snake(s.name)} n){clauses}"
 
 
 def of_set(table, s):
@@ -60,7 +68,7 @@ def row(table, n, at, name, there):
 def itself(table, n, at):
     if n.name in OWN:
         return OWN[n.name].replace("{}", at)
-    lists = [whole_list(table, f, at) for f in table.children(n) if f.many == "*"]
+    lists = [whole_list(table, f, at) for f in table.children(n) if f.many in ("*", "*?")]
     if len(lists) > 2:
         raise SystemExit(f"{n.name}: that a type with three lists is formed has no proof yet")
     return f"and_from _ _ ({lists[0]}) ({lists[1]})" if len(lists) == 2 else lists[0] if lists else "refl"
@@ -68,36 +76,45 @@ def itself(table, n, at):
 
 def whole_list(table, f, at):
     """Why a list has no hole."""
+    if f.many == "*?":
+        return f"no_hole_if_listed _ {at}.{f.rust}"
     return f"no_hole_changed _ _ _ {at}.{f.rust}.items" if needs_steps(table, f) else f"no_hole _ {at}.{f.rust}.items"
+
+
+def leaf(table, kind, at, name):
+    """Why a child at this place is formed, in which nothing nests."""
+    return row(table, table.nodes[kind], at, name, {}) if kind in table.nodes else f"{snake(kind)}_is_formed {at}"
 
 
 def child(table, f, at, name, there):
     if f.many == "*" and not needs_steps(table, f):
-        return f"all_formed _ (λ d. {row(table, table.nodes[f.kind], 'd', name, {})}) {at}.items"
+        return f"all_formed _ (λ d. {leaf(table, f.kind, 'd', name)}) {at}.items"
+    if f.many == "*?" and not needs_steps(table, f):
+        return f"all_formed_if_listed _ (λ d. {leaf(table, f.kind, 'd', name)}) {at}"
+    if f.many == "*?":
+        raise SystemExit(f"{f.name}: a list that may be absent, of what nests, has no form yet")
     if f.many == "*":
         return f"all_changed _ _ _ {one_of_many(table, f.kind)} {at}.items"
     if f.many == "?*":
         return f"all_changed_or_holes _ _ _ (with_hole _ tt {one_of_many(table, f.kind)}) {at}.items"
     if f.many == "?" and not needs_steps(table, f):
-        return f"if_given_formed _ (λ b. {row(table, table.nodes[f.kind], 'b.value', name, {})}) {at}"
+        return f"if_given_formed _ (λ b. {leaf(table, f.kind, 'b.value' if f.kind in table.nodes else 'b', name)}) {at}"
     if f.many == "?" and not there[name]:
         return "tt"
     if is_inner_set(table, f.kind):
-        here, member = there[name] if name in there else (None, None)
-        if here is None:
-            raise SystemExit(f"{f.name}: {f.kind}: a set without any that nests, as a child alone, has no form yet")
-        return in_box(table, member, here)
+        if name not in there:
+            return leaf(table, f.kind, at, name)
+        here, member = there[name]
+        return in_box(table, member, here, name, there)
     here = there.get(name) or at
     return row(table, table.nodes[f.kind], f"{here}.value", name, there) if f.kind in table.nodes else f"h {here}.node"
 
 
-def in_box(table, name, box):
-    """Why the member of a set in this box is formed."""
+def in_box(table, name, box, child="n", there={}):
+    """Why the member of a set in this box is formed, where what is optional in it is opened."""
     if name in table.sets:
         return f"h {box}.value.node"
-    if to_open(table, table.nodes[name]):
-        raise SystemExit(f"{name}: in a set that is a child alone, a type that has to be opened has no form yet")
-    return row(table, table.nodes[name], f"{box}.value", "n", {})
+    return row(table, table.nodes[name], f"{box}.value", child, there)
 
 
 def each_box(table, name):

@@ -1,10 +1,10 @@
-"""The reader's src/child_sets.rt, src/members.rt and src/asked.rt: what is made of a row at a place for children of each set; and
+"""The reader's src/child_sets.rt, src/child_nodes.rt, src/child_types.rt, src/members.rt and src/asked.rt: what is made of a row at a place for children of each set; and
 src/set_fields.rt: the readers of fields that hold them."""
 
 import layout
 from files import rows_kept
 from files.rows_kept import groups, held, holds, inner, kept, large, outer, own, parameter, plain_of_set
-from files.rows_sets import rules_of
+from files.rows_sets import rules_home, rules_of
 from names import READER, SPECS, TYPES, plain_of, row_names
 from table import snake
 
@@ -13,8 +13,11 @@ CHILD = """ensures {{ IfOk result (λ child. option_map {plain} child
 
 
 def write(table):
-    return {"crates/jsgen_fields/src/child_sets.rt": impls(table), "crates/jsgen_fields/src/members.rt": members(table),
-            "crates/jsgen_fields/src/set_fields.rt": readers(table), "crates/jsgen_fields/src/kept.rt": rows(table),
+    of_sets = impls(table, "a member of the set that the place is for, which doesn't nest", [(name, boxed) for name, boxed in places(table) if name in table.sets and not table.sets[name].nests])
+    of_nodes = impls(table, "a member of the set that the place is for, which nests", [(name, boxed) for name, boxed in places(table) if name in table.sets and table.sets[name].nests])
+    of_types = impls(table, "a node of the type that the place is for", [(name, boxed) for name, boxed in places(table) if name in table.nodes])
+    return {"crates/jsgen_fields/src/child_sets.rt": of_sets, "crates/jsgen_fields/src/child_nodes.rt": of_nodes, "crates/jsgen_fields/src/child_types.rt": of_types, "crates/jsgen_fields/src/members.rt": members(table),
+            "crates/jsgen_fields/src/set_fields.rt": readers(table, False), "crates/jsgen_fields/src/list_fields.rt": readers(table, True), "crates/jsgen_fields/src/kept.rt": rows(table),
             "crates/jsgen_fields/src/asked.rt": asked(table)}
 
 
@@ -57,7 +60,7 @@ def ghosts_of(table):
 
 
 def file_of(table, about, homes, body):
-    tree = list(table.nodes) + list(table.sets) + [s.name + "Node" for s in table.nesting()] + ["NodeSet"]
+    tree = list(table.nodes) + list(table.sets) + list(table.words) + [s.name + "Node" for s in table.nesting()] + ["NodeSet"]
     homes = homes + [("crate::asked", ["Child", "PlainNode"] + [holds(s) for s in table.nesting()]), ("crate::kept", ["Row"]), ("jsgen_tree", tree),
                      ("crate::others", [kept(table, s) for s in outer(table)]), ("std::alloc", ["AllocError", "Global"])]
     return layout.rust(about, ghosts_of(table), TYPES, homes, body)
@@ -68,11 +71,12 @@ def members_within(table):
     return [(name, g) for name, _ in places(table) for g in large(table) if is_within(table, name, g)]
 
 
-def impls(table):
-    body = "\n\n".join(impl(table, name, boxed) for name, boxed in places(table))
-    about = "What is made of a row where it is a child: a member of the set that the place is for."
+def impls(table, what, some):
+    body = "\n\n".join(impl(table, name, boxed) for name, boxed in some)
+    about = f"What is made of a row where it is a child: {what}."
     functions = [within(name, g) for name, g in members_within(table)]
     functions += [part(name, g, boxed) for name, boxed in places(table) for g in large(table) if has_part(table, name, g)]
+    functions += [of_kind(name, m) for name, _ in places(table) for m in of_two_kinds(table, name)]
     return file_of(table, about, [("crate::members", functions)], body)
 
 
@@ -87,6 +91,8 @@ def asked(table):
 def members(table):
     bodies = ["// ---- a member of a set within the set, which stands in a box of its own"]
     bodies += [one_within(table, name, g) for name, g in members_within(table)]
+    bodies += ["// ---- a member of a set by itself, or of a set within it"]
+    bodies += [one_of_kind(table, name, m) for name, _ in places(table) for m in of_two_kinds(table, name)]
     bodies += ["// ---- a place that takes some types of a set"]
     bodies += [f for name, boxed in places(table) for f in parts(table, name, boxed)]
     return file_of(table, "The members of sets that are made of a member of another.", [], "\n\n".join(bodies))
@@ -120,7 +126,7 @@ def impl(table, name, boxed):
         NodeSet::{name}
     }}
 
-    #[tactic(auto, using(crate::proofs::Sets::{rules_of(table, name)}))]
+    #[tactic(auto, using(crate::proofs::{rules_home(table, name)}::{rules_of(table, name)}))]
     fn from_row(alloc: Global, row: Row<N>) -> Result<Option<{of}>, AllocError>
         {contract(table, name, boxed, "row")}
     {{
@@ -140,7 +146,9 @@ def made(table, name, boxed):
     for g in groups(table):
         if isinstance(g, str):
             outer = name in table.sets and g not in table.sets[name].members and holder(table, name, g)
-            if outer:
+            if name in table.sets and g in of_two_kinds(table, name):
+                arms += f"            Row::{g}(row) => {of_kind(name, g)}(alloc, row),\n"
+            elif outer:
                 direct = f"N::{snake(outer.name)}_node({outer.name}::{g}(row))"
                 arms += f"            Row::{g}(row) => {within(name, outer)}(alloc, {direct}),\n"
             elif g in table.types_in(name):
@@ -159,6 +167,33 @@ def made(table, name, boxed):
 def holder(table, name, g):
     """The set within the set that has the type as a member."""
     return next((table.sets[m] for m in table.sets[name].members if m in table.sets and g in table.sets[m].members), None)
+
+
+def of_two_kinds(table, name):
+    """The types of a set that are also in a set within it: a row of the type is the set's own member where it is a declaration."""
+    return [m for m in table.sets[name].members if m in table.nodes and holder(table, name, m)] if name in table.sets else []
+
+
+def of_kind(name, m):
+    return f"{snake(name)}_of_{snake(m)}"
+
+
+def one_of_kind(table, name, m):
+    """A row of a type that is in the set by itself and in a set within it: by its kind."""
+    of, outer = child_type(table, name, False), holder(table, name, m)
+    kind = next(f.kind for f in table.nodes[m].fields if f.name == "kind")
+    other = f"N::{snake(outer.name)}_node({outer.name}::{m}(row))"
+    return f"""pub fn {of_kind(name, m)}<N: {asked_of_node(table, other)} + Drop>(
+    alloc: Global,
+    row: Box<{m}<N>>,
+) -> Result<Option<{of}>, AllocError>
+    ensures {{ IfOk result (λ child. option_map {child_plain(table, name, False)} child ≡ Some ({table.nodes[m].row} N.plain row.value)) }}
+{{
+    match row.kind {{
+        {kind}::Declaration => Ok(Some({name}::{m}(row))),
+        {kind}::Expression => {within(name, outer)}(alloc, {other}),
+    }}
+}}"""
 
 
 def is_within(table, name, g):
@@ -247,6 +282,8 @@ FORMS = {
     "?": ("optional_{}", "optional_child", "Option<{}>", "λ o. a_maybe (optional (option_map {} o))",
           "false may_be_absent (child sets.{})"),
     "*": ("{}_list", "children", "Vec<{}>", "λ v. a_list (trees (map {} v.items))", "false may_be_absent (many sets.{})"),
+    "*?": ("optional_{}_list", "optional_children", "Option<Vec<{}>>",
+           "λ o. a_maybe_list (optional_list (option_map (λ v. map {} v.items) o))", "false may_be_absent (maybe_many sets.{})"),
     "?*": ("{}_or_hole_list", "children_or_holes", "Vec<Option<{}>>", "λ v. a_list (holed (map (option_map {}) v.items))",
            "false may_be_absent (many_or_holes sets.{})"),
 }
@@ -256,19 +293,19 @@ def reader_of(f):
     return FORMS[f.many][0].format(snake(f.kind))
 
 
-def readers(table):
-    fields = {reader_of(f): f for n in table.nodes.values() for f in table.children(n)}
+def readers(table, of_lists):
+    fields = {reader_of(f): f for n in table.nodes.values() for f in table.children(n) if f.is_list == of_lists}
     body = "\n\n".join(reader(table, f) for f in fields.values())
     ghosts = [("Rattle.std.specs.Prelude", ["true", "false", "map", "option_map"]),
-              ("Rattle.serde_json.specs.View", ["view"]), (f"{SPECS}.Tree", ["optional", "trees", "holed"])]
-    ghosts += [(f"{SPECS}.Table", ["needed", "may_be_absent", "child", "children as many", "children_or_holes as many_or_holes"])] + row_names(table)
-    ghosts += [(f"{READER}.specs.Values", ["at", "field as value_under"]), (f"{READER}.specs.Meaning", ["a_child", "a_maybe", "a_list"]),
+              ("Rattle.serde_json.specs.View", ["view"]), (f"{SPECS}.Tree", ["optional", "optional_list", "trees", "holed"])]
+    ghosts += [(f"{SPECS}.Table", ["needed", "may_be_absent", "child", "children as many", "children_or_holes as many_or_holes", "maybe_children as maybe_many"])] + row_names(table)
+    ghosts += [(f"{READER}.specs.Values", ["at", "field as value_under"]), (f"{READER}.specs.Meaning", ["a_child", "a_maybe", "a_list", "a_maybe_list"]),
                (f"{READER}.specs.Reads", ["Gives", "read_children"]), ("Rattle.jsgen_pool.specs.Pool", ["entries"])]
     tree = list(table.nodes) + list(table.sets) + [s.name + "Node" for s in table.nesting()]
-    homes = [("crate", ["InputFault"]), ("crate::fields", ["needed_child", "optional_child", "children", "children_or_holes"]),
+    homes = [("crate", ["InputFault"]), ("crate::fields", ["needed_child", "optional_child", "children", "optional_children", "children_or_holes"]),
              ("crate::asked", ["PlainNode", "RowOf"] + [holds(s) for s in table.nesting()]), ("jsgen_pool", ["Kept"]), ("jsgen_tree", tree)]
     homes += [("serde_json", ["Value"]), ("std::alloc", ["Global"])]
-    about = "Fields that hold children, by set: a row that calls one of these passes no impl of `Child`, which would be " \
+    about = f"Fields that hold {'lists of' if of_lists else 'single'} children, by set: a row that calls one of these passes no impl of `Child`, which would be " \
             "proved at each call."
     return layout.rust(about, ghosts, TYPES, homes, body)
 

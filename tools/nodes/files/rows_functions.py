@@ -71,8 +71,9 @@ def one_file(table, name, text, every):
     sets = list({s.name: s for n in nodes if (s := set_of(table, n.name))}.values())
     values = ["needed_text", "optional_text", "needed_digits", "needed_number", "optional_number", "needed_flag", "optional_flag", "field_not_given", "neither_given"]
     homes = [("crate::literals", [f"read_{snake(n.name)}" for n in every if by_hand(n)]),
-             ("jsgen_fields::set_fields", [reader_of(f) for n in nodes for f in table.children(n)]),
-             ("jsgen_fields::fields", ["boxed"]), ("jsgen_fields::strings", ["needed_units"]), ("jsgen_fields::values", values),
+             ("jsgen_fields::set_fields", [reader_of(f) for n in nodes for f in table.children(n) if not f.is_list]),
+             ("jsgen_fields::list_fields", [reader_of(f) for n in nodes for f in table.children(n) if f.is_list]),
+             ("jsgen_fields::fields", ["boxed"]), ("jsgen_fields::strings", ["needed_units", "optional_units"]), ("jsgen_fields::values", values),
              ("jsgen_fields::words", [f"needed_{w.short}" for w in table.words.values()]),
              ("jsgen_fields::asked", ["PlainNode", "ReadNode", "RowOf"] + [holds(s) for s in table.nesting()]),
              ("jsgen_fields::kept", [f"row_of_{snake(s.name)}" for s in sets] + [f"row_of_{snake(n.name)}" for n in nodes]),
@@ -152,7 +153,7 @@ def call(table, n, f, number):
     if f.kind in table.words and f.required:
         return f"needed_{table.words[f.kind].short}({field})"
     form = {("text", None): f"needed_text(alloc, {field})", ("text", '""'): f"optional_text(alloc, {field})",
-            ("units", None): f"needed_units(alloc, {field})", ("digits", None): f"needed_digits({field})",
+            ("units", None): f"{'optional' if f.many else 'needed'}_units(alloc, {field})", ("digits", None): f"needed_digits({field})",
             ("number", None): f"{'optional' if f.many else 'needed'}_number({field})",
             ("flag", None): f"{'needed' if f.needed else 'optional'}_flag({field})"}.get((f.kind, f.default))
     if not form:

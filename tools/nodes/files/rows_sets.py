@@ -1,4 +1,4 @@
-"""The reader's proofs/Sets.antt: which of the sets that children are of hold the rows that are kept by their set."""
+"""The reader's proofs/Sets.antt and proofs/OneType.antt: which of the sets that children are of hold the rows that are kept by their set."""
 
 import layout
 from files.rows_kept import held, inner, kept, large, outer, own
@@ -11,9 +11,13 @@ def write(table):
     parts = ["-- ---- what is so of each type of a set is so of each row of it"]
     parts += [each_row(table, s) for s in large(table)]
     parts += ["-- ---- set by set"]
-    parts += [lemma(table, s, test) for test in tests(table) for s in large(table) if alike(table, s, test)]
+    of_sets = ["is_program"] + [t for t in tests(table) if is_of_set(table, t)]
+    of_types = [t for t in tests(table) if t not in of_sets]
+    parts += [lemma(table, s, test) for test in of_sets for s in large(table) if alike(table, s, test)]
     parts += [program_alone(table), "-- ---- which rows a place takes"]
-    parts += [rules(table, test) for test in tests(table)]
+    parts += [rules(table, test) for test in of_sets]
+    others = [lemma(table, s, test) for test in of_types for s in large(table) if alike(table, s, test)]
+    others += ["-- ---- which rows a place takes"] + [rules(table, test) for test in of_types]
     homes = [("Rattle.std.proofs.Common", ["◌≡◌", "Bool", "true", "false", "refl"])] + TREE + types_in_antt(table)
     homes += [(f"{SPECS}.Sets", [t for t in tests(table) if t != "is_program"])] + row_names(table)
     homes += [(f"{READER}.specs.Meaning", ["is_program"])] + sets_in_antt(table)
@@ -21,12 +25,25 @@ def write(table):
     homes += [(f"{READER}.specs.declared.others.{kept(table, s)}", [kept(table, s)]) for s in outer(table)]
     aliases = TYPES + [(f"{DECLARED}.sets.{s.name}.TheVariants", snake(s.name) + "s") for s in large(table)]
     about = "Which of the sets that children are of hold the rows that are kept by their set."
-    return {"crates/jsgen_fields/proofs/Sets.antt": layout.antt(about, homes, aliases, "\n\n".join(parts))}
+    each = [(f"{READER}.proofs.Sets", ["of_" + snake(s.name) for s in large(table)])]
+    about_types = "Which of the single types that children are of the rows are that are kept by their set."
+    return {"crates/jsgen_fields/proofs/Sets.antt": layout.antt(about, homes, aliases, "\n\n".join(parts)),
+            "crates/jsgen_fields/proofs/OneType.antt": layout.antt(about_types, homes + each, aliases, "\n\n".join(others))}
 
 
 def tests(table):
     """What is asked of a type: whether it is a program, and whether it is of a set that children are of."""
     return ["is_program"] + list(dict.fromkeys(tested(table, s) for s in table.child_sets()))
+
+
+def is_of_set(table, test):
+    """Whether the test is that of a set."""
+    return any(tested(table, s) == test for s in table.child_sets() if s in table.sets)
+
+
+def rules_home(table, name):
+    """The file of the rules for a place."""
+    return "Sets" if is_of_set(table, tested(table, name)) else "OneType"
 
 
 def types_of_test(table, test):
@@ -61,7 +78,7 @@ def each_row(table, s):
     clauses = "".join(f"\n{name}{plain} f b{names} ({variants}.{m} r){o} = cc" for m in inner(table, s))
     clauses += "".join(f"\n{name}{plain} f b{names} ({variants}.{m} r){o} = h{i}" for i, m in enumerate(own(table, s)))
     said = f"{facts}(r : {member}) → {other}f ({type_of(table, s, 'r')}) ≡ b"
-    return f"{name} : {of}(f : NodeType → Bool) (b : Bool) → {said}{clauses}"
+    return f"pub {name} : {of}(f : NodeType → Bool) (b : Bool) → {said}{clauses}"
 
 
 def answers(table, s, test):

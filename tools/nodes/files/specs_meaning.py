@@ -11,6 +11,9 @@ from names import REPOSITORY
 
 SPECS = REPOSITORY / "crates" / "jsgen_model" / "specs"
 
+# What says that a list has no hole.
+HOLES = {"*": "has_no_hole", "*?": "has_no_hole_if_listed"}
+
 
 def write(table):
     return {"crates/jsgen_model/specs/Plain.antt": plain(table), "crates/jsgen_model/specs/Normal.antt": normal(table)}
@@ -33,7 +36,7 @@ def plain(table):
     nodes = table.nodes.values()
     types = [f"is_plain_type types.{n.name} = false" for n in nodes if n.unpromised]
     flags = [f"has_plain_flags types.{n.name} a = {' && '.join(f'not ({reader(n, f)} a)' for f in unpromised(table, n))}" for n in nodes if unpromised(table, n)]
-    formed = [f"is_formed {row(table, n)} = {' && '.join(f'has_no_hole {variable(f)}' for f in table.children(n) if f.many == '*') or 'true'}"
+    formed = [f"is_formed {row(table, n)} = {' && '.join(f'{HOLES[f.many]} {variable(f)}' for f in table.children(n) if f.many in HOLES) or 'true'}"
               for n in by_default(table, text, "is_formed")]
     for name, clauses in (("types", types), ("flags", flags), ("formed", formed)):
         text = layout.region(text, name, "\n".join(clauses))
@@ -67,5 +70,5 @@ def value(table, n, f):
 
 
 def child(f):
-    form = {"": "normal", "?": "normal_maybe", "*": "normal_trees", "?*": "normal_trees"}[f.many]
+    form = {"": "normal", "?": "normal_maybe", "*": "normal_trees", "?*": "normal_trees", "*?": "normal_maybe_trees"}[f.many]
     return f"({form} {variable(f)})"

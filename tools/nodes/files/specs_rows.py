@@ -10,7 +10,7 @@ def write(table):
     parts += ["-- ---- structs, and sets that don't nest"] + in_order(table)
     parts += ["-- ---- sets that nest"] + [set_plain(table, s) for s in table.nesting()]
     homes = [("Rattle.std.specs.Prelude", ["[]", "◌∷◌", "map", "option_map"]),
-             ("Rattle.jsgen_syntax.specs.Units", ["js_units"]), (f"{SPECS}.Characters", ["characters", "number_if_given", "numeric_values"])]
+             ("Rattle.jsgen_syntax.specs.Units", ["js_units"]), (f"{SPECS}.Characters", ["characters", "number_if_given", "units_if_given", "numeric_values"])]
     homes += TREE + atoms(table) + patterns(table)
     homes += wrappers_in_antt(table) + nodes_in_antt(table) + sets_in_antt(table)
     body = "\n\n".join(parts)
@@ -84,7 +84,7 @@ def values(table, n):
 def value(table, f):
     here = f"n.{f.rust}"
     if f.many:
-        return f"number_if_given {here}"
+        return f"{f.kind}_if_given {here}"
     form = {"text": f"text (characters {here})", "units": f"units (js_units {here})"}
     short = table.words[f.kind].short if f.kind in table.words else f.kind
     return form.get(f.kind, f"{short} {here}")
@@ -98,6 +98,8 @@ def slot(table, f):
         return f"(trees (map {each} {here}.items))"
     if f.many == "?*":
         return f"(holed (map (option_map {each}) {here}.items))"
+    if f.many == "*?":
+        return f"(optional_list (option_map (λ v. map {each} v.items) {here}))"
     if f.kind in table.nodes:
         here += ".value"
     if f.many == "?":

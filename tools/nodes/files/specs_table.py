@@ -50,7 +50,7 @@ def row(table, f):
     return f"{'needs' if f.required else 'may_have'} {name} {sort(table, f)}"
 
 
-SORTS = {"": "child", "?": "child", "*": "children", "?*": "children_or_holes"}
+SORTS = {"": "child", "?": "child", "*": "children", "?*": "children_or_holes", "*?": "maybe_children"}
 
 
 def sort(table, f):

@@ -24,7 +24,7 @@ def kinds(table):
     return layout.antt("A value that a node holds itself.", homes, [], body)
 
 
-SLOTS = {"": ("one", "Tree"), "?": ("maybe", "Maybe"), "*": ("many", "Trees"), "?*": ("many", "Trees")}
+SLOTS = {"": ("one", "Tree"), "?": ("maybe", "Maybe"), "*": ("many", "Trees"), "?*": ("many", "Trees"), "*?": ("maybe_many", "MaybeTrees")}
 
 
 def patterns(table):

@@ -5,7 +5,9 @@ from names import SPECS, TREE, TYPES, atoms, variants_of_words, words_in_antt
 from table import VALUES, snake
 
 HELD = {"text": ("List ℕ", "[]"), "units": ("List ℕ", "[]"), "digits": ("ℕ", "0"), "number": ("ℕ", "0"), "flag": ("Bool", "false")}
-IF_GIVEN = "as_number_if_given"
+
+# Kinds of values that may be absent: what is held where there is one.
+MAYBE = {"number": "ℕ", "units": "List ℕ"}
 
 
 def write(table):
@@ -35,6 +37,15 @@ def kind_of(table, f):
     return table.words[f.kind].short if f.kind in table.words else f.kind
 
 
+def if_given(kind):
+    return f"as_{kind}_if_given"
+
+
+def one(held):
+    """The type, as an argument of another."""
+    return f"({held})" if " " in held else held
+
+
 def reader(n, f):
     return f"{snake(n.name)}_{f.name}"
 
@@ -43,13 +54,13 @@ def values(table):
     held = {k: h for k, h, _ in kinds(table)}
     parts = ["-- ---- kinds of values; where the value is of another kind, any"]
     parts += [f"abbrev pub as_{k} : Atom → {h}\nas_{k} ({k} x) = x\nas_{k} v = {other}" for k, h, other in kinds(table)]
-    parts += [f"abbrev pub {IF_GIVEN} : Atom → Option ℕ\n{IF_GIVEN} (number x) = Some x\n{IF_GIVEN} v = None"]
+    parts += [f"abbrev pub {if_given(k)} : Atom → Option {one(h)}\n{if_given(k)} ({k} x) = Some x\n{if_given(k)} v = None" for k, h in MAYBE.items()]
     parts += ["-- ---- fields, by the type of the node and the field's name"]
     for n in table.nodes.values():
         for f in table.values(n):
             k, at = kind_of(table, f), f"value_at {table.values(n).index(f)} a.values"
             result, body = ("Atom", at) if is_whole(n, f) else (held[k], f"as_{k} ({at})")
-            result, body = ("Option ℕ", f"{IF_GIVEN} ({at})") if f.many and is_read(n, f) else (result, body)
+            result, body = (f"Option {one(MAYBE[k])}", f"{if_given(k)} ({at})") if f.many and is_read(n, f) else (result, body)
             doc = f"-- the field's {f.kind}, or the {f.other} that it was read as\n" if f.other else ""
             doc = doc if is_read(n, f) else "-- not read yet\n"
             parts.append(f"{doc}abbrev pub {reader(n, f)} : Atoms → {result}\n{reader(n, f)} a = {body}")
@@ -66,7 +77,7 @@ def law(table):
         facts = []
         for f in table.values(n):
             value = f'value_named (codes "{f.name}") (fields types.{n.name}) a.values'
-            taken = IF_GIVEN if f.many else f"as_{kind_of(table, f)}"
+            taken = if_given(f.kind) if f.many else f"as_{kind_of(table, f)}"
             facts.append(f"{reader(n, f)} a ≡ {value if is_whole(n, f) else f'{taken} ({value})'}")
         if facts:
             said = facts[0] if len(facts) == 1 else " × ".join(f"({fact})" for fact in facts)
@@ -75,7 +86,7 @@ def law(table):
     readers = [reader(n, f) for n in table.nodes.values() for f in table.values(n)]
     homes = [("Rattle.std.specs.Prelude", ["◌≡◌", "codes"]), (f"{SPECS}.Tree", ["Atoms"])]
     homes += [(f"{SPECS}.Table", ["value_named"]), (f"{SPECS}.Fields", ["fields"]),
-              (f"{SPECS}.Values", [f"as_{k}" for k, _, _ in kinds(table)] + [IF_GIVEN] + readers)]
+              (f"{SPECS}.Values", [f"as_{k}" for k, _, _ in kinds(table)] + [if_given(k) for k in MAYBE] + readers)]
     return layout.antt("What is promised of the names of fields.", homes, TYPES, body)
 
 

@@ -151,6 +151,9 @@ class Clause:
     def item_given(self, f, inner):
         return f"{form(inner)[0]} {variable(f)} {self.spot(*inner[-1][2:])}"
 
+    def item_flag(self, f, inner):
+        return f"items_if {self.value(f)} {atom(self.text(inner))}"
+
     def item_body(self, f):
         return f"body_items (shape {variable(f)}) (spell {variable(f)} within_statement) (spell {variable(f)} among_statements)"
 
@@ -323,6 +326,11 @@ class Body:
         function = form(inner)[1]
         place, facts = self.spot(*inner[-1][2:])
         return self.said(facts, self.call(function, f"{function}::<_, {self.strategy(f.kind)}>(&node.{f.rust}, p, {place});"))
+
+    def step_flag(self, f, inner):
+        if [part[0] for part in inner] != ["sign"]:
+            raise SystemExit(f"[{f.name}: ..] has no form yet for what is no sign")
+        return self.step(f"print_{inner[0][1]}_if", f"node.{f.rust}")
 
     def step_body(self, f):
         got = self.call("get")

@@ -22,6 +22,7 @@ def write(table):
     passed["nodes"] = ["Node"] + [s.name + "Node" for s in table.nesting()]
     passed["sets"] = list(table.sets)
     passed["span"] = ["GetSpan"]
+    passed["type_spans"] = []
     passed["types"] = ["NodeSet", "NodeType"]
     passed["node_type"] = []
     mods = "".join(f"mod {m};\n" for m in sorted(passed))

@@ -1,4 +1,4 @@
-"""src/span.rt: `GetSpan` of each type and set."""
+"""src/span.rt: `GetSpan`, and that of each set; src/type_spans.rt: that of each type."""
 
 import layout
 from names import nodes_in_rust, sets_in_rust, wrappers_in_rust
@@ -16,13 +16,15 @@ pub trait GetSpan {
 
 
 def write(table):
-    parts = [TRAIT] + [of_node(table, n) for n in table.nodes]
-    parts += [of_set(table, s) for s in table.sets.values()] + [of_node_itself(table)]
+    parts = [TRAIT] + [of_set(table, s) for s in table.sets.values()] + [of_node_itself(table)]
+    types = [of_node(table, n) for n in table.nodes]
     ghosts = [("Rattle.std.specs.Prelude", ["◌≡◌"]), ("Rattle.jsgen_tree.specs.Tree", ["span_of"]),
               ("Rattle.jsgen_tree.specs.Plain", ["node_plain"]),
               ("Rattle.jsgen_tree.specs.Spans", [snake(s) + "_span" for s in table.sets])]
     homes = nodes_in_rust(table) + [("crate::nodes", ["Node"])] + sets_in_rust(table) + [("jsgen_syntax", ["Span"])]
-    return {"src/span.rt": layout.rust("The span of each node.", ghosts, [], homes, "\n\n".join(parts))}
+    there = homes + [("crate::span", ["GetSpan"])]
+    return {"src/span.rt": layout.rust("The span of each node: a set's is its member's.", ghosts, [], homes, "\n\n".join(parts)),
+            "src/type_spans.rt": layout.rust("The span of each type of node.", ghosts, [], there, "\n\n".join(types))}
 
 
 def of_node(table, name):

@@ -65,4 +65,4 @@ def rust_type(table, f):
         one = f.kind + parameter
     else:
         one = f"Box<{f.kind}{parameter}>"
-    return {"": one, "?": f"Option<{one}>", "*": f"Vec<{one}>", "?*": f"Vec<Option<{one}>>"}[f.many]
+    return {"": one, "?": f"Option<{one}>", "*": f"Vec<{one}>", "?*": f"Vec<Option<{one}>>", "*?": f"Option<Vec<{one}>>"}[f.many]

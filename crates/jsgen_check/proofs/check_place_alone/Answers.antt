@@ -9,7 +9,14 @@ returns-in_err-check_set c =
     let span = expression_spans c.args.expression.now ∙ ap span_of (plain_expression c.args.expression.now) in
     broken c.from_residual.ensures.1 (two_rules _ _ (found _ (rw (c.node_type.ensures, c.expression_fits_kind-fits_kind.ensures, c.span-start.ensures, span) at c.in_err-check_set.ensures)))
 
+pub returns-in_err-check_no_optional_link : goal.returns-in_err-check_no_optional_link
+returns-in_err-check_no_optional_link c =
+    let span = expression_spans c.args.expression.now ∙ ap span_of (plain_expression c.args.expression.now) in
+    broken c.from_residual-in_err-check_no_optional_link.ensures.1 (two_rules _ _ (kept (rw (c.node_type.ensures, c.expression_fits_kind-fits_kind.ensures, c.span-start.ensures, span) at c.in_ok-check_set.ensures)
+    (two_rules _ _ (found _ (rw (c.expression_has_optional_link.ensures, c.span-start.ensures, span) at c.in_err-check_no_optional_link.ensures)))))
+
 pub returns : goal.returns
 returns c =
     let span = expression_spans c.args.expression.now ∙ ap span_of (plain_expression c.args.expression.now) in
-    two_rules _ _ (kept (rw (c.node_type.ensures, c.expression_fits_kind-fits_kind.ensures, c.span-start.ensures, span) at c.in_ok-check_set.ensures) (rw (c.expression_has_optional_link.ensures, c.span-start.ensures, span) at c.check_no_optional_link.ensures))
+    two_rules _ _ (kept (rw (c.node_type.ensures, c.expression_fits_kind-fits_kind.ensures, c.span-start.ensures, span) at c.in_ok-check_set.ensures)
+    (two_rules _ _ (kept (rw (c.expression_has_optional_link.ensures, c.span-start.ensures, span) at c.in_ok-check_no_optional_link.ensures) (rw (c.expression_has_uncooked.ensures, c.span-start.ensures, span) at c.check_no_uncooked.ensures))))

@@ -1,4 +1,4 @@
-use Rattle.std.proofs.Common.{◌≡◌, false, Option, Some, None, option_map, is_some, refl}
+use Rattle.std.proofs.Common.{◌≡◌, true, false, Option, Some, None, option_map, is_some, refl}
 use Rattle.jsgen_tree.specs.Characters.{characters}
 use Rattle.jsgen_tree.specs.Options.{options_plain}
 use Rattle.jsgen_tree.specs.Job.{JobData}
@@ -17,6 +17,6 @@ pub returns : goal.returns
 unfolding surroundings_plain
 returns c =
     let job : JobData = record { options = options_plain c.args.options.now; tables = tables_of c.args.scoping c.args.private; program = program_plain c.args.program.now } in
-    let around : Surroundings = record { options = c.args.options; tables = record { scoping = c.args.scoping; private = c.args.private }; source = c.as_str.result; is_mapped = c.is_some.result; in_function = false } in
-    let same : surroundings_plain around ≡ surroundings_of job = rw (c.as_str.ensures.value, c.is_some.ensures, mapped characters c.args.options.now.source_map_path) refl in
+    let around : Surroundings = record { options = c.args.options; tables = record { scoping = c.args.scoping; private = c.args.private }; source = c.as_str.result; is_mapped = c.is_some.result; in_function = false; may_yield = false; may_await = true } in
+    let same : surroundings_plain around None ≡ surroundings_of job = rw (c.as_str.ensures.value, c.is_some.ensures, mapped characters c.args.options.now.source_map_path) refl in
     record { judges = of_job _ around job same c.check_program_row.ensures.judges; told = told_of_job _ around job same c.check_program_row.ensures.told }

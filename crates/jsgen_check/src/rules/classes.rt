@@ -2,7 +2,7 @@
 #![tactic(auto, unfolding(jsgen_rules::specs::Verdict::verdict))]
 
 ghost use Rattle.std.specs.Prelude.{◌≡◌};
-ghost use Rattle.jsgen_tree.specs.Rows.{class_row, function_row, in_property_key, method_definition_row, private_identifier_row, property_definition_row};
+ghost use Rattle.jsgen_tree.specs.Rows.{function_row, in_property_key, method_definition_row, private_identifier_row, property_definition_row};
 ghost use Rattle.jsgen_model.specs.Valid.{own_faults, fits_method, may_be_member_key, member_key_faults, class_method_faults};
 ghost use Rattle.jsgen_rules.specs.Verdict.{verdict};
 ghost use Rattle.jsgen_check.specs.Verdict.{surroundings_plain};
@@ -10,9 +10,11 @@ ghost use Rattle.jsgen_check.specs.Verdict.{surroundings_plain};
 use crate::rules::keys::{key_start, key_type, may_be_pattern_key};
 use crate::{CheckNode, Surroundings};
 use jsgen_model::TreeFault;
-use jsgen_rules::{as_property, check_class, check_private_name, fits_accessor, is_private};
+use jsgen_rules::{
+    Classes, as_property, check_private_name, fits_accessor, fits_words, is_private,
+};
 use jsgen_tree::{
-    Class, Function, MethodDefinition, MethodDefinitionKind, PrivateIdentifier, PropertyDefinition,
+    Function, MethodDefinition, MethodDefinitionKind, PrivateIdentifier, PropertyDefinition,
     PropertyKey, PropertyKind,
 };
 
@@ -20,21 +22,11 @@ use jsgen_tree::{
 pub fn check_private_identifier_rules(
     node: &PrivateIdentifier,
     around: &Surroundings<'_>,
+    classes: Option<&Classes<'_>>,
 ) -> Result<(), TreeFault>
-    ensures { result ≡ verdict (own_faults (surroundings_plain around.now) (private_identifier_row node.now)) }
+    ensures { result ≡ verdict (own_faults (surroundings_plain around.now classes.entry) (private_identifier_row node.now)) }
 {
-    check_private_name(around.tables, &node.name, node.span)
-}
-
-#[tactic(auto)]
-pub fn check_class_rules<N: CheckNode>(
-    node: &Class<N>,
-    around: &Surroundings<'_>,
-) -> Result<(), TreeFault>
-    ensures { result ≡ verdict (own_faults (surroundings_plain around.now) (class_row N.plain node.now)) }
-{
-    let _ = around;
-    check_class(node.kind, node.id.is_some(), node.span)
+    check_private_name(around.tables, classes, &node.name, node.span)
 }
 
 /// Whether it is a key of a member: a private name, or a key of a property and no negative number, where it isn't computed.
@@ -64,7 +56,9 @@ fn check_member_key<N: CheckNode>(computed: bool, key: &PropertyKey<N>) -> Resul
 fn fits_method<N: CheckNode>(kind: PropertyKind, function: &Function<N>) -> bool
     ensures { result ≡ fits_method kind (function_row N.plain function.now) }
 {
-    function.id.is_none() && fits_accessor(kind, &function.params)
+    let fits = fits_accessor(kind, &function.params)
+        && fits_words(kind, function.is_async, function.generator);
+    function.id.is_none() && fits
 }
 
 fn check_class_method<N: CheckNode>(
@@ -86,9 +80,11 @@ fn check_class_method<N: CheckNode>(
 pub fn check_method_definition_rules<N: CheckNode>(
     node: &MethodDefinition<N>,
     around: &Surroundings<'_>,
+    classes: Option<&Classes<'_>>,
 ) -> Result<(), TreeFault>
-    ensures { result ≡ verdict (own_faults (surroundings_plain around.now) (method_definition_row N.plain node.now)) }
+    ensures { result ≡ verdict (own_faults (surroundings_plain around.now classes.entry) (method_definition_row N.plain node.now)) }
 {
+    let _ = classes;
     let _ = around;
     check_member_key(node.computed, &node.key)?;
     check_class_method(node.kind, &node.value)
@@ -98,9 +94,11 @@ pub fn check_method_definition_rules<N: CheckNode>(
 pub fn check_property_definition_rules<N: CheckNode>(
     node: &PropertyDefinition<N>,
     around: &Surroundings<'_>,
+    classes: Option<&Classes<'_>>,
 ) -> Result<(), TreeFault>
-    ensures { result ≡ verdict (own_faults (surroundings_plain around.now) (property_definition_row N.plain node.now)) }
+    ensures { result ≡ verdict (own_faults (surroundings_plain around.now classes.entry) (property_definition_row N.plain node.now)) }
 {
+    let _ = classes;
     let _ = around;
     check_member_key(node.computed, &node.key)
 }

@@ -18,6 +18,7 @@ ghost use Rattle.jsgen_check.specs.Verdict.{surroundings_plain};
 use crate::rules::functions::check_method_value;
 use crate::{CheckNode, Surroundings};
 use jsgen_model::TreeFault;
+use jsgen_rules::Classes;
 use jsgen_tree::{ExpressionNode, NodeType, ObjectProperty, PropertyKey, Tables, is_proto};
 
 pub fn key_type<N: CheckNode>(key: &PropertyKey<N>) -> NodeType
@@ -235,9 +236,11 @@ fn check_method<N: CheckNode>(node: &ObjectProperty<N>) -> Result<(), TreeFault>
 pub fn check_object_property_rules<N: CheckNode>(
     node: &ObjectProperty<N>,
     around: &Surroundings<'_>,
+    classes: Option<&Classes<'_>>,
 ) -> Result<(), TreeFault>
-    ensures { result ≡ verdict (own_faults (surroundings_plain around.now) (object_property_row N.plain node.now)) }
+    ensures { result ≡ verdict (own_faults (surroundings_plain around.now classes.entry) (object_property_row N.plain node.now)) }
 {
+    let _ = classes;
     check_key(node.computed, &node.key)?;
     if node.is_method() {
         return check_method(node);

@@ -11,7 +11,7 @@ ghost use Rattle.jsgen_check.specs.Verdict.{surroundings_plain};
 use crate::links::{element_has_optional_link, target_has_optional_link};
 use crate::{CheckNode, Surroundings};
 use jsgen_model::TreeFault;
-use jsgen_rules::{check_no_optional_link, is_super};
+use jsgen_rules::{Classes, check_no_optional_link, is_super};
 use jsgen_tree::{
     CallExpression, ChainExpression, ComputedMemberExpression, PrivateFieldExpression,
     SimpleAssignmentTarget, StaticMemberExpression, UpdateExpression,
@@ -33,9 +33,11 @@ fn check_super<N: CheckNode>(optional: bool, object: &N) -> Result<(), TreeFault
 pub fn check_static_member_expression_rules<N: CheckNode>(
     node: &StaticMemberExpression<N>,
     around: &Surroundings<'_>,
+    classes: Option<&Classes<'_>>,
 ) -> Result<(), TreeFault>
-    ensures { result ≡ verdict (own_faults (surroundings_plain around.now) (static_member_expression_row N.plain node.now)) }
+    ensures { result ≡ verdict (own_faults (surroundings_plain around.now classes.entry) (static_member_expression_row N.plain node.now)) }
 {
+    let _ = classes;
     let _ = around;
     check_super(node.optional, node.object.get())
 }
@@ -44,9 +46,11 @@ pub fn check_static_member_expression_rules<N: CheckNode>(
 pub fn check_computed_member_expression_rules<N: CheckNode>(
     node: &ComputedMemberExpression<N>,
     around: &Surroundings<'_>,
+    classes: Option<&Classes<'_>>,
 ) -> Result<(), TreeFault>
-    ensures { result ≡ verdict (own_faults (surroundings_plain around.now) (computed_member_expression_row N.plain node.now)) }
+    ensures { result ≡ verdict (own_faults (surroundings_plain around.now classes.entry) (computed_member_expression_row N.plain node.now)) }
 {
+    let _ = classes;
     let _ = around;
     check_super(node.optional, node.object.get())
 }
@@ -56,9 +60,11 @@ pub fn check_computed_member_expression_rules<N: CheckNode>(
 pub fn check_private_field_expression_rules<N: CheckNode>(
     node: &PrivateFieldExpression<N>,
     around: &Surroundings<'_>,
+    classes: Option<&Classes<'_>>,
 ) -> Result<(), TreeFault>
-    ensures { result ≡ verdict (own_faults (surroundings_plain around.now) (private_field_expression_row N.plain node.now)) }
+    ensures { result ≡ verdict (own_faults (surroundings_plain around.now classes.entry) (private_field_expression_row N.plain node.now)) }
 {
+    let _ = classes;
     let _ = around;
     check_super(true, node.object.get())
 }
@@ -67,9 +73,11 @@ pub fn check_private_field_expression_rules<N: CheckNode>(
 pub fn check_call_expression_rules<N: CheckNode>(
     node: &CallExpression<N>,
     around: &Surroundings<'_>,
+    classes: Option<&Classes<'_>>,
 ) -> Result<(), TreeFault>
-    ensures { result ≡ verdict (own_faults (surroundings_plain around.now) (call_expression_row N.plain node.now)) }
+    ensures { result ≡ verdict (own_faults (surroundings_plain around.now classes.entry) (call_expression_row N.plain node.now)) }
 {
+    let _ = classes;
     let _ = around;
     check_super(node.optional, node.callee.get())
 }
@@ -77,9 +85,11 @@ pub fn check_call_expression_rules<N: CheckNode>(
 pub fn check_chain_expression_rules<N: CheckNode>(
     node: &ChainExpression<N>,
     around: &Surroundings<'_>,
+    classes: Option<&Classes<'_>>,
 ) -> Result<(), TreeFault>
-    ensures { result ≡ verdict (own_faults (surroundings_plain around.now) (chain_expression_row N.plain node.now)) }
+    ensures { result ≡ verdict (own_faults (surroundings_plain around.now classes.entry) (chain_expression_row N.plain node.now)) }
 {
+    let _ = classes;
     let _ = around;
     if !element_has_optional_link(&node.expression) {
         return Err(TreeFault::Place {
@@ -104,9 +114,11 @@ fn target_start<N: CheckNode>(target: &SimpleAssignmentTarget<N>) -> u32
 pub fn check_update_expression_rules<N: CheckNode>(
     node: &UpdateExpression<N>,
     around: &Surroundings<'_>,
+    classes: Option<&Classes<'_>>,
 ) -> Result<(), TreeFault>
-    ensures { result ≡ verdict (own_faults (surroundings_plain around.now) (update_expression_row N.plain node.now)) }
+    ensures { result ≡ verdict (own_faults (surroundings_plain around.now classes.entry) (update_expression_row N.plain node.now)) }
 {
+    let _ = classes;
     let _ = around;
     check_target(&node.argument)
 }

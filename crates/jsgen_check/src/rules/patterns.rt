@@ -13,7 +13,7 @@ ghost use Rattle.jsgen_check.specs.Verdict.{surroundings_plain};
 use crate::rules::keys::check_pattern_key;
 use crate::{CheckNode, Surroundings};
 use jsgen_model::TreeFault;
-use jsgen_rules::is_binding_name;
+use jsgen_rules::{Classes, is_binding_name};
 use jsgen_tree::{
     BindingProperty, BindingRestElement, Declaration, ForStatementInit, Node, NodeType,
     ObjectPattern, Statement, VariableDeclaration, VariableDeclarator,
@@ -44,9 +44,11 @@ fn check_name<N: CheckNode>(argument: &N) -> Result<(), TreeFault>
 pub fn check_object_pattern_rules<N: CheckNode>(
     node: &ObjectPattern<N>,
     around: &Surroundings<'_>,
+    classes: Option<&Classes<'_>>,
 ) -> Result<(), TreeFault>
-    ensures { result ≡ verdict (own_faults (surroundings_plain around.now) (object_pattern_row N.plain node.now)) }
+    ensures { result ≡ verdict (own_faults (surroundings_plain around.now classes.entry) (object_pattern_row N.plain node.now)) }
 {
+    let _ = classes;
     let _ = around;
     check_rest(&node.rest)
 }
@@ -55,9 +57,11 @@ pub fn check_object_pattern_rules<N: CheckNode>(
 pub fn check_binding_property_rules<N: CheckNode>(
     node: &BindingProperty<N>,
     around: &Surroundings<'_>,
+    classes: Option<&Classes<'_>>,
 ) -> Result<(), TreeFault>
-    ensures { result ≡ verdict (own_faults (surroundings_plain around.now) (binding_property_row N.plain node.now)) }
+    ensures { result ≡ verdict (own_faults (surroundings_plain around.now classes.entry) (binding_property_row N.plain node.now)) }
 {
+    let _ = classes;
     let _ = around;
     check_pattern_key(node.computed, &node.key)
 }

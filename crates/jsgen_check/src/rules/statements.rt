@@ -1,7 +1,7 @@
 // The parts of statements: bodies, heads of loops, cases, handlers.
 #![tactic(auto, unfolding(jsgen_rules::specs::Verdict::verdict))]
 
-ghost use Rattle.std.specs.Prelude.{◌≡◌, map, option_map};
+ghost use Rattle.std.specs.Prelude.{◌≡◌, ◌++◌, map, option_map};
 ghost use Rattle.jsgen_tree.specs.Tree.{optional, trees};
 ghost use Rattle.jsgen_tree.specs.Rows.{if_statement_row, for_statement_row, for_in_statement_row, for_of_statement_row, while_statement_row, do_while_statement_row, labeled_statement_row, switch_statement_row, switch_case_row, try_statement_row, variable_declarator_row, in_statement, in_for_statement_left};
 ghost use Rattle.jsgen_model.specs.Valid.{own_faults, body_faults, alternate_faults, left_faults, is_one_name, defaults};
@@ -15,7 +15,10 @@ use crate::links::{
 use crate::rules::patterns::check_init;
 use crate::{CheckNode, Surroundings};
 use jsgen_model::TreeFault;
-use jsgen_rules::{check_body, check_defaults, check_ends, check_no_optional_link, check_one_name};
+use jsgen_rules::{
+    Classes, check_await, check_body, check_defaults, check_ends, check_no_optional_link,
+    check_one_name,
+};
 use jsgen_tree::{
     DoWhileStatement, ForInStatement, ForOfStatement, ForStatement, ForStatementLeft, IfStatement,
     LabeledStatement, StatementNode, SwitchCase, SwitchStatement, TryStatement, VariableDeclarator,
@@ -42,9 +45,11 @@ fn check_alternate<N: CheckNode>(alternate: &Option<StatementNode<N>>) -> Result
 pub fn check_if_statement_rules<N: CheckNode>(
     node: &IfStatement<N>,
     around: &Surroundings<'_>,
+    classes: Option<&Classes<'_>>,
 ) -> Result<(), TreeFault>
-    ensures { result ≡ verdict (own_faults (surroundings_plain around.now) (if_statement_row N.plain node.now)) }
+    ensures { result ≡ verdict (own_faults (surroundings_plain around.now classes.entry) (if_statement_row N.plain node.now)) }
 {
+    let _ = classes;
     let _ = around;
     check_followed(node.consequent.get())?;
     check_alternate(&node.alternate)
@@ -54,9 +59,11 @@ pub fn check_if_statement_rules<N: CheckNode>(
 pub fn check_for_statement_rules<N: CheckNode>(
     node: &ForStatement<N>,
     around: &Surroundings<'_>,
+    classes: Option<&Classes<'_>>,
 ) -> Result<(), TreeFault>
-    ensures { result ≡ verdict (own_faults (surroundings_plain around.now) (for_statement_row N.plain node.now)) }
+    ensures { result ≡ verdict (own_faults (surroundings_plain around.now classes.entry) (for_statement_row N.plain node.now)) }
 {
+    let _ = classes;
     let _ = around;
     check_init(&node.init)?;
     check_followed(node.body.get())
@@ -95,10 +102,20 @@ fn check_left_target<N: CheckNode>(target: &N) -> Result<(), TreeFault>
 pub fn check_for_in_statement_rules<N: CheckNode>(
     node: &ForInStatement<N>,
     around: &Surroundings<'_>,
+    classes: Option<&Classes<'_>>,
 ) -> Result<(), TreeFault>
-    ensures { result ≡ verdict (own_faults (surroundings_plain around.now) (for_in_statement_row N.plain node.now)) }
+    ensures { result ≡ verdict (own_faults (surroundings_plain around.now classes.entry) (for_in_statement_row N.plain node.now)) }
 {
+    let _ = classes;
     let _ = around;
+    check_left(&node.left)?;
+    check_followed(node.body.get())
+}
+
+// What is given values, and the statement behind.
+fn check_left_and_body<N: CheckNode>(node: &ForOfStatement<N>) -> Result<(), TreeFault>
+    ensures { result ≡ verdict (left_faults (in_for_statement_left N.plain node.now.left) ++ body_faults (in_statement N.plain node.now.body)) }
+{
     check_left(&node.left)?;
     check_followed(node.body.get())
 }
@@ -107,21 +124,24 @@ pub fn check_for_in_statement_rules<N: CheckNode>(
 pub fn check_for_of_statement_rules<N: CheckNode>(
     node: &ForOfStatement<N>,
     around: &Surroundings<'_>,
+    classes: Option<&Classes<'_>>,
 ) -> Result<(), TreeFault>
-    ensures { result ≡ verdict (own_faults (surroundings_plain around.now) (for_of_statement_row N.plain node.now)) }
+    ensures { result ≡ verdict (own_faults (surroundings_plain around.now classes.entry) (for_of_statement_row N.plain node.now)) }
 {
-    let _ = around;
-    check_left(&node.left)?;
-    check_followed(node.body.get())
+    let _ = classes;
+    check_await(node.is_await, around.may_await, node.span)?;
+    check_left_and_body(node)
 }
 
 #[tactic(auto)]
 pub fn check_while_statement_rules<N: CheckNode>(
     node: &WhileStatement<N>,
     around: &Surroundings<'_>,
+    classes: Option<&Classes<'_>>,
 ) -> Result<(), TreeFault>
-    ensures { result ≡ verdict (own_faults (surroundings_plain around.now) (while_statement_row N.plain node.now)) }
+    ensures { result ≡ verdict (own_faults (surroundings_plain around.now classes.entry) (while_statement_row N.plain node.now)) }
 {
+    let _ = classes;
     let _ = around;
     check_followed(node.body.get())
 }
@@ -130,9 +150,11 @@ pub fn check_while_statement_rules<N: CheckNode>(
 pub fn check_do_while_statement_rules<N: CheckNode>(
     node: &DoWhileStatement<N>,
     around: &Surroundings<'_>,
+    classes: Option<&Classes<'_>>,
 ) -> Result<(), TreeFault>
-    ensures { result ≡ verdict (own_faults (surroundings_plain around.now) (do_while_statement_row N.plain node.now)) }
+    ensures { result ≡ verdict (own_faults (surroundings_plain around.now classes.entry) (do_while_statement_row N.plain node.now)) }
 {
+    let _ = classes;
     let _ = around;
     check_followed(node.body.get())
 }
@@ -141,9 +163,11 @@ pub fn check_do_while_statement_rules<N: CheckNode>(
 pub fn check_labeled_statement_rules<N: CheckNode>(
     node: &LabeledStatement<N>,
     around: &Surroundings<'_>,
+    classes: Option<&Classes<'_>>,
 ) -> Result<(), TreeFault>
-    ensures { result ≡ verdict (own_faults (surroundings_plain around.now) (labeled_statement_row N.plain node.now)) }
+    ensures { result ≡ verdict (own_faults (surroundings_plain around.now classes.entry) (labeled_statement_row N.plain node.now)) }
 {
+    let _ = classes;
     let _ = around;
     check_followed(node.body.get())
 }
@@ -165,9 +189,11 @@ fn defaults<N: CheckNode>(cases: &[SwitchCase<N>]) -> usize
 pub fn check_switch_statement_rules<N: CheckNode>(
     node: &SwitchStatement<N>,
     around: &Surroundings<'_>,
+    classes: Option<&Classes<'_>>,
 ) -> Result<(), TreeFault>
-    ensures { result ≡ verdict (own_faults (surroundings_plain around.now) (switch_statement_row N.plain node.now)) }
+    ensures { result ≡ verdict (own_faults (surroundings_plain around.now classes.entry) (switch_statement_row N.plain node.now)) }
 {
+    let _ = classes;
     let _ = around;
     check_defaults(defaults(&node.cases), node.span)
 }
@@ -176,9 +202,11 @@ pub fn check_switch_statement_rules<N: CheckNode>(
 pub fn check_try_statement_rules<N: CheckNode>(
     node: &TryStatement<N>,
     around: &Surroundings<'_>,
+    classes: Option<&Classes<'_>>,
 ) -> Result<(), TreeFault>
-    ensures { result ≡ verdict (own_faults (surroundings_plain around.now) (try_statement_row N.plain node.now)) }
+    ensures { result ≡ verdict (own_faults (surroundings_plain around.now classes.entry) (try_statement_row N.plain node.now)) }
 {
+    let _ = classes;
     let _ = around;
     check_ends(node.handler.is_some(), node.finalizer.is_some(), node.span)
 }

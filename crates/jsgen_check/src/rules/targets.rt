@@ -12,7 +12,9 @@ ghost use Rattle.jsgen_check.specs.Verdict.{surroundings_plain};
 use crate::rules::keys::check_pattern_key;
 use crate::{CheckNode, Surroundings};
 use jsgen_model::TreeFault;
-use jsgen_rules::{assigns_alone, check_no_optional_link, check_written_name, is_target_pattern};
+use jsgen_rules::{
+    Classes, assigns_alone, check_no_optional_link, check_written_name, is_target_pattern,
+};
 use jsgen_syntax::AssignmentOperator;
 use jsgen_tree::{
     AssignmentExpression, AssignmentTargetPropertyIdentifier, AssignmentTargetPropertyProperty,
@@ -56,9 +58,11 @@ fn check_no_pattern<N: CheckNode>(target: &N) -> Result<(), TreeFault>
 pub fn check_assignment_expression_rules<N: CheckNode>(
     node: &AssignmentExpression<N>,
     around: &Surroundings<'_>,
+    classes: Option<&Classes<'_>>,
 ) -> Result<(), TreeFault>
-    ensures { result ≡ verdict (own_faults (surroundings_plain around.now) (assignment_expression_row N.plain node.now)) }
+    ensures { result ≡ verdict (own_faults (surroundings_plain around.now classes.entry) (assignment_expression_row N.plain node.now)) }
 {
+    let _ = classes;
     let _ = around;
     check_assigned(node.operator, node.left.get())
 }
@@ -67,9 +71,11 @@ pub fn check_assignment_expression_rules<N: CheckNode>(
 pub fn check_object_assignment_target_rules<N: CheckNode>(
     node: &ObjectAssignmentTarget<N>,
     around: &Surroundings<'_>,
+    classes: Option<&Classes<'_>>,
 ) -> Result<(), TreeFault>
-    ensures { result ≡ verdict (own_faults (surroundings_plain around.now) (object_assignment_target_row N.plain node.now)) }
+    ensures { result ≡ verdict (own_faults (surroundings_plain around.now classes.entry) (object_assignment_target_row N.plain node.now)) }
 {
+    let _ = classes;
     let _ = around;
     check_object_rest(&node.rest)
 }
@@ -78,9 +84,11 @@ pub fn check_object_assignment_target_rules<N: CheckNode>(
 pub fn check_assignment_target_with_default_rules<N: CheckNode>(
     node: &AssignmentTargetWithDefault<N>,
     around: &Surroundings<'_>,
+    classes: Option<&Classes<'_>>,
 ) -> Result<(), TreeFault>
-    ensures { result ≡ verdict (own_faults (surroundings_plain around.now) (assignment_target_with_default_row N.plain node.now)) }
+    ensures { result ≡ verdict (own_faults (surroundings_plain around.now classes.entry) (assignment_target_with_default_row N.plain node.now)) }
 {
+    let _ = classes;
     let _ = around;
     check_target(node.binding.get())
 }
@@ -89,9 +97,11 @@ pub fn check_assignment_target_with_default_rules<N: CheckNode>(
 pub fn check_assignment_target_property_identifier_rules<N: CheckNode>(
     node: &AssignmentTargetPropertyIdentifier<N>,
     around: &Surroundings<'_>,
+    classes: Option<&Classes<'_>>,
 ) -> Result<(), TreeFault>
-    ensures { result ≡ verdict (own_faults (surroundings_plain around.now) (assignment_target_property_identifier_row N.plain node.now)) }
+    ensures { result ≡ verdict (own_faults (surroundings_plain around.now classes.entry) (assignment_target_property_identifier_row N.plain node.now)) }
 {
+    let _ = classes;
     let _ = around;
     check_written_name(&node.binding.name, node.binding.span)
 }
@@ -100,9 +110,11 @@ pub fn check_assignment_target_property_identifier_rules<N: CheckNode>(
 pub fn check_assignment_target_property_property_rules<N: CheckNode>(
     node: &AssignmentTargetPropertyProperty<N>,
     around: &Surroundings<'_>,
+    classes: Option<&Classes<'_>>,
 ) -> Result<(), TreeFault>
-    ensures { result ≡ verdict (own_faults (surroundings_plain around.now) (assignment_target_property_property_row N.plain node.now)) }
+    ensures { result ≡ verdict (own_faults (surroundings_plain around.now classes.entry) (assignment_target_property_property_row N.plain node.now)) }
 {
+    let _ = classes;
     let _ = around;
     check_pattern_key(node.computed, &node.name)
 }
@@ -111,9 +123,11 @@ pub fn check_assignment_target_property_property_rules<N: CheckNode>(
 pub fn check_assignment_target_rest_rules<N: CheckNode>(
     node: &AssignmentTargetRest<N>,
     around: &Surroundings<'_>,
+    classes: Option<&Classes<'_>>,
 ) -> Result<(), TreeFault>
-    ensures { result ≡ verdict (own_faults (surroundings_plain around.now) (assignment_target_rest_row N.plain node.now)) }
+    ensures { result ≡ verdict (own_faults (surroundings_plain around.now classes.entry) (assignment_target_rest_row N.plain node.now)) }
 {
+    let _ = classes;
     let _ = around;
     check_target(node.target.get())
 }

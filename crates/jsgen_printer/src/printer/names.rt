@@ -1,7 +1,7 @@
 // Names: as they are written, or by the tables.
 ghost use Rattle.std.specs.Prelude.{◌≡◌, bytes_eq};
 ghost use Rattle.std.specs.Str.{chars};
-ghost use Rattle.jsgen_tree.specs.Named.{as_written, looked_up, bound};
+ghost use Rattle.jsgen_tree.specs.Named.{as_written, looked_up, bound, printed_name};
 ghost use Rattle.jsgen_model.specs.Items.{name};
 ghost use Rattle.jsgen_model.specs.Layout.{layout, with_name, are_same};
 ghost use Rattle.jsgen_printer.specs.Printer.{pen_of};
@@ -50,6 +50,20 @@ impl Printer<'_> {
         ensures { result ≡ are_same (pen_of self.now).style.tables (bound symbol (chars text.now)) (as_written (chars written.now)) }
     {
         is_same(self.tables.binding_name(symbol, text), written)
+    }
+
+    /// What a name that is looked up is printed as.
+    pub fn printed_reference<'t>(&'t self, text: &'t str, reference: Option<u32>) -> &'t str
+        ensures { chars result.now ≡ printed_name (pen_of self.now).style.tables (looked_up reference (chars text.now)) }
+    {
+        self.tables.reference_name(reference, text)
+    }
+
+    /// What a name that is bound is printed as.
+    pub fn printed_binding<'t>(&'t self, text: &'t str, symbol: Option<u32>) -> &'t str
+        ensures { chars result.now ≡ printed_name (pen_of self.now).style.tables (bound symbol (chars text.now)) }
+    {
+        self.tables.binding_name(symbol, text)
     }
 
     // A name, apart from a word that the code ends in.

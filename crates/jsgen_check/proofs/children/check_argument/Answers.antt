@@ -6,4 +6,4 @@ use Rattle.jsgen_tree.specs.declared.types.NodeSet.TheVariants as sets
 use Rattle.jsgen_check.proofs.children.check_argument.Goals as goal
 
 pub returns-in-SpreadElement : goal.returns-in-SpreadElement
-returns-in-SpreadElement g c = rw c.in-SpreadElement.is ((rw c.deref.ensures at c.check_spread_element.ensures) ∙ sym (of_right_set _ sets.Argument _ refl))
+returns-in-SpreadElement g c = record { found = rw c.in-SpreadElement.is ((rw c.deref.ensures at c.check_spread_element.ensures.found) ∙ sym (of_right_set _ _ sets.Argument _ refl)); number = rw c.in-SpreadElement.is (rw (c.deref.ensures) at c.check_spread_element.ensures.number) }

@@ -6,4 +6,4 @@ use Rattle.jsgen_tree.specs.declared.types.NodeSet.TheVariants as sets
 use Rattle.jsgen_check.proofs.children.check_arrow_function_body.Goals as goal
 
 pub returns-in-FunctionBody : goal.returns-in-FunctionBody
-returns-in-FunctionBody g c = rw c.in-FunctionBody.is ((rw c.deref.ensures at c.check_function_body.ensures) ∙ sym (of_right_set _ sets.ArrowFunctionBody _ refl))
+returns-in-FunctionBody g c = record { found = rw c.in-FunctionBody.is ((rw c.deref.ensures at c.check_function_body.ensures.found) ∙ sym (of_right_set _ _ sets.ArrowFunctionBody _ refl)); number = rw c.in-FunctionBody.is (rw (c.deref.ensures) at c.check_function_body.ensures.number) }

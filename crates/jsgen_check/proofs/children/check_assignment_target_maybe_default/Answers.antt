@@ -6,4 +6,4 @@ use Rattle.jsgen_tree.specs.declared.types.NodeSet.TheVariants as sets
 use Rattle.jsgen_check.proofs.children.check_assignment_target_maybe_default.Goals as goal
 
 pub returns-in-AssignmentTargetWithDefault : goal.returns-in-AssignmentTargetWithDefault
-returns-in-AssignmentTargetWithDefault g c = rw c.in-AssignmentTargetWithDefault.is ((rw c.deref-in-AssignmentTargetWithDefault.ensures at c.check_assignment_target_with_default.ensures) ∙ sym (of_right_set _ sets.AssignmentTargetMaybeDefault _ refl))
+returns-in-AssignmentTargetWithDefault g c = record { found = rw c.in-AssignmentTargetWithDefault.is ((rw c.deref-in-AssignmentTargetWithDefault.ensures at c.check_assignment_target_with_default.ensures.found) ∙ sym (of_right_set _ _ sets.AssignmentTargetMaybeDefault _ refl)); number = rw c.in-AssignmentTargetWithDefault.is (rw (c.deref-in-AssignmentTargetWithDefault.ensures) at c.check_assignment_target_with_default.ensures.number) }

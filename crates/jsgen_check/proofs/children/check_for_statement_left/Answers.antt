@@ -6,4 +6,4 @@ use Rattle.jsgen_tree.specs.declared.types.NodeSet.TheVariants as sets
 use Rattle.jsgen_check.proofs.children.check_for_statement_left.Goals as goal
 
 pub returns-in-VariableDeclaration : goal.returns-in-VariableDeclaration
-returns-in-VariableDeclaration g c = rw c.in-VariableDeclaration.is ((rw c.deref.ensures at c.check_variable_declaration.ensures) ∙ sym (of_right_set _ sets.ForStatementLeft _ refl))
+returns-in-VariableDeclaration g c = record { found = rw c.in-VariableDeclaration.is ((rw c.deref.ensures at c.check_variable_declaration.ensures.found) ∙ sym (of_right_set _ _ sets.ForStatementLeft _ refl)); number = rw c.in-VariableDeclaration.is (rw (c.deref.ensures) at c.check_variable_declaration.ensures.number) }

@@ -6,7 +6,7 @@ use Rattle.jsgen_tree.specs.declared.types.NodeSet.TheVariants as sets
 use Rattle.jsgen_check.proofs.children.check_object_property_kind.Goals as goal
 
 pub returns-in-ObjectProperty : goal.returns-in-ObjectProperty
-returns-in-ObjectProperty g c = rw c.in-ObjectProperty.is ((rw c.deref.ensures at c.check_object_property.ensures) ∙ sym (of_right_set _ sets.ObjectPropertyKind _ refl))
+returns-in-ObjectProperty g c = record { found = rw c.in-ObjectProperty.is ((rw c.deref.ensures at c.check_object_property.ensures.found) ∙ sym (of_right_set _ _ sets.ObjectPropertyKind _ refl)); number = rw c.in-ObjectProperty.is (rw (c.deref.ensures) at c.check_object_property.ensures.number) }
 
 pub returns-in-SpreadElement : goal.returns-in-SpreadElement
-returns-in-SpreadElement g c = rw c.in-SpreadElement.is ((rw c.deref-in-SpreadElement.ensures at c.check_spread_element.ensures) ∙ sym (of_right_set _ sets.ObjectPropertyKind _ refl))
+returns-in-SpreadElement g c = record { found = rw c.in-SpreadElement.is ((rw c.deref-in-SpreadElement.ensures at c.check_spread_element.ensures.found) ∙ sym (of_right_set _ _ sets.ObjectPropertyKind _ refl)); number = rw c.in-SpreadElement.is (rw (c.deref-in-SpreadElement.ensures) at c.check_spread_element.ensures.number) }

@@ -6,4 +6,4 @@ use Rattle.jsgen_tree.specs.declared.types.NodeSet.TheVariants as sets
 use Rattle.jsgen_check.proofs.children.check_optional_binding_identifier.Goals as goal
 
 pub returns-in-Some : goal.returns-in-Some
-returns-in-Some c = rw c.in-Some.is ((rw c.deref.ensures at c.check_binding_identifier.ensures) ∙ sym (of_right_set _ sets.BindingIdentifier _ refl))
+returns-in-Some c = record { found = rw c.in-Some.is ((rw c.deref.ensures at c.check_binding_identifier.ensures.found) ∙ sym (of_right_set _ _ sets.BindingIdentifier _ refl)); number = rw c.in-Some.is c.check_binding_identifier.ensures.number }

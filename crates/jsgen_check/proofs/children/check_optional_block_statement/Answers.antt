@@ -6,4 +6,4 @@ use Rattle.jsgen_tree.specs.declared.types.NodeSet.TheVariants as sets
 use Rattle.jsgen_check.proofs.children.check_optional_block_statement.Goals as goal
 
 pub returns-in-Some : goal.returns-in-Some
-returns-in-Some g c = rw c.in-Some.is ((rw c.deref.ensures at c.check_block_statement.ensures) ∙ sym (of_right_set _ sets.BlockStatement _ refl))
+returns-in-Some g c = record { found = rw c.in-Some.is ((rw c.deref.ensures at c.check_block_statement.ensures.found) ∙ sym (of_right_set _ _ sets.BlockStatement _ refl)); number = rw c.in-Some.is (rw (c.deref.ensures) at c.check_block_statement.ensures.number) }

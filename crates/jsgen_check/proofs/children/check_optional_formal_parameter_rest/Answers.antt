@@ -6,4 +6,4 @@ use Rattle.jsgen_tree.specs.declared.types.NodeSet.TheVariants as sets
 use Rattle.jsgen_check.proofs.children.check_optional_formal_parameter_rest.Goals as goal
 
 pub returns-in-Some : goal.returns-in-Some
-returns-in-Some g c = rw c.in-Some.is ((rw c.deref.ensures at c.check_formal_parameter_rest.ensures) ∙ sym (of_right_set _ sets.FormalParameterRest _ refl))
+returns-in-Some g c = record { found = rw c.in-Some.is ((rw c.deref.ensures at c.check_formal_parameter_rest.ensures.found) ∙ sym (of_right_set _ _ sets.FormalParameterRest _ refl)); number = rw c.in-Some.is (rw (c.deref.ensures) at c.check_formal_parameter_rest.ensures.number) }

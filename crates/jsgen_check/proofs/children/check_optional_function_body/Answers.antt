@@ -6,4 +6,4 @@ use Rattle.jsgen_tree.specs.declared.types.NodeSet.TheVariants as sets
 use Rattle.jsgen_check.proofs.children.check_optional_function_body.Goals as goal
 
 pub returns-in-Some : goal.returns-in-Some
-returns-in-Some g c = rw c.in-Some.is ((rw c.deref.ensures at c.check_function_body.ensures) ∙ sym (of_right_set _ sets.FunctionBody _ refl))
+returns-in-Some g c = record { found = rw c.in-Some.is ((rw c.deref.ensures at c.check_function_body.ensures.found) ∙ sym (of_right_set _ _ sets.FunctionBody _ refl)); number = rw c.in-Some.is (rw (c.deref.ensures) at c.check_function_body.ensures.number) }

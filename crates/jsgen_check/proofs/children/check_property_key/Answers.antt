@@ -6,7 +6,7 @@ use Rattle.jsgen_tree.specs.declared.types.NodeSet.TheVariants as sets
 use Rattle.jsgen_check.proofs.children.check_property_key.Goals as goal
 
 pub returns-in-IdentifierName : goal.returns-in-IdentifierName
-returns-in-IdentifierName g c = rw c.in-IdentifierName.is ((rw c.deref.ensures at c.check_identifier_name.ensures) ∙ sym (of_right_set _ sets.PropertyKey _ refl))
+returns-in-IdentifierName g c = record { found = rw c.in-IdentifierName.is ((rw c.deref.ensures at c.check_identifier_name.ensures.found) ∙ sym (of_right_set _ _ sets.PropertyKey _ refl)); number = rw c.in-IdentifierName.is c.check_identifier_name.ensures.number }
 
 pub returns-in-PrivateIdentifier : goal.returns-in-PrivateIdentifier
-returns-in-PrivateIdentifier g c = rw c.in-PrivateIdentifier.is ((rw c.deref-in-PrivateIdentifier.ensures at c.check_private_identifier.ensures) ∙ sym (of_right_set _ sets.PropertyKey _ refl))
+returns-in-PrivateIdentifier g c = record { found = rw c.in-PrivateIdentifier.is ((rw c.deref-in-PrivateIdentifier.ensures at c.check_private_identifier.ensures.found) ∙ sym (of_right_set _ _ sets.PropertyKey _ refl)); number = rw c.in-PrivateIdentifier.is c.check_private_identifier.ensures.number }

@@ -6,13 +6,13 @@ use Rattle.jsgen_tree.specs.declared.types.NodeSet.TheVariants as sets
 use Rattle.jsgen_check.proofs.children.check_simple_assignment_target.Goals as goal
 
 pub returns-in-IdentifierReference : goal.returns-in-IdentifierReference
-returns-in-IdentifierReference g c = rw c.in-IdentifierReference.is ((rw c.deref.ensures at c.check_identifier_reference.ensures) ∙ sym (of_right_set _ sets.SimpleAssignmentTarget _ refl))
+returns-in-IdentifierReference g c = record { found = rw c.in-IdentifierReference.is ((rw c.deref.ensures at c.check_identifier_reference.ensures.found) ∙ sym (of_right_set _ _ sets.SimpleAssignmentTarget _ refl)); number = rw c.in-IdentifierReference.is c.check_identifier_reference.ensures.number }
 
 pub returns-in-StaticMemberExpression : goal.returns-in-StaticMemberExpression
-returns-in-StaticMemberExpression g c = rw c.in-StaticMemberExpression.is ((rw c.deref-in-StaticMemberExpression.ensures at c.check_static_member_expression.ensures) ∙ sym (of_right_set _ sets.SimpleAssignmentTarget _ refl))
+returns-in-StaticMemberExpression g c = record { found = rw c.in-StaticMemberExpression.is ((rw c.deref-in-StaticMemberExpression.ensures at c.check_static_member_expression.ensures.found) ∙ sym (of_right_set _ _ sets.SimpleAssignmentTarget _ refl)); number = rw c.in-StaticMemberExpression.is (rw (c.deref-in-StaticMemberExpression.ensures) at c.check_static_member_expression.ensures.number) }
 
 pub returns-in-ComputedMemberExpression : goal.returns-in-ComputedMemberExpression
-returns-in-ComputedMemberExpression g c = rw c.in-ComputedMemberExpression.is ((rw c.deref-in-ComputedMemberExpression.ensures at c.check_computed_member_expression.ensures) ∙ sym (of_right_set _ sets.SimpleAssignmentTarget _ refl))
+returns-in-ComputedMemberExpression g c = record { found = rw c.in-ComputedMemberExpression.is ((rw c.deref-in-ComputedMemberExpression.ensures at c.check_computed_member_expression.ensures.found) ∙ sym (of_right_set _ _ sets.SimpleAssignmentTarget _ refl)); number = rw c.in-ComputedMemberExpression.is (rw (c.deref-in-ComputedMemberExpression.ensures) at c.check_computed_member_expression.ensures.number) }
 
 pub returns-in-PrivateFieldExpression : goal.returns-in-PrivateFieldExpression
-returns-in-PrivateFieldExpression g c = rw c.in-PrivateFieldExpression.is ((rw c.deref-in-PrivateFieldExpression.ensures at c.check_private_field_expression.ensures) ∙ sym (of_right_set _ sets.SimpleAssignmentTarget _ refl))
+returns-in-PrivateFieldExpression g c = record { found = rw c.in-PrivateFieldExpression.is ((rw c.deref-in-PrivateFieldExpression.ensures at c.check_private_field_expression.ensures.found) ∙ sym (of_right_set _ _ sets.SimpleAssignmentTarget _ refl)); number = rw c.in-PrivateFieldExpression.is (rw (c.deref-in-PrivateFieldExpression.ensures) at c.check_private_field_expression.ensures.number) }

@@ -1,10 +1,14 @@
 -- Generated from tools/nodes/table.txt; edit that and run tools/nodes/generate.
 -- What is found of a row, from its parts.
 use Rattle.std.proofs.Common.{refl, sym, ◌∙◌}
+use Rattle.jsgen_tree.specs.Rows.{private_field_expression_row}
+use Rattle.jsgen_check.specs.Verdict.{surroundings_plain}
 use Rattle.jsgen_check.proofs.Verdicts.{of_right_set}
-use Rattle.jsgen_check.proofs.Steps.{two_children, last_child, of_row}
+use Rattle.jsgen_check.proofs.Steps.{of_row, then_one, none_behind, all_checked}
 use Rattle.jsgen_tree.specs.declared.types.NodeSet.TheVariants as sets
 use Rattle.jsgen_check.proofs.classes.check_private_field_expression.Goals as goal
 
 pub returns : goal.returns
-returns g c = of_row c.args.around.now _ _ _ _ refl c.check_node.ensures c.check_private_field_expression_rules-rules.ensures (two_children c.higher.ensures (rw c.get.ensures at c.check_child-object.ensures) (last_child ((rw c.deref.ensures at c.check_private_identifier-field.ensures) ∙ sym (of_right_set _ sets.PrivateIdentifier _ refl))))
+returns g c =
+    let row = of_row (surroundings_plain c.args.around.now c.args.classes) c.args.next.now (private_field_expression_row g.N.CheckNode.plain c.args.node.now) c.check_node.ensures c.check_private_field_expression_rules-rules.ensures (then_one refl c.higher.ensures (rw (c.get.ensures) at c.check_child-object.ensures.found) (rw (c.get.ensures) at c.check_child-object.ensures.number) (then_one refl (none_behind _) ((rw (c.deref.ensures) at c.check_private_identifier-field.ensures.found) ∙ sym (of_right_set _ _ sets.PrivateIdentifier _ refl)) c.check_private_identifier-field.ensures.number all_checked)) in
+    record { found = row.found; number = row.number }

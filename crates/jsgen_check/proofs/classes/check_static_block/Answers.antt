@@ -1,7 +1,12 @@
 -- Generated from tools/nodes/table.txt; edit that and run tools/nodes/generate.
 -- What is found of a row, from its parts.
-use Rattle.jsgen_check.proofs.Steps.{no_rules, last_child, of_row}
+use Rattle.std.proofs.Common.{refl}
+use Rattle.jsgen_tree.specs.Rows.{static_block_row}
+use Rattle.jsgen_check.specs.Verdict.{surroundings_plain}
+use Rattle.jsgen_check.proofs.Steps.{no_rules, of_row, then_many, none_behind, all_checked}
 use Rattle.jsgen_check.proofs.classes.check_static_block.Goals as goal
 
 pub returns : goal.returns
-returns g c = of_row c.within_static_block-within.result _ _ _ _ c.within_static_block-within.ensures c.check_node.ensures no_rules (last_child (rw c.deref.ensures.value at c.check_statements-body.ensures))
+returns g c =
+    let row = of_row (surroundings_plain c.args.around.now c.args.classes) c.args.next.now (static_block_row g.N.CheckNode.plain c.args.node.now) c.check_node.ensures no_rules (then_many refl (none_behind _) (rw (c.deref.ensures.value, c.within_nothing-outside.ensures c.args.classes) at c.check_statements-body.ensures.found) (rw (c.deref.ensures.value, c.within_nothing-outside.ensures c.args.classes) at c.check_statements-body.ensures.number) all_checked) in
+    record { found = row.found; number = row.number }

@@ -1,8 +1,12 @@
 -- Generated from tools/nodes/table.txt; edit that and run tools/nodes/generate.
 -- What is found of a row, from its parts.
 use Rattle.std.proofs.Common.{refl}
-use Rattle.jsgen_check.proofs.Steps.{no_rules, two_children, last_child, of_row}
+use Rattle.jsgen_tree.specs.Rows.{formal_parameters_row}
+use Rattle.jsgen_check.specs.Verdict.{surroundings_plain}
+use Rattle.jsgen_check.proofs.Steps.{no_rules, of_row, then_maybe, then_many, none_behind, all_checked}
 use Rattle.jsgen_check.proofs.functions.check_formal_parameters.Goals as goal
 
 pub returns : goal.returns
-returns g c = of_row c.args.around.now _ _ _ _ refl c.check_node.ensures no_rules (two_children c.higher.ensures (rw c.deref.ensures.value at c.check_each_formal_parameter-items.ensures) (last_child c.check_optional_formal_parameter_rest-rest.ensures))
+returns g c =
+    let row = of_row (surroundings_plain c.args.around.now c.args.classes) c.args.next.now (formal_parameters_row g.N.CheckNode.plain c.args.node.now) c.check_node.ensures no_rules (then_many refl c.higher.ensures (rw (c.deref.ensures.value) at c.check_each_formal_parameter-items.ensures.found) (rw (c.deref.ensures.value) at c.check_each_formal_parameter-items.ensures.number) (then_maybe refl (none_behind _) c.check_optional_formal_parameter_rest-rest.ensures.found c.check_optional_formal_parameter_rest-rest.ensures.number all_checked)) in
+    record { found = row.found; number = row.number }

@@ -1,8 +1,12 @@
 -- Generated from tools/nodes/table.txt; edit that and run tools/nodes/generate.
 -- What is found of a row, from its parts.
 use Rattle.std.proofs.Common.{refl}
-use Rattle.jsgen_check.proofs.Steps.{no_rules, last_child, of_row}
+use Rattle.jsgen_tree.specs.Rows.{continue_statement_row}
+use Rattle.jsgen_check.specs.Verdict.{surroundings_plain}
+use Rattle.jsgen_check.proofs.Steps.{no_rules, of_row, then_maybe, none_behind, all_checked}
 use Rattle.jsgen_check.proofs.loops.check_continue_statement.Goals as goal
 
 pub returns : goal.returns
-returns c = of_row c.args.around.now _ _ _ _ refl c.check_node.ensures no_rules (last_child c.check_optional_label_identifier-label.ensures)
+returns c =
+    let row = of_row (surroundings_plain c.args.around.now c.args.classes) c.args.next.now (continue_statement_row c.args.node.now) c.check_node.ensures no_rules (then_maybe refl (none_behind _) c.check_optional_label_identifier-label.ensures.found c.check_optional_label_identifier-label.ensures.number all_checked) in
+    record { found = row.found; number = row.number }

@@ -1,10 +1,14 @@
 -- Generated from tools/nodes/table.txt; edit that and run tools/nodes/generate.
 -- What is found of a row, from its parts.
 use Rattle.std.proofs.Common.{refl, sym, ◌∙◌}
+use Rattle.jsgen_tree.specs.Rows.{labeled_statement_row}
+use Rattle.jsgen_check.specs.Verdict.{surroundings_plain}
 use Rattle.jsgen_check.proofs.Verdicts.{of_right_set}
-use Rattle.jsgen_check.proofs.Steps.{two_children, last_child, of_row}
+use Rattle.jsgen_check.proofs.Steps.{of_row, then_one, none_behind, all_checked}
 use Rattle.jsgen_tree.specs.declared.types.NodeSet.TheVariants as sets
 use Rattle.jsgen_check.proofs.loops.check_labeled_statement.Goals as goal
 
 pub returns : goal.returns
-returns g c = of_row c.args.around.now _ _ _ _ refl c.check_node.ensures c.check_labeled_statement_rules-rules.ensures (two_children c.higher.ensures ((rw c.deref.ensures at c.check_label_identifier-label.ensures) ∙ sym (of_right_set _ sets.LabelIdentifier _ refl)) (last_child (rw c.get.ensures at c.check_child-body.ensures)))
+returns g c =
+    let row = of_row (surroundings_plain c.args.around.now c.args.classes) c.args.next.now (labeled_statement_row g.N.CheckNode.plain c.args.node.now) c.check_node.ensures c.check_labeled_statement_rules-rules.ensures (then_one refl c.higher.ensures ((rw (c.deref.ensures) at c.check_label_identifier-label.ensures.found) ∙ sym (of_right_set _ _ sets.LabelIdentifier _ refl)) c.check_label_identifier-label.ensures.number (then_one refl (none_behind _) (rw (c.get.ensures) at c.check_child-body.ensures.found) (rw (c.get.ensures) at c.check_child-body.ensures.number) all_checked)) in
+    record { found = row.found; number = row.number }

@@ -1,8 +1,12 @@
 -- Generated from tools/nodes/table.txt; edit that and run tools/nodes/generate.
 -- What is found of a row, from its parts.
 use Rattle.std.proofs.Common.{refl}
-use Rattle.jsgen_check.proofs.Steps.{last_child, of_row}
+use Rattle.jsgen_tree.specs.Rows.{update_expression_row}
+use Rattle.jsgen_check.specs.Verdict.{surroundings_plain}
+use Rattle.jsgen_check.proofs.Steps.{of_row, then_one, none_behind, all_checked}
 use Rattle.jsgen_check.proofs.operations.check_update_expression.Goals as goal
 
 pub returns : goal.returns
-returns g c = of_row c.args.around.now _ _ _ _ refl c.check_node.ensures c.check_update_expression_rules-rules.ensures (last_child c.check_simple_assignment_target-argument.ensures)
+returns g c =
+    let row = of_row (surroundings_plain c.args.around.now c.args.classes) c.args.next.now (update_expression_row g.N.CheckNode.plain c.args.node.now) c.check_node.ensures c.check_update_expression_rules-rules.ensures (then_one refl (none_behind _) c.check_simple_assignment_target-argument.ensures.found c.check_simple_assignment_target-argument.ensures.number all_checked) in
+    record { found = row.found; number = row.number }

@@ -1,8 +1,12 @@
 -- Generated from tools/nodes/table.txt; edit that and run tools/nodes/generate.
 -- What is found of a row, from its parts.
 use Rattle.std.proofs.Common.{refl}
-use Rattle.jsgen_check.proofs.Steps.{two_children, last_child, of_row}
+use Rattle.jsgen_tree.specs.Rows.{assignment_target_property_property_row}
+use Rattle.jsgen_check.specs.Verdict.{surroundings_plain}
+use Rattle.jsgen_check.proofs.Steps.{of_row, then_one, none_behind, all_checked}
 use Rattle.jsgen_check.proofs.targets.check_assignment_target_property_property.Goals as goal
 
 pub returns : goal.returns
-returns g c = of_row c.args.around.now _ _ _ _ refl c.check_node.ensures c.check_assignment_target_property_property_rules-rules.ensures (two_children c.higher.ensures c.check_property_key-name.ensures (last_child c.check_assignment_target_maybe_default-binding.ensures))
+returns g c =
+    let row = of_row (surroundings_plain c.args.around.now c.args.classes) c.args.next.now (assignment_target_property_property_row g.N.CheckNode.plain c.args.node.now) c.check_node.ensures c.check_assignment_target_property_property_rules-rules.ensures (then_one refl c.higher.ensures c.check_property_key-name.ensures.found c.check_property_key-name.ensures.number (then_one refl (none_behind _) c.check_assignment_target_maybe_default-binding.ensures.found c.check_assignment_target_maybe_default-binding.ensures.number all_checked)) in
+    record { found = row.found; number = row.number }

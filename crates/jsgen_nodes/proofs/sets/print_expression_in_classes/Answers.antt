@@ -1,6 +1,6 @@
 -- Generated from tools/nodes/table.txt; edit that and run tools/nodes/generate.
 -- What this part prints is printed as it is elsewhere, and what it doesn't is in a later one.
-use Rattle.jsgen_nodes.proofs.Parts.{expression_past_5}
+use Rattle.jsgen_nodes.proofs.Parts.{expression_past_6}
 use Rattle.jsgen_nodes.proofs.sets.print_expression_in_classes.Goals as goal
 
 pub returns-in-PrivateFieldExpression : goal.returns-in-PrivateFieldExpression
@@ -13,4 +13,4 @@ pub returns-in-Class : goal.returns-in-Class
 returns-in-Class g c = rw c.in-Class.is (rw c.deref-in-Class.ensures at c.print_class.ensures)
 
 pub unreachable-requires : goal.unreachable-requires
-unreachable-requires g c = expression_past_5 c.args.node.now c.requires c.in_default.not-PrivateFieldExpression c.in_default.not-PrivateInExpression c.in_default.not-Class
+unreachable-requires g c = expression_past_6 c.args.node.now c.requires c.in_default.not-PrivateFieldExpression c.in_default.not-PrivateInExpression c.in_default.not-Class

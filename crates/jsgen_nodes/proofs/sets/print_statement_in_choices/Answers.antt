@@ -9,5 +9,8 @@ returns-in-SwitchStatement g c = rw c.in-SwitchStatement.is (rw c.deref.ensures 
 pub returns-in-TryStatement : goal.returns-in-TryStatement
 returns-in-TryStatement g c = rw c.in-TryStatement.is (rw c.deref-in-TryStatement.ensures at c.print_try_statement.ensures)
 
-pub unreachable-requires : goal.unreachable-requires
-unreachable-requires g c = statement_past_3 c.args.node.now c.requires c.in_default.not-SwitchStatement c.in_default.not-TryStatement
+pub returns-in_default : goal.returns-in_default
+returns-in_default g c = c.print_statement_in_modules.ensures
+
+pub print_statement_in_modules-requires : goal.print_statement_in_modules-requires
+print_statement_in_modules-requires g c = statement_past_3 c.args.node.now c.requires c.in_default.not-SwitchStatement c.in_default.not-TryStatement

@@ -1,8 +1,11 @@
+use Rattle.jsgen_check.specs.Verdict.{surroundings_plain}
 use Rattle.jsgen_check.proofs.Steps.{broken, found, kept, two_rules}
 use Rattle.jsgen_check.proofs.rules.statements.check_for_of_statement_rules.Goals as goal
 
-pub returns-in_err-check_left : goal.returns-in_err-check_left
-returns-in_err-check_left g c = broken c.from_residual.ensures.1 (two_rules _ _ (found _ c.in_err-check_left.ensures))
+pub returns-in_err-check_await : goal.returns-in_err-check_await
+unfolding surroundings_plain
+returns-in_err-check_await g c = broken c.from_residual.ensures.1 (two_rules _ _ (found _ c.in_err-check_await.ensures))
 
 pub returns : goal.returns
-returns g c = two_rules _ _ (kept c.in_ok-check_left.ensures (rw c.get.ensures at c.check_followed.ensures))
+unfolding surroundings_plain
+returns g c = two_rules _ _ (kept c.in_ok-check_await.ensures c.check_left_and_body.ensures)

@@ -1,0 +1,12 @@
+-- Generated from tools/nodes/table.txt; edit that and run tools/nodes/generate.
+-- What is found of a row, from its parts.
+use Rattle.std.proofs.Common.{refl}
+use Rattle.jsgen_tree.specs.Rows.{yield_expression_row}
+use Rattle.jsgen_check.specs.Verdict.{surroundings_plain}
+use Rattle.jsgen_check.proofs.Steps.{of_row, then_maybe, none_behind, all_checked}
+use Rattle.jsgen_check.proofs.functions.check_yield_expression.Goals as goal
+
+pub returns : goal.returns
+returns g c =
+    let row = of_row (surroundings_plain c.args.around.now c.args.classes) c.args.next.now (yield_expression_row g.N.CheckNode.plain c.args.node.now) c.check_node.ensures c.check_yield_expression_rules-rules.ensures (then_maybe refl (none_behind _) c.check_optional_expression-argument.ensures.found c.check_optional_expression-argument.ensures.number all_checked) in
+    record { found = row.found; number = row.number }

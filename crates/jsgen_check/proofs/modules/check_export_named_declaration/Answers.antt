@@ -1,0 +1,12 @@
+-- Generated from tools/nodes/table.txt; edit that and run tools/nodes/generate.
+-- What is found of a row, from its parts.
+use Rattle.std.proofs.Common.{refl}
+use Rattle.jsgen_tree.specs.Rows.{export_named_declaration_row}
+use Rattle.jsgen_check.specs.Verdict.{surroundings_plain}
+use Rattle.jsgen_check.proofs.Steps.{of_row, then_many, none_behind, all_checked}
+use Rattle.jsgen_check.proofs.modules.check_export_named_declaration.Goals as goal
+
+pub returns : goal.returns
+returns c =
+    let row = of_row (surroundings_plain c.args.around.now c.args.classes) c.args.next.now (export_named_declaration_row c.args.node.now) c.check_node.ensures c.check_export_named_declaration_rules-rules.ensures (then_many refl (none_behind _) (rw (c.deref.ensures.value) at c.check_export_specifiers-specifiers.ensures.found) (rw (c.deref.ensures.value) at c.check_export_specifiers-specifiers.ensures.number) all_checked) in
+    record { found = row.found; number = row.number }

@@ -1,0 +1,24 @@
+use Rattle.std.proofs.Common.{rules}
+use Rattle.jsgen_tree.proofs.Knot.{plain_expression, plain_statement, plain_declaration, plain_binding_pattern, plain_class_element, plain_assignment_target}
+use Rattle.jsgen_check.proofs.pieces.+has_uncooked.Goals as goal
+
+pub returns-in-Expression : goal.returns-in-Expression
+returns-in-Expression t c = search (rules, plain_expression)
+
+pub returns-in-AssignmentTarget : goal.returns-in-AssignmentTarget
+returns-in-AssignmentTarget t c = search (rules, plain_assignment_target)
+
+pub returns-in-Declaration-statement : goal.returns-in-Declaration-statement
+returns-in-Declaration-statement t c = search (rules, plain_statement)
+
+pub returns-in_default : goal.returns-in_default
+returns-in_default t c = search (rules, plain_statement)
+
+pub returns-in-Declaration : goal.returns-in-Declaration
+returns-in-Declaration t c = search (rules, plain_declaration)
+
+pub returns-in-BindingPattern : goal.returns-in-BindingPattern
+returns-in-BindingPattern t c = search (rules, plain_binding_pattern)
+
+pub returns-in-ClassElement : goal.returns-in-ClassElement
+returns-in-ClassElement t c = search (rules, plain_class_element)

@@ -1,0 +1,5 @@
+// Generated from tools/nodes/table.txt; edit that and run tools/nodes/generate.
+//! Rows of a job, by the files of the table of nodes.
+#![tactic(auto)]
+
+pub mod modules;

@@ -1,0 +1,5 @@
+mod Ends
+mod Same
+mod Spaced
+mod Texts
+mod Words

@@ -1,0 +1,5 @@
+use Rattle.jsgen_printer.proofs.Sequence.{◌⨾◌}
+use Rattle.jsgen_nodes.proofs.loops.print_await_if.Goals as goal
+
+pub returns-then-test : goal.returns-then-test
+returns-then-test c = rw c.if-test.true (c.print_hard_space.ensures ⨾ c.print_word.ensures)

@@ -1,0 +1,1 @@
+const page=`<p>${title}</p>\n<script>${code}<\/script>`;const price=`$${amount} or $5`;const raw=String.raw`C:\users\${name}`;const mark=`<\/SCRIPT`;
