@@ -1,13 +1,14 @@
 -- What two trees of one meaning have in common.
-use Rattle.std.specs.Prelude.{ℕ, List, [], ◌∷◌, Bool, true, false, not, Option, Some, None, decimal, if◌then◌else◌, ◌&&◌, ◌||◌, nat_lt}
+use Rattle.std.specs.Prelude.{ℕ, List, [], ◌∷◌, Bool, true, false, not, flat_map, Option, Some, None, decimal, if◌then◌else◌, ◌&&◌, ◌||◌, nat_lt}
 use Rattle.jsgen_tree.specs.Atom.{Atom, no_value, text, units, flag, numeric_kind, declaration_kind, kind_of_function, binary_operator, logical_operator, unary_operator, update_operator, property_kind, assignment_operator, kind_of_method}
 use Rattle.std.specs.List.{list_all}
 use Rattle.std.specs.Option.{option_map_or}
+use Rattle.std.specs.Char.Escape.{encode_utf16}
 use Rattle.jsgen_tree.specs.Number.{NumericKind, Whole, Raw}
 use Rattle.jsgen_tree.specs.Tree.{Tree, node, Slots, no_slots, one, maybe, many, maybe_many, Maybe, absent, given, Trees, no_trees, more, hole, MaybeTrees, no_list, listed, Atoms}
 use Rattle.jsgen_tree.specs.declared.types.NodeType.TheVariants as types
 use Rattle.jsgen_tree.specs.Places.{bare, absent_values}
-use Rattle.jsgen_tree.specs.Values.{directive_directive, variable_declaration_kind, binding_identifier_name, identifier_reference_name, identifier_name_name, label_identifier_name, for_of_statement_is_await, boolean_literal_value, numeric_literal_kind, numeric_literal_negative, numeric_literal_digits, numeric_literal_text, big_int_literal_value, string_literal_value, binary_expression_operator, logical_expression_operator, unary_expression_operator, update_expression_operator, update_expression_prefix, variable_declaration_declare, variable_declarator_definite, static_member_expression_optional, computed_member_expression_optional, call_expression_optional, object_property_kind, object_property_method, object_property_shorthand, object_property_computed, assignment_expression_operator, function_kind, function_is_async, function_generator, function_declare, formal_parameter_is_override, formal_parameter_readonly, formal_parameter_optional, arrow_function_expression_is_async, reg_exp_literal_pattern, reg_exp_literal_flags, method_definition_kind, method_definition_computed, method_definition_is_static, method_definition_is_override, method_definition_is_abstract, method_definition_optional}
+use Rattle.jsgen_tree.specs.Values.{directive_directive, variable_declaration_kind, binding_identifier_name, identifier_reference_name, identifier_name_name, label_identifier_name, for_of_statement_is_await, boolean_literal_value, numeric_literal_kind, numeric_literal_negative, numeric_literal_digits, numeric_literal_text, big_int_literal_value, string_literal_value, binary_expression_operator, logical_expression_operator, unary_expression_operator, update_expression_operator, update_expression_prefix, variable_declaration_declare, variable_declarator_definite, static_member_expression_optional, computed_member_expression_optional, call_expression_optional, object_property_kind, object_property_method, object_property_shorthand, object_property_computed, assignment_expression_operator, function_kind, function_is_async, function_generator, function_declare, formal_parameter_is_override, formal_parameter_readonly, formal_parameter_optional, arrow_function_expression_is_async, reg_exp_literal_pattern, reg_exp_literal_flags, method_definition_kind, method_definition_computed, method_definition_is_static, method_definition_is_override, method_definition_is_abstract, method_definition_optional, template_element_raw, template_element_cooked}
 use Rattle.jsgen_syntax.specs.Raw.{directive_value, pattern_text}
 use Rattle.jsgen_syntax.specs.declared.operator.LogicalOperator.{LogicalOperator}
 use Rattle.jsgen_syntax.specs.declared.operator.UnaryOperator.TheVariants.{UnaryNegation}
@@ -165,9 +166,55 @@ abbrev pub property_form : Atoms → Tree → Atoms
 property_form a key = property_values (object_property_kind a) (is_written_as_method (object_property_kind a) (object_property_method a))
     (is_proto_shorthand (is_method (object_property_kind a) (object_property_method a)) (object_property_shorthand a) key) (is_computed (object_property_computed a) key)
 
+-- ---- templates
+
+-- what an untagged piece stands for, and nothing of another tree
+abbrev pub piece_value : Tree → List ℕ
+piece_value (tree.template_element a) = or_none (template_element_cooked a)
+piece_value t = []
+
+-- a piece by what it stands for
+abbrev pub by_value : Tree → Tree
+by_value t = tree.template_element (bare (no_value ∷ units (piece_value t) ∷ []))
+
+abbrev pub by_values : Trees → Trees
+by_values no_trees = no_trees
+by_values (more t ts) = more (by_value t) (by_values ts)
+by_values (hole ts) = hole (by_values ts)
+
+-- the raw text of a piece, which its tag sees, and nothing of another tree
+abbrev pub raw_of_piece : Tree → List ℕ
+raw_of_piece (tree.template_element a) = template_element_raw a
+raw_of_piece t = []
+
+abbrev pub by_raw_text : Tree → Tree
+by_raw_text t = tree.template_element (bare (text (raw_of_piece t) ∷ no_value ∷ []))
+
+abbrev pub by_raw_texts : Trees → Trees
+by_raw_texts no_trees = no_trees
+by_raw_texts (more t ts) = more (by_raw_text t) (by_raw_texts ts)
+by_raw_texts (hole ts) = hole (by_raw_texts ts)
+
+-- a template without a tag: of one piece alone a string (ECMA-262, 13.2.8.6)
+abbrev pub untagged : Trees → Trees → Tree
+untagged (more t no_trees) no_trees = tree.string_literal (bare (units (piece_value t) ∷ []))
+untagged pieces expressions = tree.template_literal (nothing_of 0) pieces expressions
+
+-- ---- names of imports and exports
+
+-- a name by its text, whether it is written as a name or as a string (ECMA-262, 16.2, ModuleExportName)
+abbrev pub by_its_text : Tree → Tree
+by_its_text (tree.identifier_name a) = tree.string_literal (bare (units (flat_map encode_utf16 (identifier_name_name a)) ∷ []))
+by_its_text t = t
+
+abbrev pub maybe_by_its_text : Maybe → Maybe
+maybe_by_its_text absent = absent
+maybe_by_its_text (given t) = given (by_its_text t)
+
 -- Parentheses, spans, the source and the kind of a program are away, and whether a call, `new` or a function is pure, or is marked as called; a flag such as `is_async` that is false counts like one that is absent; a directive is its value; a
 -- whole number is its digits, and a minus before a number is an operation; a negative number that is a key is a computed one; a chain of one logical operator is one list, however it was grouped, and so is a sequence; braces round a consequent
--- that ends in an `if` without `else` are away; a property that its value alone says is written out, but for `__proto__`, and so is one of a target; a pattern of a regular expression is in ASCII; a constructor is a method.
+-- that ends in an `if` without `else` are away; a property that its value alone says is written out, but for `__proto__`, and so is one of a target; a pattern of a regular expression is in ASCII; a constructor is a method; the
+-- pieces of a template are what they stand for, and behind a tag their raw texts, and an untagged template of one piece is a string; a name of an import or an export is its text.
 abbrev mutual
   pub normal : Tree → Tree
   normal (tree.program a comments hashbang directives body) = tree.program (nothing_of 4) no_trees (normal_maybe hashbang) (normal_trees directives) (normal_trees body)
@@ -190,6 +237,11 @@ abbrev mutual
   normal (tree.reg_exp_literal a) = tree.reg_exp_literal (bare (text (ascii_pattern (reg_exp_literal_pattern a)) ∷ text (reg_exp_literal_flags a) ∷ []))
   normal (tree.method_definition a key value) = tree.method_definition (method_values (as_method (method_definition_kind a)) (method_definition_computed a) (method_definition_is_static a) (if_set (method_definition_is_override a)) (if_set (method_definition_is_abstract a)) (if_set (method_definition_optional a))) (normal key) (normal value)
   normal (tree.target_property_identifier a binding init) = written_out (nothing_of 0) (normal binding) (normal binding) (normal_maybe init)
+  normal (tree.template_literal a quasis expressions) = untagged (by_values quasis) (normal_trees expressions)
+  normal (tree.tagged_template a tag quasi) = tree.tagged_template (bare a.values) (normal tag) (normal_quasi quasi)
+  normal (tree.import_specifier a imported local) = tree.import_specifier (bare a.values) (by_its_text (normal imported)) (normal local)
+  normal (tree.export_specifier a local exported) = tree.export_specifier (bare a.values) (by_its_text (normal local)) (by_its_text (normal exported))
+  normal (tree.export_all_declaration a exported source with_clause) = tree.export_all_declaration (bare a.values) (maybe_by_its_text (normal_maybe exported)) (normal source) (normal_maybe with_clause)
   normal (tree.comment a) = tree.comment (bare a.values)
   -- generated from tools/nodes/table.txt: clauses
   normal (tree.variable_declaration a declarations) = tree.variable_declaration (bare (declaration_kind (variable_declaration_kind a) ∷ if_set (variable_declaration_declare a) ∷ [])) (normal_trees declarations)
@@ -235,6 +287,11 @@ abbrev mutual
   normal (tree.catch_clause a param body) = tree.catch_clause (nothing_of 0) (normal_maybe param) (normal body)
   -- end of what is generated: clauses
   normal (node type a slots) = node type (bare a.values) (normal_slots slots)
+
+  -- the template behind a tag; what is no template has no piece
+  pub normal_quasi : Tree → Tree
+  normal_quasi (tree.template_literal a quasis expressions) = tree.template_literal (nothing_of 0) (by_raw_texts quasis) (normal_trees expressions)
+  normal_quasi t = tree.template_literal (nothing_of 0) no_trees no_trees
 
   pub normal_slots : Slots → Slots
   normal_slots no_slots = no_slots

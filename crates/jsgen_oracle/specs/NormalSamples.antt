@@ -51,6 +51,16 @@ big value = tree.big_int_literal (named value)
 abbrev pub minus : Tree → Tree
 minus t = unary_of UnaryNegation t
 
+-- a piece of a template by its raw text and what it stands for
+abbrev pub piece : List ℕ → List ℕ → Tree
+piece raw value = tree.template_element (bare (text raw ∷ units value ∷ []))
+
+abbrev pub template_of : Trees → Trees → Tree
+template_of pieces expressions = tree.template_literal (nothing_of 0) pieces expressions
+
+abbrev pub tagged_with : Tree → Tree → Tree
+tagged_with tag quasi = tree.tagged_template (nothing_of 0) tag quasi
+
 -- a property by whether its name alone says it and whether its key is computed
 abbrev pub property_of : Bool → Bool → Tree → Tree → Tree
 property_of shorthand computed key value = tree.object_property (property_values Init false shorthand computed) key value
@@ -299,3 +309,21 @@ pub record NormalSamples : Type 0 where
   pub return_or_nothing : AreTwo (declared (body_with (alone (return_of absent)))) (declared empty_body)
   -- `function f(){"use strict";}` and `function f(){("use strict");}`
   pub directive_in_body : AreTwo (declared (directed_body no_trees)) (declared (body_with (alone (statement_of (string_of (codes "use strict"))))))
+  -- "`a`" and `"a"`
+  pub template_of_one_piece : AreOne (template_of (alone (piece (codes "a") (codes "a"))) no_trees) (string_of (codes "a"))
+  -- "`\\x61${b}c`" and "`a${b}c`"
+  pub piece_by_value : AreOne (template_of (two_of (piece (codes "\\x61") (codes "a")) (piece (codes "c") (codes "c"))) (alone b)) (template_of (two_of (piece (codes "a") (codes "a")) (piece (codes "c") (codes "c"))) (alone b))
+  -- "`a${b}c`" and "`a${b}d`"
+  pub other_piece : AreTwo (template_of (two_of (piece (codes "a") (codes "a")) (piece (codes "c") (codes "c"))) (alone b)) (template_of (two_of (piece (codes "a") (codes "a")) (piece (codes "d") (codes "d"))) (alone b))
+  -- "c`\\x61`" and "c`a`"
+  pub raw_text_behind_a_tag : AreTwo (tagged_with c (template_of (alone (piece (codes "\\x61") (codes "a"))) no_trees)) (tagged_with c (template_of (alone (piece (codes "a") (codes "a"))) no_trees))
+  -- "c`a`" and `c("a")`
+  pub tagged_or_called : AreTwo (tagged_with c (template_of (alone (piece (codes "a") (codes "a"))) no_trees)) (call_of c (alone (string_of (codes "a"))))
+  -- `import{a as b}`, and with `"a"`
+  pub name_of_an_import : AreOne (tree.import_specifier (nothing_of 1) (key_of (codes "a")) (tree.binding_identifier (unnumbered (codes "b")))) (tree.import_specifier (nothing_of 1) (string_of (codes "a")) (tree.binding_identifier (unnumbered (codes "b"))))
+  -- `export{a as b}`, and with `"b"`
+  pub name_of_an_export : AreOne (tree.export_specifier (nothing_of 1) a (key_of (codes "b"))) (tree.export_specifier (nothing_of 1) a (string_of (codes "b")))
+  -- `export{a as b}` and `export{a as c}`
+  pub other_name_of_an_export : AreTwo (tree.export_specifier (nothing_of 1) a (key_of (codes "b"))) (tree.export_specifier (nothing_of 1) a (key_of (codes "c")))
+  -- `export{a as b}` of a binding, and of a name, as behind `from`
+  pub exported_or_passed_on : AreTwo (tree.export_specifier (nothing_of 1) a (key_of (codes "b"))) (tree.export_specifier (nothing_of 1) (key_of (codes "a")) (key_of (codes "b")))

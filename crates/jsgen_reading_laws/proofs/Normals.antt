@@ -12,7 +12,7 @@ use Rattle.jsgen_tree.specs.declared.collections.PropertyKind.TheVariants as pro
 use Rattle.jsgen_tree.specs.Nodes as tree
 use Rattle.std.proofs.lemmas.Bool.{both_ways}
 use Rattle.std.proofs.lemmas.Option.{same_Some}
-use Rattle.jsgen_model.specs.Normal.{normal, normal_slots, normal_maybe, normal_trees, normal_maybe_trees, unbraced, nothing_of, by_text, number_text, minus_before, big_integer, is_computed, property_values, is_written_as_method, is_proto_shorthand, chain, same_operator, joined, links, parts_of, flattened, link_values, call_values, function_values, if_set, method_values, as_method}
+use Rattle.jsgen_model.specs.Normal.{normal, normal_slots, normal_maybe, normal_trees, normal_maybe_trees, unbraced, nothing_of, by_text, number_text, minus_before, big_integer, is_computed, property_values, is_written_as_method, is_proto_shorthand, chain, same_operator, joined, links, parts_of, flattened, link_values, call_values, function_values, if_set, method_values, as_method, normal_quasi, untagged, by_value, by_values, by_raw_text, by_raw_texts, piece_value, by_its_text, maybe_by_its_text}
 use Rattle.jsgen_model.specs.Renamed.{written_out}
 use Rattle.jsgen_tree.specs.declared.classes.MethodDefinitionKind.{MethodDefinitionKind}
 use Rattle.jsgen_tree.specs.declared.classes.MethodDefinitionKind.TheVariants as method_kinds
@@ -161,6 +161,33 @@ written_out_again (tree.identifier_reference b) absent e f = ap (λ u. written_o
 written_out_again (tree.identifier_reference b) (given v) e f = λ i. written_out (nothing_of 0) (tree.identifier_reference b) (e i) (f i)
 written_out_again t m e f = λ i. written_out (nothing_of 0) (e i) (e i) (f i)
 
+-- ---- templates
+
+values_again : (ts : Trees) → by_values (by_values ts) ≡ by_values ts
+values_again no_trees = refl
+values_again (more t ts) = ap (λ us. more (by_value t) us) (values_again ts)
+values_again (hole ts) = ap (λ us. hole us) (values_again ts)
+
+raw_texts_again : (ts : Trees) → by_raw_texts (by_raw_texts ts) ≡ by_raw_texts ts
+raw_texts_again no_trees = refl
+raw_texts_again (more t ts) = ap (λ us. more (by_raw_text t) us) (raw_texts_again ts)
+raw_texts_again (hole ts) = ap (λ us. hole us) (raw_texts_again ts)
+
+untagged_again : (pieces expressions : Trees) → by_values pieces ≡ pieces → normal_trees expressions ≡ expressions → normal (untagged pieces expressions) ≡ untagged pieces expressions
+untagged_again (more t no_trees) no_trees e f = refl
+untagged_again pieces expressions e f = λ i. untagged (e i) (f i)
+
+-- ---- names of imports and exports
+
+text_again : (t : Tree) → normal t ≡ t → by_its_text (normal (by_its_text t)) ≡ by_its_text t
+text_again (tree.identifier_name a) e = refl
+text_again t e = ap by_its_text e
+
+maybe_text_again : (m : Maybe) → normal_maybe m ≡ m → maybe_by_its_text (normal_maybe (maybe_by_its_text m)) ≡ maybe_by_its_text m
+maybe_text_again absent e = refl
+maybe_text_again (given (tree.identifier_name a)) e = refl
+maybe_text_again (given t) e = ap maybe_by_its_text e
+
 -- ---- the whole
 
 mutual
@@ -243,7 +270,23 @@ mutual
       let f = normal_again value in
       λ i. tree.method_definition (method_values (k i) (method_definition_computed a) (method_definition_is_static a) (if_set (s i)) (if_set (u i)) (if_set (v i))) (e i) (f i)
   normal_again (tree.target_property_identifier a binding init) = written_out_again (normal binding) (normal_maybe init) (normal_again binding) (normal_maybe_again init)
+  normal_again (tree.template_literal a quasis expressions) = untagged_again (by_values quasis) (normal_trees expressions) (values_again quasis) (normal_trees_again expressions)
+  normal_again (tree.tagged_template a tag quasi) = let e = normal_again tag in let f = normal_quasi_again quasi in λ i. tree.tagged_template (bare a.values) (e i) (f i)
+  normal_again (tree.import_specifier a imported local) = let e = text_again (normal imported) (normal_again imported) in let f = normal_again local in λ i. tree.import_specifier (bare a.values) (e i) (f i)
+  normal_again (tree.export_specifier a local exported) =
+      let e = text_again (normal local) (normal_again local) in
+      let f = text_again (normal exported) (normal_again exported) in
+      λ i. tree.export_specifier (bare a.values) (e i) (f i)
+  normal_again (tree.export_all_declaration a exported source with_clause_child) =
+      let e = maybe_text_again (normal_maybe exported) (normal_maybe_again exported) in
+      let f = normal_again source in
+      let g = normal_maybe_again with_clause_child in
+      λ i. tree.export_all_declaration (bare a.values) (e i) (f i) (g i)
   normal_again (node type a slots) = ap (λ s. node type (bare a.values) s) (normal_slots_again slots)
+
+  normal_quasi_again : (t : Tree) → normal_quasi (normal_quasi t) ≡ normal_quasi t
+  normal_quasi_again (tree.template_literal a quasis expressions) = let e = raw_texts_again quasis in let f = normal_trees_again expressions in λ i. tree.template_literal (nothing_of 0) (e i) (f i)
+  normal_quasi_again t = refl
 
   flattened_again : (ts : Trees) → flattened (normal_trees (flattened (normal_trees ts))) ≡ flattened (normal_trees ts)
   flattened_again no_trees = refl

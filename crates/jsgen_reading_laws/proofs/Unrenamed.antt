@@ -1,14 +1,14 @@
 -- What stays as it is where names are printed by tables; and without tables all does.
 use Rattle.std.specs.Option.{option_map_or}
 use Rattle.std.proofs.Common.{◌≡◌, None, false, not, ◌&&◌, ◌||◌, [], ◌∷◌, refl, ap}
-use Rattle.jsgen_tree.specs.Atom.{no_value, declaration_kind, binary_operator, logical_operator, unary_operator, update_operator, assignment_operator, flag}
+use Rattle.jsgen_tree.specs.Atom.{no_value, text, units, declaration_kind, binary_operator, logical_operator, unary_operator, update_operator, assignment_operator, flag}
 use Rattle.jsgen_tree.specs.Tree.{Tree, node, Slots, no_slots, one, maybe, many, maybe_many, Maybe, absent, given, Trees, no_trees, more, hole, MaybeTrees, no_list, listed, Atoms}
 use Rattle.jsgen_tree.specs.Places.{bare}
 use Rattle.jsgen_tree.specs.Values.{variable_declaration_kind, variable_declaration_declare, variable_declarator_definite, for_of_statement_is_await, static_member_expression_optional, computed_member_expression_optional, call_expression_optional, binary_expression_operator, logical_expression_operator, unary_expression_operator, update_expression_operator, update_expression_prefix, object_property_kind, object_property_method, object_property_shorthand, object_property_computed, assignment_expression_operator, function_kind, function_is_async, function_generator, function_declare, formal_parameter_is_override, formal_parameter_readonly, formal_parameter_optional, arrow_function_expression_is_async, method_definition_kind, method_definition_computed, method_definition_is_static, method_definition_is_override, method_definition_is_abstract, method_definition_optional}
 use Rattle.jsgen_tree.specs.Inside.{written_name_in, is_proto, is_method, is_negative_number}
 use Rattle.jsgen_tree.specs.Job.{Tables, no_tables}
 use Rattle.jsgen_tree.specs.Nodes as tree
-use Rattle.jsgen_model.specs.Normal.{normal, normal_slots, normal_maybe, normal_trees, normal_maybe_trees, unbraced, nothing_of, chain, joined, links, flattened, link_values, call_values, property_values, is_written_as_method, function_values, if_set, method_values, as_method}
+use Rattle.jsgen_model.specs.Normal.{normal, normal_slots, normal_maybe, normal_trees, normal_maybe_trees, unbraced, nothing_of, chain, joined, links, flattened, link_values, call_values, property_values, is_written_as_method, function_values, if_set, method_values, as_method, normal_quasi, untagged, piece_value, raw_of_piece, by_values, by_raw_texts, by_its_text, maybe_by_its_text}
 use Rattle.jsgen_model.specs.Renamed.{written_out, renamed, renamed_slots, renamed_maybe, renamed_trees, renamed_maybe_trees}
 
 -- ---- by any tables
@@ -44,6 +44,43 @@ written_out_again : (a : Atoms) (t : Tree) (init : Maybe) → normal (renamed no
 written_out_again a (tree.identifier_reference b) absent e f = refl
 written_out_again a (tree.identifier_reference b) (given v) e f = ap (λ m. written_out (nothing_of 0) (normal (tree.identifier_reference b)) (normal (tree.identifier_reference b)) m) f
 written_out_again a t init e f = λ i. written_out (nothing_of 0) (e i) (e i) (f i)
+
+-- what a piece of a template says stays, whatever the tree
+written_out_valueless : (a : Atoms) (binding t : Tree) (init : Maybe) → piece_value (written_out a binding t init) ≡ []
+written_out_valueless a (tree.identifier_reference b) t init = refl
+written_out_valueless a binding t init = refl
+
+same_value : (t : Tree) → piece_value (renamed no_tables t) ≡ piece_value t
+same_value (tree.template_element a) = refl
+same_value (tree.identifier_reference a) = refl
+same_value (tree.binding_identifier a) = refl
+same_value (tree.target_property_identifier a binding init) = written_out_valueless a binding (renamed no_tables binding) (renamed_maybe no_tables init)
+same_value t = refl
+
+same_values : (ts : Trees) → by_values (renamed_trees no_tables ts) ≡ by_values ts
+same_values no_trees = refl
+same_values (more t ts) = let e = same_value t in let f = same_values ts in λ i. more (tree.template_element (bare (no_value ∷ units (e i) ∷ []))) (f i)
+same_values (hole ts) = ap (λ us. hole us) (same_values ts)
+
+written_out_textless : (a : Atoms) (binding t : Tree) (init : Maybe) → raw_of_piece (written_out a binding t init) ≡ []
+written_out_textless a (tree.identifier_reference b) t init = refl
+written_out_textless a binding t init = refl
+
+same_raw_text : (t : Tree) → raw_of_piece (renamed no_tables t) ≡ raw_of_piece t
+same_raw_text (tree.template_element a) = refl
+same_raw_text (tree.identifier_reference a) = refl
+same_raw_text (tree.binding_identifier a) = refl
+same_raw_text (tree.target_property_identifier a binding init) = written_out_textless a binding (renamed no_tables binding) (renamed_maybe no_tables init)
+same_raw_text t = refl
+
+same_raw_texts : (ts : Trees) → by_raw_texts (renamed_trees no_tables ts) ≡ by_raw_texts ts
+same_raw_texts no_trees = refl
+same_raw_texts (more t ts) = let e = same_raw_text t in let f = same_raw_texts ts in λ i. more (tree.template_element (bare (text (e i) ∷ no_value ∷ []))) (f i)
+same_raw_texts (hole ts) = ap (λ us. hole us) (same_raw_texts ts)
+
+written_out_quasiless : (a : Atoms) (binding t : Tree) (init : Maybe) → normal_quasi (written_out a binding t init) ≡ tree.template_literal (nothing_of 0) no_trees no_trees
+written_out_quasiless a (tree.identifier_reference b) t init = refl
+written_out_quasiless a binding t init = refl
 
 mutual
   pub unrenamed : (t : Tree) → normal (renamed no_tables t) ≡ normal t
@@ -114,7 +151,23 @@ mutual
   unrenamed (tree.reg_exp_literal a) = refl
   unrenamed (tree.method_definition a key value) = let e = unrenamed key in let f = unrenamed value in λ i. tree.method_definition (method_values (as_method (method_definition_kind a)) (method_definition_computed a) (method_definition_is_static a) (if_set (method_definition_is_override a)) (if_set (method_definition_is_abstract a)) (if_set (method_definition_optional a))) (e i) (f i)
   unrenamed (tree.target_property_identifier a binding init) = written_out_again a binding init (unrenamed binding) (unrenamed_maybe init)
+  unrenamed (tree.template_literal a quasis expressions) = let e = same_values quasis in let f = unrenamed_trees expressions in λ i. untagged (e i) (f i)
+  unrenamed (tree.tagged_template a tag quasi) = let e = unrenamed tag in let f = unrenamed_quasi quasi in λ i. tree.tagged_template (bare a.values) (e i) (f i)
+  unrenamed (tree.import_specifier a imported local) = let e = unrenamed imported in let f = unrenamed local in λ i. tree.import_specifier (bare a.values) (by_its_text (e i)) (f i)
+  unrenamed (tree.export_specifier a local exported) = let e = unrenamed local in let f = unrenamed exported in λ i. tree.export_specifier (bare a.values) (by_its_text (e i)) (by_its_text (f i))
+  unrenamed (tree.export_all_declaration a exported source with_clause_child) =
+      let e = unrenamed_maybe exported in
+      let f = unrenamed source in
+      let g = unrenamed_maybe with_clause_child in
+      λ i. tree.export_all_declaration (bare a.values) (maybe_by_its_text (e i)) (f i) (g i)
   unrenamed (node type a slots) = ap (λ s. node type (bare a.values) s) (unrenamed_slots slots)
+
+  unrenamed_quasi : (t : Tree) → normal_quasi (renamed no_tables t) ≡ normal_quasi t
+  unrenamed_quasi (tree.template_literal a quasis expressions) = let e = same_raw_texts quasis in let f = unrenamed_trees expressions in λ i. tree.template_literal (nothing_of 0) (e i) (f i)
+  unrenamed_quasi (tree.identifier_reference a) = refl
+  unrenamed_quasi (tree.binding_identifier a) = refl
+  unrenamed_quasi (tree.target_property_identifier a binding init) = written_out_quasiless a binding (renamed no_tables binding) (renamed_maybe no_tables init)
+  unrenamed_quasi t = refl
 
   unrenamed_slots : (s : Slots) → normal_slots (renamed_slots no_tables s) ≡ normal_slots s
   unrenamed_slots no_slots = refl

@@ -206,4 +206,13 @@ returns c = record {
   result_or_none = apart _ _ refl refl;
   return_or_nothing = apart _ _ refl refl;
   directive_in_body = apart _ _ refl refl;
+  template_of_one_piece = refl;
+  piece_by_value = refl;
+  other_piece = apart _ _ refl refl;
+  raw_text_behind_a_tag = apart _ _ refl refl;
+  tagged_or_called = apart _ _ refl refl;
+  name_of_an_import = refl;
+  name_of_an_export = refl;
+  other_name_of_an_export = apart _ _ refl refl;
+  exported_or_passed_on = apart _ _ refl refl;
 }
