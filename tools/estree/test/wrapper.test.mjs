@@ -1,0 +1,111 @@
+// `./jsgen` around the program, with a toolchain in place of rt that takes a moment and builds a program of one line.
+import assert from "node:assert/strict";
+import { spawn, spawnSync } from "node:child_process";
+import { chmodSync, copyFileSync, existsSync, mkdirSync, mkdtempSync, readFileSync, rmSync, writeFileSync } from "node:fs";
+import { tmpdir } from "node:os";
+import { join } from "node:path";
+import { test } from "node:test";
+import { fileURLToPath } from "node:url";
+
+const top = (name) => fileURLToPath(new URL(`../../../${name}`, import.meta.url));
+
+const TOOLCHAIN = `#!/usr/bin/env bash
+echo "$$ $1" >>"$CALLS"
+case $1 in
+  all) echo "== jsgen_syntax"; sleep "$PAUSE" ;;
+  run) mkdir -p out; printf '#!/bin/sh\\necho "code of $1"\\n' >out/jsgen_cli; chmod +x out/jsgen_cli ;;
+  try)
+    [ "$PAUSE" != broken ] || { echo "no such function" >&2; exit 1; }
+    echo "code"
+    printf '%s\\n' "refused: Name at 0" "checked: ended status=1" "run=ended status=1 runners=1 proved=no" >&2
+    exit 1
+    ;;
+esac
+`;
+
+// Hands the wrapper's folder, the environment and the lines of the toolchain's calls to the test.
+async function withWrapper(pause, use) {
+  const folder = mkdtempSync(join(tmpdir(), "jsgen-wrapper-"));
+  try {
+    for (const name of ["jsgen", "crates.txt"]) copyFileSync(top(name), join(folder, name));
+    for (const crate of ["jsgen", "jsgen_tool", "jsgen_cli"]) mkdirSync(join(folder, "crates", crate, "src"), { recursive: true });
+    mkdirSync(join(folder, "bin"));
+    writeFileSync(join(folder, "bin", "rt"), TOOLCHAIN);
+    chmodSync(join(folder, "bin", "rt"), 0o755);
+    const calls = join(folder, "calls");
+    const env = { ...process.env, PATH: `${join(folder, "bin")}:${process.env.PATH}`, CALLS: calls, PAUSE: pause };
+    await use(folder, env, () => (existsSync(calls) ? readFileSync(calls, "utf8").trim().split("\n") : []));
+  } finally {
+    rmSync(folder, { recursive: true, force: true });
+  }
+}
+
+function started(folder, env, words) {
+  const child = spawn(join(folder, "jsgen"), words, { env, stdio: ["ignore", "pipe", "pipe"] });
+  const said = { code: "", lines: "", child };
+  child.stdout.on("data", (data) => (said.code += data));
+  child.stderr.on("data", (data) => (said.lines += data));
+  said.ended = new Promise((resolve) => child.on("close", (status) => resolve(status)));
+  return said;
+}
+
+async function until(holds) {
+  for (let turn = 0; turn < 400 && !holds(); turn++) await new Promise((resolve) => setTimeout(resolve, 25));
+  assert.ok(holds());
+}
+
+test("eight calls at once make one build, and each prints", async () => {
+  await withWrapper("2", async (folder, env, calls) => {
+    const all = Array.from({ length: 8 }, () => started(folder, env, ["print"]));
+    for (const call of all) {
+      assert.equal(await call.ended, 0, call.lines);
+      assert.equal(call.code, "code of print\n");
+    }
+    assert.deepEqual(calls().map((line) => line.split(" ")[1]), ["all", "all", "run"]);
+    assert.ok(all.some((call) => call.lines.includes("another call is building")));
+    assert.equal(all.filter((call) => call.lines.includes("jsgen: 0 s: building, which proves ")).length, 1);
+  });
+});
+
+test("a call that is ended ends its build", async () => {
+  await withWrapper("600", async (folder, env, calls) => {
+    const call = started(folder, env, ["print"]);
+    await until(() => calls().length === 1);
+    call.child.kill("SIGTERM");
+    assert.equal(await call.ended, 143);
+    const [number] = calls()[0].split(" ");
+    await until(() => spawnSync("kill", ["-0", number]).status !== 0);
+  });
+});
+
+test("while the gate runs nothing is built", async () => {
+  await withWrapper("0", async (folder, env, calls) => {
+    assert.equal(spawnSync("git", ["init", "-q", folder]).status, 0);
+    const gate = spawn("flock", [join(folder, ".git", "rt-ci.lock"), "sh", "-c", "echo held; exec sleep 600"], { stdio: ["ignore", "pipe", "ignore"] });
+    try {
+      await new Promise((resolve) => gate.stdout.once("data", resolve));
+      const call = started(folder, env, ["print"]);
+      assert.equal(await call.ended, 70);
+      assert.equal(call.lines, "jsgen: `rt ci` is at work, which sets the program aside: call again when it has ended\n");
+      assert.deepEqual(calls(), []);
+    } finally {
+      gate.kill();
+      spawnSync("pkill", ["-P", String(gate.pid)]);
+    }
+  });
+});
+
+test("--unproved runs the program without its proofs, and says so", async () => {
+  await withWrapper("0", async (folder, env, calls) => {
+    const call = started(folder, env, ["--unproved", "print"]);
+    assert.equal(await call.ended, 1);
+    assert.equal(call.code, "code\n");
+    assert.match(call.lines, /^jsgen: unproved: [^\n]*\nrefused: Name at 0\n$/);
+    assert.deepEqual(calls().map((line) => line.split(" ")[1]), ["try"]);
+  });
+  await withWrapper("broken", async (folder, env) => {
+    const call = started(folder, env, ["--unproved", "print"]);
+    assert.equal(await call.ended, 70);
+    assert.match(call.lines, /\nno such function\njsgen: the program could not be run\n$/);
+  });
+});
