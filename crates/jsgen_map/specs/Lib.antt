@@ -1,0 +1,4 @@
+pub mod LineColumn
+pub mod Lines
+pub mod Reading
+pub mod Tables
