@@ -1,13 +1,15 @@
 -- How far a line was read, one character on.
 use Rattle.std.proofs.Common.{◌≡◌, ℕ, suc, ◌+◌, ◌-◌, ◌<◌, ◌≤◌, Bool, true, false, nat_le, nat_lt, cond, ◌⊎◌, inl, inr, List, [], ◌∷◌, ◌++◌, Option, Some, None, length, drop, replicate, get_or, refl, sym, ap, ap₂, ◌∙◌, subst, arith, length-append}
 use Rattle.std.specs.Char.{len_utf8}
-use Rattle.std.specs.Str.{chars}
-use lib.Utf8.{encode, encodes}
+use Rattle.std.specs.Str.{chars, IsUtf8}
+use lib.Utf8.{encode, encodes, scalar, scalars}
+use Rattle.std.specs.List.{list_all}
 use denote.Ref.{Bor}
-use Rattle.std.proofs.lemmas.Bool.{cases_lt, le-leb, lt-leb, lt-ltb, le-ltb}
+use Rattle.std.proofs.lemmas.Bool.{and_parts, and_from, cases_lt, le-leb, lt-leb, lt-ltb, le-ltb}
 use Rattle.std.proofs.lemmas.List.{get_or-append_right, get_or-replicate, get_or_append_left, length-replicate, drop_more, drop_all, take_rest}
-use Rattle.std.proofs.lemmas.Str.{encodes-append, length-encode, len_utf8_bounds, chars-nil}
-use Rattle.jsgen_strings.specs.Points.{ArePoints}
+use Rattle.std.proofs.lemmas.Str.{encodes-chars, scalars-chars, length-encode, len_utf8_bounds, chars-nil}
+use Rattle.jsgen_strings.specs.Points.{ArePoints, is_point}
+use Rattle.jsgen_syntax.proofs.Wtf8.{scalar_below}
 use Rattle.jsgen_strings.proofs.Looks.{low_first}
 use Rattle.jsgen_strings.proofs.Fronts.{front}
 use Rattle.jsgen_map.specs.declared.tables.ColumnOffsets.{ColumnOffsets}
@@ -217,3 +219,14 @@ table_line bytes len rest t more offsets r f c e o = record {
           let i : offsets + n ≡ len + (length t.columns.items + n) = omega arith in
           ap (position (at k 0) (chars bytes)) i ∙ (r.on.next k (length t.columns.items + n) ∙ e.next k n);
     }
+
+-- ---- the bytes of a text
+
+points_of_scalars : (cs : List ℕ) → scalars cs ≡ true → list_all is_point cs ≡ true
+points_of_scalars [] h = refl
+points_of_scalars (c ∷ cs) h =
+    let k = and_parts (scalar c) (scalars cs) h in
+    and_from (is_point c) (list_all is_point cs) (lt-ltb c 0x11_0000 (scalar_below c k.0)) (points_of_scalars cs k.1)
+
+pub points_of_text : (s : List ℕ) → IsUtf8 s → ArePoints s
+points_of_text s u = (encodes-chars s u, points_of_scalars (chars s) (scalars-chars s u))
