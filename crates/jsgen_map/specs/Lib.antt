@@ -1,3 +1,4 @@
+pub mod Count
 pub mod LineColumn
 pub mod Lines
 pub mod Reading
