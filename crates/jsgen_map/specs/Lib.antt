@@ -3,3 +3,7 @@ pub mod LineColumn
 pub mod Lines
 pub mod Reading
 pub mod Tables
+pub mod Marks
+pub mod Names
+pub mod Plain
+pub mod Builder

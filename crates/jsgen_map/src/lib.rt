@@ -1,10 +1,15 @@
 //! Source maps: the lines and columns of a text, and what a map says of the marks of an output.
 #![tactic(auto)]
 
+mod builder;
 mod count;
 mod lines;
+mod names;
 mod position;
+mod source_map;
 mod tables;
 
+pub use builder::SourcemapBuilder;
 pub use position::Position;
+pub use source_map::{Mark, SourceMap, Token};
 pub use tables::{ColumnOffsets, Line, LineOffsetTables};

@@ -1,0 +1,96 @@
+ghost use Rattle.std.specs.Prelude.{◌≡◌, ℕ, ◌+◌, ◌^◌, ◌<◌, ◌≤◌, List, [], ◌∷◌, length, take, IfOk, OnOk, OnErr, string_bytes};
+ghost use Rattle.std.specs.Str.{bytes_eq, IsCharBoundary, IsUtf8};
+ghost use Rattle.jsgen_map.specs.Marks.{one_more, other_name, source_text, with_name_mark, Mark, MapOf};
+ghost use Rattle.jsgen_map.specs.Names.{texts};
+ghost use Rattle.jsgen_map.specs.Plain.{mark_plain};
+
+use crate::count::{Count, Seen, count_on};
+use crate::names::add_name;
+use crate::position::Position;
+use crate::source_map::{Mark, SourceMap, Token, token_at};
+use crate::tables::LineOffsetTables;
+use jsgen_syntax::{Memory, Span};
+use std::alloc::Global;
+use std::collections::BTreeMap;
+
+/// Makes the map of an output that grows, from its marks one after the other. No output is stored.
+#[derive(Drop)]
+pub struct SourcemapBuilder<'a> {
+    source_name: String,
+    source: &'a str,
+    tables: LineOffsetTables,
+    names: Vec<&'a str>,
+    numbers: BTreeMap<&'a str, usize>,
+    tokens: Vec<Token>,
+    /// How many bytes of the output are counted.
+    counted: usize,
+    count: Count,
+    /// The offset of the last mark.
+    last: Option<u32>,
+    /// The line of the last mark in the source, from which the next one is looked for.
+    line: usize,
+    ghost line_within: { count.place.line ≤ counted },
+    ghost column_within: { count.place.column ≤ counted },
+}
+
+impl<'a> SourcemapBuilder<'a> {
+    ghost use Rattle.jsgen_map.specs.Builder.{path_of, source_of, counted_bytes, Adds, IsOfSameSource, IsSpanOf, IsUnchanged, StandsFor};
+
+    /// A builder for the empty output, without marks.
+    pub fn new(
+        alloc: Global,
+        path: &str,
+        source_text: &'a str,
+    ) -> Result<SourcemapBuilder<'a>, Memory>
+        requires { length source_text.now < 2 ^ 32 }
+        ensures stands { IfOk result (λ b. StandsFor b [] []) }
+        ensures path { IfOk result (λ b. path_of b ≡ path.now) }
+        ensures source { IfOk result (λ b. source_of b ≡ source_text.now) }
+    {
+        let tables = LineOffsetTables::new(alloc, source_text)?;
+        let source_name = String::from_str(alloc, path)?;
+        Ok(SourcemapBuilder {
+            source_name,
+            source: source_text,
+            tables,
+            names: Vec::new(alloc),
+            numbers: BTreeMap::new(alloc),
+            tokens: Vec::new(alloc),
+            counted: 0,
+            count: Count {
+                place: Position { line: 0, column: 0 },
+                seen: Seen::Other,
+            },
+            last: None,
+            line: 0,
+        })
+    }
+
+    /// Adds a mark of an output that begins with `code` up to the mark, unless its offset is the last one's.
+    pub fn add_mark(&mut self, code: &[u8], mark: Mark<'a>) -> Result<(), Memory>
+        requires within { mark.bytes ≤ length code.now }
+        requires utf8 { IsUtf8 (take mark.bytes code.now) }
+        requires offset { mark.offset ≤ length (source_of self.old) }
+        requires grown { counted_bytes self.old ≤ mark.bytes }
+        ensures ok { OnOk result (Adds self.old self.new (take mark.entry.bytes code.now) (one_more (mark_plain mark.entry))) }
+        ensures err { OnErr result (IsUnchanged self.old self.new) }
+        ensures same { IsOfSameSource self.old self.new }
+    {
+        if self.last == Some(mark.offset) {
+            return Ok(());
+        }
+        let source = self.tables.place_near(self.line, mark.offset);
+        let count = count_on(self.count, &code[self.counted..mark.bytes]);
+        self.tokens.reserve(1)?;
+        let number = match mark.name {
+            None => None,
+            Some(name) => Some(add_name(&mut self.names, &mut self.numbers, name)?),
+        };
+        self.tokens.push(token_at(count.place, source, number))?;
+        self.counted = mark.bytes;
+        self.count = count;
+        self.last = Some(mark.offset);
+        self.line = source.line;
+        Ok(())
+    }
+}
