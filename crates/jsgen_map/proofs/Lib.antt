@@ -1,5 +1,7 @@
 pub mod Counts
+pub mod MarkLists
 pub mod NameList
 pub mod Places
 pub mod LineReads
+pub mod Stands
 pub mod TableReads

@@ -1,11 +1,11 @@
 ghost use Rattle.std.specs.Prelude.{◌≡◌, ℕ, ◌+◌, ◌^◌, ◌<◌, ◌≤◌, List, [], ◌∷◌, length, take, IfOk, OnOk, OnErr, string_bytes};
 ghost use Rattle.std.specs.Str.{bytes_eq, IsCharBoundary, IsUtf8};
-ghost use Rattle.jsgen_map.specs.Marks.{one_more, other_name, source_text, with_name_mark, Mark, MapOf};
+ghost use Rattle.jsgen_map.specs.Marks.{is_offset, one_more, other_name, source_text, with_name_mark, Mark, MapOf};
 ghost use Rattle.jsgen_map.specs.Names.{texts};
 ghost use Rattle.jsgen_map.specs.Plain.{mark_plain};
 
 use crate::count::{Count, Seen, count_on};
-use crate::names::add_name;
+use crate::names::number_of;
 use crate::position::Position;
 use crate::source_map::{Mark, SourceMap, Token, token_at};
 use crate::tables::LineOffsetTables;
@@ -76,21 +76,27 @@ impl<'a> SourcemapBuilder<'a> {
         ensures err { OnErr result (IsUnchanged self.old self.new) }
         ensures same { IsOfSameSource self.old self.new }
     {
-        if self.last == Some(mark.offset) {
+        if is_offset(self.last, mark.offset) {
             return Ok(());
         }
         let source = self.tables.place_near(self.line, mark.offset);
         let count = count_on(self.count, &code[self.counted..mark.bytes]);
         self.tokens.reserve(1)?;
-        let number = match mark.name {
-            None => None,
-            Some(name) => Some(add_name(&mut self.names, &mut self.numbers, name)?),
-        };
+        let number = number_of(&mut self.names, &mut self.numbers, mark.name)?;
         self.tokens.push(token_at(count.place, source, number))?;
         self.counted = mark.bytes;
         self.count = count;
         self.last = Some(mark.offset);
         self.line = source.line;
         Ok(())
+    }
+}
+
+fn is_offset(last: Option<u32>, offset: u32) -> bool
+    ensures { result ≡ is_offset last offset }
+{
+    match last {
+        None => false,
+        Some(last) => last == offset,
     }
 }
