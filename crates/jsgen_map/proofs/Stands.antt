@@ -1,10 +1,13 @@
 -- What a builder stands for, of a longer output.
-use Rattle.std.proofs.Common.{◌≡◌, ℕ, ◌≤◌, List, length, take, sym, ap, ◌∙◌, arith}
+use Rattle.std.proofs.Common.{◌≡◌, ℕ, ◌≤◌, List, length, take, refl, sym, ap, ◌∙◌, subst, arith}
+use Rattle.std.proofs.lemmas.Bool.{eq-eqb}
+use Rattle.jsgen_syntax.specs.declared.span.Span.{Span}
 use Rattle.jsgen_map.specs.declared.builder.SourcemapBuilder.{SourcemapBuilder}
 use Rattle.jsgen_map.specs.Builder.{StandsFor}
 use Rattle.jsgen_map.specs.Count.{counted}
 use Rattle.jsgen_map.specs.Marks.{Mark}
 use Rattle.jsgen_map.specs.Names.{texts}
+use Rattle.jsgen_map.specs.Plain.{with_name_mark}
 use Rattle.jsgen_map.proofs.MarkLists.{begins, map_on, same_front}
 
 pub stands_on : (b : SourcemapBuilder) (earlier output : List ℕ) (marks : List Mark) → StandsFor b earlier marks → take (length earlier) output ≡ earlier → StandsFor b output marks
@@ -18,3 +21,10 @@ stands_on b earlier output marks stands is =
       tables = stands.tables;
       numbers = stands.numbers;
     }
+
+-- an empty span gives no mark
+pub no_name_mark : (source output : List ℕ) (span : Span) (printed : List ℕ) (marks : List Mark) → span.start ≡ span.end → with_name_mark source output span printed marks ≡ marks
+no_name_mark source output span printed marks e = rw (eq-eqb span.start span.end e) refl
+
+pub stands_unmarked : (b : SourcemapBuilder) (source earlier output : List ℕ) (span : Span) (printed : List ℕ) (marks : List Mark) → span.start ≡ span.end → StandsFor b earlier marks → take (length earlier) output ≡ earlier → StandsFor b output (with_name_mark source output span printed marks)
+stands_unmarked b source earlier output span printed marks e stands is = subst (StandsFor b output) (sym (no_name_mark source output span printed marks e)) (stands_on b earlier output marks stands is)

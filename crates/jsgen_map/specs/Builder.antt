@@ -1,10 +1,9 @@
 -- What a builder stands for.
 use Rattle.std.specs.Prelude.{◌≡◌, ℕ, ◌≤◌, List, Option, None, length, take, string_bytes}
 use denote.Ref.{Bor}
-use Rattle.std.specs.Str.{IsCharBoundary}
-use Rattle.jsgen_syntax.specs.declared.span.Span.{Span}
 use Rattle.jsgen_map.specs.declared.builder.SourcemapBuilder.{SourcemapBuilder}
 use Rattle.jsgen_map.specs.declared.count.Count.{Count}
+use Rattle.jsgen_map.specs.declared.source_map.SourceMap.{SourceMap}
 use Rattle.jsgen_map.specs.declared.source_map.Token.{Token}
 use Rattle.jsgen_map.specs.declared.tables.LineOffsetTables.{LineOffsetTables}
 use Rattle.jsgen_map.specs.Count.{counted}
@@ -69,8 +68,6 @@ source_of b = (built b).source
 abbrev pub counted_bytes : SourcemapBuilder → ℕ
 counted_bytes b = (built b).counted
 
--- a span of the source, from a character's start to a character's end
-pub record IsSpanOf (source : List ℕ) (span : Span) : Type 0 where
-  pub ordered : span.start ≤ span.end
-  pub start : IsCharBoundary source span.start
-  pub end : IsCharBoundary source span.end
+-- the map is that of the marks which the builder stands for
+abbrev pub IsMapOf : SourcemapBuilder → SourceMap → Type 0
+IsMapOf b m = (output : List ℕ) (marks : List Mark) → StandsFor b output marks → MapOf output m.source_content.now marks (texts m.names.items) m.tokens.items

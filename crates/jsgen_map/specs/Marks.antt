@@ -1,5 +1,5 @@
 -- Marks of an output, and what a source map says of them.
-use Rattle.std.specs.Prelude.{◌≡◌, ℕ, suc, ◌-◌, ◌≤◌, List, [], ◌∷◌, ◌++◌, Bool, false, ◌==◌, ◌||◌, Option, None, Some, length, take, drop, map, All, if◌then◌else◌}
+use Rattle.std.specs.Prelude.{◌≡◌, ℕ, suc, ◌≤◌, List, [], ◌∷◌, ◌++◌, Bool, false, ◌==◌, ◌||◌, Option, None, Some, length, take, map, All, if◌then◌else◌}
 use Rattle.std.specs.Str.{bytes_eq, IsUtf8}
 use Rattle.jsgen_map.specs.declared.position.Position.{Position}
 use Rattle.jsgen_map.specs.declared.source_map.Token.{Token}
@@ -83,16 +83,6 @@ pub record MapOf (output source : List ℕ) (marks : List Mark) (names : List (L
   pub named : names ≡ names_from [] marks
   pub are : tokens ≡ map (token_of names output source) marks
 
--- ---- the marks of names
-
-abbrev pub source_text : List ℕ → ℕ → ℕ → List ℕ
-source_text source start end = take (end - start) (drop start source)
-
 -- what the source has there, where it is another text than what is printed
 abbrev pub other_name : List ℕ → List ℕ → Option (List ℕ)
-other_name was is = if bytes_eq was is then None else Some was
-
--- one mark more for a name that is printed, unless its span is empty
-abbrev pub with_name_mark : List ℕ → ℕ → ℕ → ℕ → List ℕ → List Mark → List Mark
-with_name_mark source bytes start end printed ms = if start == end then ms
-    else one_more (record { bytes = bytes; offset = start; name = other_name (source_text source start end) printed }) ms
+other_name was printed = if bytes_eq was printed then None else Some was

@@ -1,8 +1,8 @@
-ghost use Rattle.std.specs.Prelude.{◌≡◌, ℕ, ◌+◌, ◌^◌, ◌<◌, ◌≤◌, List, [], ◌∷◌, length, take, IfOk, OnOk, OnErr, string_bytes};
-ghost use Rattle.std.specs.Str.{bytes_eq, IsCharBoundary, IsUtf8};
-ghost use Rattle.jsgen_map.specs.Marks.{is_offset, one_more, other_name, source_text, with_name_mark, Mark, MapOf};
-ghost use Rattle.jsgen_map.specs.Names.{texts};
-ghost use Rattle.jsgen_map.specs.Plain.{mark_plain};
+ghost use Rattle.std.specs.Prelude.{◌≡◌, ◌^◌, ◌<◌, ◌≤◌, [], ◌++◌, codes, length, take, IfOk, OnOk, OnErr, string_bytes};
+ghost use Rattle.std.specs.Option.{option_copied};
+ghost use Rattle.std.specs.Str.{bytes_eq, IsUtf8};
+ghost use Rattle.jsgen_map.specs.Marks.{is_offset, one_more, other_name};
+ghost use Rattle.jsgen_map.specs.Plain.{mark_at, mark_plain, source_text, with_name_mark, IsSpanOf};
 
 use crate::count::{Count, Seen, count_on};
 use crate::names::number_of;
@@ -34,7 +34,7 @@ pub struct SourcemapBuilder<'a> {
 }
 
 impl<'a> SourcemapBuilder<'a> {
-    ghost use Rattle.jsgen_map.specs.Builder.{path_of, source_of, counted_bytes, Adds, IsOfSameSource, IsSpanOf, IsUnchanged, StandsFor};
+    ghost use Rattle.jsgen_map.specs.Builder.{path_of, source_of, counted_bytes, Adds, IsMapOf, IsOfSameSource, IsUnchanged, StandsFor};
 
     /// A builder for the empty output, without marks.
     pub fn new(
@@ -89,6 +89,124 @@ impl<'a> SourcemapBuilder<'a> {
         self.last = Some(mark.offset);
         self.line = source.line;
         Ok(())
+    }
+
+    /// Adds a mark at the end of the output, unless its offset is the last one's.
+    pub fn add_source_mapping(
+        &mut self,
+        output: &[u8],
+        position: u32,
+        name: Option<&'a str>,
+    ) -> Result<(), Memory>
+        requires utf8 { IsUtf8 output.now }
+        requires offset { position ≤ length (source_of self.old) }
+        requires grown { counted_bytes self.old ≤ length output.now }
+        ensures ok { OnOk result (Adds self.old self.new output.now (one_more (mark_at output.now position name.entry))) }
+        ensures err { OnErr result (IsUnchanged self.old self.new) }
+        ensures same { IsOfSameSource self.old self.new }
+    {
+        let mark = Mark {
+            bytes: output.len(),
+            offset: position,
+            name,
+        };
+        self.add_mark(output, mark)
+    }
+
+    /// Adds the mark of a name that is printed as `name`: none for an empty span. What the source has there is the mark's name, where that is another text.
+    pub fn add_source_mapping_for_name(
+        &mut self,
+        output: &[u8],
+        span: Span,
+        name: &str,
+    ) -> Result<(), Memory>
+        requires utf8 { IsUtf8 output.now }
+        requires span { IsSpanOf (source_of self.old) span }
+        requires grown { counted_bytes self.old ≤ length output.now }
+        ensures ok { OnOk result (Adds self.old self.new output.now (with_name_mark (source_of self.old) output.now span name.now)) }
+        ensures err { OnErr result (IsUnchanged self.old self.new) }
+        ensures same { IsOfSameSource self.old self.new }
+    {
+        if span.start == span.end {
+            return Ok(());
+        }
+        let source_name = other_name(text_of(self.source, span), name);
+        self.add_source_mapping(output, span.start, source_name)
+    }
+
+    /// The same for a private name, which is printed as `#` and `name`.
+    pub fn add_source_mapping_for_private_name(
+        &mut self,
+        output: &[u8],
+        span: Span,
+        name: &str,
+    ) -> Result<(), Memory>
+        requires utf8 { IsUtf8 output.now }
+        requires span { IsSpanOf (source_of self.old) span }
+        requires grown { counted_bytes self.old ≤ length output.now }
+        ensures ok { OnOk result (Adds self.old self.new output.now
+            (with_name_mark (source_of self.old) output.now span (codes "#" ++ name.now))) }
+        ensures err { OnErr result (IsUnchanged self.old self.new) }
+        ensures same { IsOfSameSource self.old self.new }
+    {
+        if span.start == span.end {
+            return Ok(());
+        }
+        let source_name = other_private_name(text_of(self.source, span), name);
+        self.add_source_mapping(output, span.start, source_name)
+    }
+
+    /// The map of the marks.
+    pub fn into_sourcemap(self) -> SourceMap<'a>
+        ensures map { IsMapOf self.entry result }
+        ensures path { string_bytes result.source_name ≡ path_of self.entry }
+        ensures source { result.source_content.now ≡ source_of self.entry }
+    {
+        SourceMap {
+            source_name: self.source_name,
+            source_content: self.source,
+            names: self.names,
+            tokens: self.tokens,
+        }
+    }
+}
+
+// What the source has in a span.
+fn text_of<'a>(source: &'a str, span: Span) -> &'a str
+    requires { IsSpanOf source.now span }
+    ensures { result.now ≡ source_text source.now span }
+{
+    &source[span.start as usize..span.end as usize]
+}
+
+// The name of a mark, where the source has another text than what is printed.
+fn other_name<'a>(source_name: &'a str, printed: &str) -> Option<&'a str>
+    ensures { option_copied result ≡ other_name source_name.now printed.now }
+{
+    if source_name == printed {
+        None
+    } else {
+        Some(source_name)
+    }
+}
+
+fn other_private_name<'a>(source_name: &'a str, printed: &str) -> Option<&'a str>
+    ensures { option_copied result ≡ other_name source_name.now (codes "#" ++ printed.now) }
+{
+    if is_private(source_name.as_bytes(), printed.as_bytes()) {
+        None
+    } else {
+        Some(source_name)
+    }
+}
+
+// Whether the text is `#` and the name.
+fn is_private(text: &[u8], name: &[u8]) -> bool
+    ensures { result ≡ bytes_eq text.now (codes "#" ++ name.now) }
+{
+    match text.split_first() {
+        Some((first, rest)) => *first == b'#' && rest == name,
+        None => false,
     }
 }
 
