@@ -1,19 +1,16 @@
 -- The machine over bytes counts as lines and columns are defined over characters.
-use Rattle.std.proofs.Common.{◌≡◌, ◌≢◌, ℕ, suc, ◌+◌, ◌-◌, ◌/◌, ◌%◌, ◌<◌, ◌≤◌, Bool, true, false, not, nat_le, nat_lt, ◌==◌, ◌&&◌, ◌||◌, cond, if◌then◌else◌, ◌⊎◌, inl, inr, List, [], ◌∷◌, ◌++◌, length, refl, sym, ap, ap₂, ◌∙◌, subst, arith, length-append}
-use Rattle.std.specs.Char.{len_utf8}
+use Rattle.std.proofs.Common.{◌≡◌, ◌≢◌, ℕ, ◌+◌, ◌/◌, ◌%◌, ◌<◌, ◌≤◌, false, not, if◌then◌else◌, ◌⊎◌, inl, inr, List, [], ◌∷◌, ◌++◌, length, refl, sym, ap, ◌∙◌, subst, arith, length-append}
 use lib.Utf8.{encode, encodes}
-use Rattle.std.proofs.lemmas.Bool.{cases_lt, cases_eq, le-leb, lt-leb, lt-ltb, le-ltb, ne_eqb, eq-eqb}
-use Rattle.std.proofs.lemmas.Bool.Decides.{nat_tests}
+use Rattle.std.proofs.lemmas.Bool.{cases_lt, cases_eq, le-leb, lt-leb, lt-ltb, le-ltb, ne_eqb}
 use Rattle.std.proofs.lemmas.Str.{length-encode}
 use Rattle.jsgen_syntax.specs.Escapes.{begins_with}
-use Rattle.jsgen_syntax.specs.Strings.{ends_line}
 use Rattle.jsgen_syntax.proofs.Wtf8.{encode_one, encode_two, encode_three, encode_four}
 use Rattle.jsgen_map.specs.declared.count.Count.{Count}
 use Rattle.jsgen_map.specs.declared.count.Seen.{Seen}
 use Rattle.jsgen_map.specs.declared.count.Seen.TheVariants.{Other, Return, FirstOfSeparator, SecondOfSeparator, FirstOfFour}
 use Rattle.jsgen_map.specs.declared.position.Position.{Position}
-use Rattle.jsgen_map.specs.Count.{count_at, counted, counted_from, inner, lead, line_feed, next_line, next_unit, step}
-use Rattle.jsgen_map.specs.LineColumn.{at, behind, closes_line, line_column, position, units}
+use Rattle.jsgen_map.specs.Count.{count_at, counted, counted_from, inner, lead, next_line, next_unit, step}
+use Rattle.jsgen_map.specs.LineColumn.{at, behind, position, units}
 use Rattle.jsgen_map.proofs.LineReads.{past}
 
 pub counted_append : (c : Count) (xs ys : List ℕ) → counted_from c (xs ++ ys) ≡ counted_from (counted_from c xs) ys
@@ -180,6 +177,7 @@ ends_first x cs p s h next after = by (cases_eq x 13)
         feed_or : (y ≡ 10) ⊎ (y ≢ 10) → Ends (13 ∷ y ∷ ds) p s
         feed_or (inl e) = subst (λ v. Ends (13 ∷ v ∷ ds) p s) (sym e) (ends_both ds p s (after ds (ap (λ v. v ∷ ds) e) (next_line p)))
         feed_or (inr e) = ends_return (y ∷ ds) p s (ne_eqb y 10 e) (next (next_line p) Return (ne_eqb y 10 e))
+
     by : (x ≡ 13) ⊎ (x ≢ 13) → Ends (x ∷ cs) p s
     by (inl e) = subst (λ v. Ends (v ∷ cs) p s) (sym e) (cr cs next after)
     by (inr e) = ends_other x cs p s e h (next (behind p x cs) Other tt)

@@ -1,22 +1,21 @@
 -- How far a line was read, one character on.
-use Rattle.std.proofs.Common.{◌≡◌, ℕ, suc, ◌+◌, ◌-◌, ◌<◌, ◌≤◌, Bool, true, false, nat_le, nat_lt, cond, ◌⊎◌, inl, inr, List, [], ◌∷◌, ◌++◌, Option, Some, None, length, drop, replicate, get_or, refl, sym, ap, ap₂, ◌∙◌, subst, arith, length-append}
+use Rattle.std.proofs.Common.{◌≡◌, ℕ, suc, ◌+◌, ◌-◌, ◌<◌, ◌≤◌, true, false, ◌⊎◌, inl, inr, List, [], ◌∷◌, ◌++◌, Option, Some, None, length, replicate, get_or, refl, sym, ap, ◌∙◌, subst, arith, length-append}
 use Rattle.std.specs.Char.{len_utf8}
 use Rattle.std.specs.Str.{chars, IsUtf8}
 use lib.Utf8.{encode, encodes, scalar, scalars}
 use Rattle.std.specs.List.{list_all}
 use denote.Ref.{Bor}
 use Rattle.std.proofs.lemmas.Bool.{and_parts, and_from, cases_lt, le-leb, lt-leb, lt-ltb, le-ltb}
-use Rattle.std.proofs.lemmas.List.{get_or-append_right, get_or-replicate, get_or_append_left, length-replicate, drop_more, drop_all, take_rest}
+use Rattle.std.proofs.lemmas.List.{get_or-append_right, get_or-replicate, get_or_append_left, length-replicate}
 use Rattle.std.proofs.lemmas.Str.{encodes-chars, scalars-chars, length-encode, len_utf8_bounds, chars-nil}
 use Rattle.jsgen_strings.specs.Points.{ArePoints, is_point}
 use Rattle.jsgen_syntax.proofs.Wtf8.{scalar_below}
 use Rattle.jsgen_strings.proofs.Looks.{low_first}
-use Rattle.jsgen_strings.proofs.Fronts.{front}
 use Rattle.jsgen_map.specs.declared.tables.ColumnOffsets.{ColumnOffsets}
 use Rattle.jsgen_map.specs.declared.position.Position.{Position}
 use Rattle.jsgen_map.specs.LineColumn.{at, behind, closes_line, position, units}
 use Rattle.jsgen_map.specs.Lines.{column_in}
-use Rattle.jsgen_map.specs.Reading.{AreColumns, Closes, EndsAt, GoesOn, IsPlainRun, ReadsColumns, ReadsLine}
+use Rattle.jsgen_map.specs.Reading.{AreColumns, Closes, EndsAt, GoesOn, IsPlainRun, ReadsLine}
 
 -- within a character the place is the one before it
 pub inside : (p : Position) (c : ℕ) (cs : List ℕ) (n : ℕ) → n < len_utf8 c → position p (c ∷ cs) n ≡ p
@@ -97,6 +96,7 @@ columns_end first bytes columns column rest a g e l n h = by (cases_lt n (length
     empty : (xs : List ℕ) → length xs ≡ 0 → chars xs ≡ []
     empty [] k = chars-nil
     empty (x ∷ xs) k = absurd (omega arith)
+
     by : (n < length columns) ⊎ (length columns ≤ n) → position (at l first) (chars bytes) n ≡ at l (get_or (columns ++ column ∷ []) n 0)
     by (inl k) = a l n k ∙ ap (at l) (sym (get_or_append_left columns (column ∷ []) 0 n k))
     by (inr k) =
@@ -139,6 +139,7 @@ plain_more bytes len c rest more r e l h =
     start : (cs : List ℕ) (p : Position) → position p cs 0 ≡ p
     start [] p = refl
     start (c ∷ cs) p = inside p c cs 0 (let b = (len_utf8_bounds c).0 in omega arith)
+
     shown_by : (k n : ℕ) → GoesOn 0 bytes (len + 1) (len + 1) more → n ≤ len + 1 → (len < n) ⊎ (n ≤ len) → position (at k 0) (chars bytes) n ≡ at k n
     shown_by k n on b (inr s) = r.shown k n s
     shown_by k n on b (inl s) =
@@ -209,6 +210,7 @@ table_line bytes len rest t more offsets r f c e o = record {
         let j : n - len < length t.columns.items = omega arith in
         let d : n - len ≡ n - t.first = omega arith in
         ap (position (at k 0) (chars bytes)) i ∙ (r.on.next k (n - len) ∙ (c k (n - len) j ∙ ap (at k) (ap (λ v. get_or t.columns.items v 0) d ∙ rw (le-ltb n t.first m) refl)))
+
     ends : (more : Option (Bor (List ℕ))) → EndsAt len rest (length t.columns.items) more → EndsAt 0 bytes offsets more
     ends None e = let s = r.on.size in omega arith
     ends (Some m) e = record {

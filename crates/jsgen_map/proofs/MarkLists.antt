@@ -1,10 +1,9 @@
 -- A map of a longer output, and with one mark more.
-use Rattle.std.proofs.Common.{◌≡◌, ℕ, suc, ◌+◌, ◌-◌, ◌<◌, ◌≤◌, Bool, true, false, cond, ◌||◌, if◌then◌else◌, ◌⊎◌, inl, inr, List, [], ◌∷◌, ◌++◌, Option, Some, None, length, take, drop, map, refl, sym, ap, ap₂, ◌∙◌, subst, arith, length-append, length-take}
+use Rattle.std.proofs.Common.{◌≡◌, ℕ, ◌+◌, ◌-◌, ◌≤◌, true, false, ◌||◌, if◌then◌else◌, ◌⊎◌, inl, inr, List, [], ◌∷◌, ◌++◌, Option, Some, None, length, take, drop, map, refl, sym, ap, ap₂, ◌∙◌, subst, arith, length-take}
 use Rattle.std.specs.List.{All}
 use Rattle.std.specs.Str.{bytes_eq, chars, IsUtf8}
-use lib.Utf8.{encodes}
 use Rattle.std.proofs.lemmas.Bool.{or_left, or_right}
-use Rattle.std.proofs.lemmas.List.{map_push, take-take, take_all, take_rest, drop-take, take-append-drop}
+use Rattle.std.proofs.lemmas.List.{map_push, take-take, take_all, drop-take, take-append-drop}
 use Rattle.std.proofs.lemmas.List.Elements.{All-nil, All-cons, All-head, All-tail, All-push}
 use Rattle.std.proofs.lemmas.Str.{encodes-chars}
 use Rattle.jsgen_map.specs.declared.count.Count.{Count}
@@ -108,8 +107,8 @@ each_named : (names : List (List ℕ)) (ms : List Mark) → All (λ (m : Mark). 
 each_named names [] = All-nil (λ (m : Mark). IsNamed (names_from names []) m.name)
 each_named names (m ∷ ms) =
     All-cons (λ (k : Mark). IsNamed (names_from names (m ∷ ms)) k.name) m ms
-      (names_grow (with_name names m.name) ms m.name (with_name_has names m.name))
-      (each_named (with_name names m.name) ms)
+    (names_grow (with_name names m.name) ms m.name (with_name_has names m.name))
+    (each_named (with_name names m.name) ms)
 
 -- ---- the tokens of marks
 
@@ -130,15 +129,15 @@ tokens_same old new earlier output source (m ∷ ms) g b w n =
     let here = All-head (λ (m : Mark). m.bytes ≤ length earlier) m ms w in
     let named = All-head (λ (m : Mark). IsNamed old m.name) m ms n in
     ap₂ (λ t ts. t ∷ ts)
-      (ap₂ (λ text number. token_at (line_column text m.bytes) (line_column source m.offset) number) (sym (same_front output earlier m.bytes b here)) (number_grows old new m.name g named))
-      (tokens_same old new earlier output source ms g b (All-tail (λ (m : Mark). m.bytes ≤ length earlier) m ms w) (All-tail (λ (m : Mark). IsNamed old m.name) m ms n))
+    (ap₂ (λ text number. token_at (line_column text m.bytes) (line_column source m.offset) number) (sym (same_front output earlier m.bytes b here)) (number_grows old new m.name g named))
+    (tokens_same old new earlier output source ms g b (All-tail (λ (m : Mark). m.bytes ≤ length earlier) m ms w) (All-tail (λ (m : Mark). IsNamed old m.name) m ms n))
 
 ends_same : (earlier output : List ℕ) (ms : List Mark) → Begins output earlier → All (λ (m : Mark). m.bytes ≤ length earlier) ms → All (λ (m : Mark). IsUtf8 (take m.bytes earlier)) ms → All (λ (m : Mark). IsUtf8 (take m.bytes output)) ms
 ends_same earlier output [] b w u = All-nil (λ (m : Mark). IsUtf8 (take m.bytes output))
 ends_same earlier output (m ∷ ms) b w u =
     All-cons (λ (m : Mark). IsUtf8 (take m.bytes output)) m ms
-      (subst IsUtf8 (sym (same_front output earlier m.bytes b (All-head (λ (m : Mark). m.bytes ≤ length earlier) m ms w))) (All-head (λ (m : Mark). IsUtf8 (take m.bytes earlier)) m ms u))
-      (ends_same earlier output ms b (All-tail (λ (m : Mark). m.bytes ≤ length earlier) m ms w) (All-tail (λ (m : Mark). IsUtf8 (take m.bytes earlier)) m ms u))
+    (subst IsUtf8 (sym (same_front output earlier m.bytes b (All-head (λ (m : Mark). m.bytes ≤ length earlier) m ms w))) (All-head (λ (m : Mark). IsUtf8 (take m.bytes earlier)) m ms u))
+    (ends_same earlier output ms b (All-tail (λ (m : Mark). m.bytes ≤ length earlier) m ms w) (All-tail (λ (m : Mark). IsUtf8 (take m.bytes earlier)) m ms u))
 
 -- ---- maps
 

@@ -1,13 +1,12 @@
 -- Names and their numbers, with one name more.
-use Rattle.std.proofs.Common.{◌≡◌, ℕ, suc, ◌+◌, Bool, true, false, ◌||◌, cond, if◌then◌else◌, ◌⊎◌, inl, inr, List, [], ◌∷◌, ◌++◌, Option, Some, None, length, map, refl, sym, ap, ap₂, ◌∙◌, subst, arith}
+use Rattle.std.proofs.Common.{◌≡◌, ℕ, suc, ◌+◌, Bool, true, false, ◌||◌, cond, if◌then◌else◌, ◌⊎◌, inl, inr, List, [], ◌∷◌, ◌++◌, Option, Some, None, length, refl, sym, ap, ap₂, ◌∙◌, arith}
 use Rattle.std.specs.Str.{bytes_eq}
-use Rattle.std.specs.Map.{lookup, update}
 use Rattle.std.specs.BTreeMap as tree
-use Rattle.std.specs.BTreeMap.{BTreeMap, is_at}
+use Rattle.std.specs.BTreeMap.{BTreeMap}
 use Rattle.std.specs.Cmp.Lexicographic.{slice_cmp}
 use Rattle.std.specs.Ordering.{nat_cmp}
 use denote.Ref.{Bor}
-use Rattle.std.proofs.lemmas.Bool.{or_parts, or_left, or_right, or_from, false_from_ne_true}
+use Rattle.std.proofs.lemmas.Bool.{or_parts, or_left, or_right, or_from}
 use Rattle.std.proofs.lemmas.Slice.Eq.{bytes_eq-Decides}
 use Rattle.std.proofs.lemmas.List.{map_push, length-map}
 use Rattle.std.proofs.lemmas.Map.Text.{btree_map_updates_str}
@@ -105,8 +104,8 @@ added old w new m m' n o none is count updates =
       number = ap (λ vs. number_from 0 vs w.now) grown ∙ (number_new 0 (texts old) w.now absent ∙ ap Some (z ∙ size));
       each = record {
         each = λ q. btree_map_updates_str w.now m m' (Some n) updates q
-          ∙ (ap₂ (λ k found. cond (bytes_eq w.now q) (Some k) found) (sym size) (o.each q)
-          ∙ (numbers_more (texts old) w.now q absent
-          ∙ ap (λ vs. number_from 0 vs q) (sym grown)));
+            ∙ (ap₂ (λ k found. cond (bytes_eq w.now q) (Some k) found) (sym size) (o.each q)
+            ∙ (numbers_more (texts old) w.now q absent
+            ∙ ap (λ vs. number_from 0 vs q) (sym grown)));
       };
     }

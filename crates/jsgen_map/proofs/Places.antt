@@ -1,7 +1,7 @@
 -- What the line round an offset tells of it.
-use Rattle.std.proofs.Common.{◌≡◌, ℕ, suc, ◌+◌, ◌<◌, ◌≤◌, List, Option, Some, None, ◌⊎◌, inl, inr, length, slice_get, refl, sym, ap, ◌∙◌, subst, arith, add-one}
+use Rattle.std.proofs.Common.{◌≡◌, ℕ, suc, ◌+◌, ◌<◌, ◌≤◌, List, Option, Some, None, inl, inr, length, slice_get, sym, ◌∙◌, subst, arith, add-one}
 use Rattle.std.specs.Option.{option_map_or}
-use Rattle.std.proofs.lemmas.Option.{slice_get_cases, slice_get_past}
+use Rattle.std.proofs.lemmas.Option.{slice_get_cases}
 use Rattle.jsgen_map.specs.declared.position.Position.{Position}
 use Rattle.jsgen_map.specs.declared.tables.Line.{Line}
 use Rattle.jsgen_map.specs.declared.tables.LineOffsetTables.{LineOffsetTables}

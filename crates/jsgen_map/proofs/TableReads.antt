@@ -1,5 +1,5 @@
 -- How far the lines of a source were read, one line on.
-use Rattle.std.proofs.Common.{◌≡◌, ℕ, suc, ◌+◌, ◌-◌, ◌<◌, ◌≤◌, ◌⊎◌, inl, inr, List, [], ◌∷◌, ◌++◌, Option, Some, None, length, slice_get, zero, refl, sym, ap, ap₂, ◌∙◌, subst, arith, length-append}
+use Rattle.std.proofs.Common.{◌≡◌, ℕ, suc, ◌+◌, ◌-◌, ◌<◌, ◌≤◌, ◌⊎◌, inl, inr, List, [], ◌∷◌, ◌++◌, Option, Some, None, length, slice_get, zero, refl, sym, ap, ap₂, ◌∙◌, subst, arith}
 use Rattle.std.specs.Option.{option_map_or, option_and_then}
 use Rattle.std.specs.Str.{chars}
 use denote.Ref.{Bor}
@@ -8,7 +8,6 @@ use Rattle.std.proofs.lemmas.List.{length_push}
 use Rattle.std.proofs.lemmas.Option.{slice_get_past, slice_get_within, same_Some}
 use Rattle.jsgen_strings.specs.Points.{ArePoints}
 use Rattle.jsgen_map.specs.declared.lines.ReadLine.{ReadLine}
-use Rattle.jsgen_map.specs.declared.position.Position.{Position}
 use Rattle.jsgen_map.specs.declared.tables.ColumnOffsets.{ColumnOffsets}
 use Rattle.jsgen_map.specs.declared.tables.Line.{Line}
 use Rattle.jsgen_map.specs.LineColumn.{at, line_column, position}
@@ -123,20 +122,24 @@ known_more source lines tables start bytes read new number pushed known left rea
   where
     line : Line
     line = record { start = start; columns = number }
+
     g : Grown tables read.columns new number
     g = grown tables read.columns new number added
+
     last_is : (k : ℕ) (l : Line) → slice_get (lines ++ line ∷ []) k ≡ Some l → length lines ≤ k → (k ≡ length lines) × (l ≡ line)
     last_is k l h m =
         let w = slice_get_within (lines ++ line ∷ []) k l h in
         let s = length_push lines line in
         let e : k ≡ length lines = omega arith in
         (e, same_Some l line (sym h ∙ (ap (slice_get (lines ++ line ∷ [])) e ∙ get_last lines line)))
+
     numbered : (k : ℕ) (l : Line) → slice_get (lines ++ line ∷ []) k ≡ Some l → IsBelow l.columns (length new)
     numbered k l h = by (cases_lt k (length lines))
       where
         by : (k < length lines) ⊎ (length lines ≤ k) → IsBelow l.columns (length new)
         by (inl m) = below_more l.columns (length tables) (length new) g.least (known.numbered k l (sym (get_left lines (line ∷ []) k m) ∙ h))
         by (inr m) = subst (λ (v : Line). IsBelow v.columns (length new)) (sym (last_is k l h m).1) g.below
+
     answers : (k : ℕ) (l : Line) → slice_get (lines ++ line ∷ []) k ≡ Some l → (n : ℕ) → l.start ≤ n → n < start_of (lines ++ line ∷ []) (suc k) (start + read.offsets) → line_column source n ≡ answer_of new k l n
     answers k l h n a b = by (cases_lt k (length lines))
       where

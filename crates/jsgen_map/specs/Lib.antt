@@ -7,3 +7,4 @@ pub mod Marks
 pub mod Names
 pub mod Plain
 pub mod Builder
+pub mod Law

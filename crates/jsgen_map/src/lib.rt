@@ -3,6 +3,7 @@
 
 mod builder;
 mod count;
+mod laws;
 mod lines;
 mod names;
 mod position;
@@ -10,6 +11,6 @@ mod source_map;
 mod tables;
 
 pub use builder::SourcemapBuilder;
-pub use position::Position;
+pub use laws::{counts_places, worked_marks, worked_offsets};
 pub use source_map::{Mark, SourceMap, Token};
 pub use tables::{ColumnOffsets, Line, LineOffsetTables};

@@ -60,11 +60,7 @@ struct ReadColumns<'a> {
     rest: Option<&'a [u8]>,
 }
 
-fn read_columns<'a>(
-    alloc: Global,
-    first: u32,
-    bytes: &'a [u8],
-) -> Result<ReadColumns<'a>, Memory>
+fn read_columns<'a>(alloc: Global, first: u32, bytes: &'a [u8]) -> Result<ReadColumns<'a>, Memory>
     requires points { ArePoints bytes.now }
     requires small { first + length bytes.now < 2 ^ 32 }
     ensures { IfOk result (ReadsColumns first bytes.now) }

@@ -141,7 +141,11 @@ impl LineOffsetTables {
     {
         match self.column_offsets.get(table as usize) {
             Some(columns) if offset >= columns.first => {
-                columns.columns.get((offset - columns.first) as usize).copied().unwrap_or(0) as usize
+                columns
+                    .columns
+                    .get((offset - columns.first) as usize)
+                    .copied()
+                    .unwrap_or(0) as usize
             }
             _ => offset as usize,
         }

@@ -1,4 +1,4 @@
-use Rattle.std.proofs.Common.{◌+◌, ◌∙◌, refl, sym, ap, subst, arith}
+use Rattle.std.proofs.Common.{◌+◌, ◌∙◌, refl, sym, subst, arith}
 use Rattle.jsgen_strings.proofs.Looks.{low_first}
 use Rattle.jsgen_map.specs.Reading.{IsPlainRun}
 use Rattle.jsgen_map.proofs.LineReads.{ascii_line, last_ascii_line, table_line}

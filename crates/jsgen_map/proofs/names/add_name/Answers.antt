@@ -10,7 +10,7 @@ returns-in-Some-clause-ok c = λ numbers. found (texts c.args.names.now.items) c
 pub returns-clause-ok : goal.returns-clause-ok
 returns-clause-ok c = λ numbers.
     added c.args.names.now.items c.args.name c.push.new.self.items c.args.numbers.now c.insert.new.self c.len-number.result numbers
-      (sym (numbers.each c.args.name.now) ∙ (sym c.get.ensures.value ∙ ap option_copied c.in_default.is))
-      (c.in_ok-push.ensures.items ∙ ap (λ names. names ++ c.args.name ∷ []) c.in_ok-reserve.ensures.items)
-      (omega arith)
-      c.in_ok-insert.ensures.updates
+    (sym (numbers.each c.args.name.now) ∙ (sym c.get.ensures.value ∙ ap option_copied c.in_default.is))
+    (c.in_ok-push.ensures.items ∙ ap (λ names. names ++ c.args.name ∷ []) c.in_ok-reserve.ensures.items)
+    (omega arith)
+    c.in_ok-insert.ensures.updates

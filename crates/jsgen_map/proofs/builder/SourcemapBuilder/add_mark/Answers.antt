@@ -1,4 +1,4 @@
-use Rattle.std.proofs.Common.{◌≡◌, ◌≤◌, List, [], ◌∷◌, ◌++◌, length, take, sym, ap, ap₂, ◌∙◌, subst, arith}
+use Rattle.std.proofs.Common.{◌≡◌, [], ◌∷◌, ◌++◌, length, take, sym, ap, ap₂, ◌∙◌, subst, arith}
 use Rattle.std.proofs.lemmas.List.{length-take-le, take_all}
 use Rattle.jsgen_map.specs.Builder.{StandsFor}
 use Rattle.jsgen_map.specs.Count.{counted}
@@ -29,7 +29,7 @@ returns-clause-ok c = λ earlier marks stands is.
     let place = count_place output c.count_on-count.result c.requires.utf8 count in
     let source = c.place_near-source.ensures b.source.now stands.tables c.requires.offset in
     let tokens : c.push.new.self.items ≡ b.tokens.items ++ token_at c.count_on-count.result.place (line_column b.source.now m.offset) c.in_ok-number.number ∷ [] =
-        c.in_ok-push.ensures.items ∙ ap₂ (λ ts t. ts ++ t ∷ []) c.in_ok-reserve.ensures.items (c.token_at.ensures ∙ ap (λ q. token_at c.count_on-count.result.place q c.in_ok-number.number) source) in
+    c.in_ok-push.ensures.items ∙ ap₂ (λ ts t. ts ++ t ∷ []) c.in_ok-reserve.ensures.items (c.token_at.ensures ∙ ap (λ q. token_at c.count_on-count.result.place q c.in_ok-number.number) source) in
     let whole : take c.args.mark.bytes output ≡ output = take_all c.args.mark.bytes output (omega arith) in
     subst (StandsFor _ output) (sym (one_more_does m marks other)) (record {
       map = map_more earlier output b.source.now marks (texts b.names.items) (texts c.number_of.new.names.items) b.tokens.items c.push.new.self.items m c.count_on-count.result.place c.in_ok-number.number stands.map front c.requires.utf8 (sym size) other numbered.names numbered.number place tokens;

@@ -1,5 +1,4 @@
 use Rattle.std.proofs.Common.{length, subst}
-use Rattle.jsgen_strings.specs.Points.{ArePoints}
 use Rattle.jsgen_map.proofs.LineReads.{points_of_text}
 use Rattle.jsgen_map.proofs.TableReads.{Rest, known_none, known_more, left_all, offsets_some, rest_more}
 use Rattle.jsgen_map.proofs.tables.LineOffsetTables.new.Goals as goal
