@@ -1,5 +1,6 @@
 pub mod Counts
 pub mod MarkLists
+pub mod MarkLoop
 pub mod NameList
 pub mod Places
 pub mod LineReads

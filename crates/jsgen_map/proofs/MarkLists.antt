@@ -25,7 +25,7 @@ ordered_push : (least : ℕ) (ms : List Mark) (m : Mark) (more : ℕ) → m.byte
 ordered_push least [] m more l o = (o, l)
 ordered_push least (k ∷ ms) m more l o = (o.0, ordered_push k.bytes ms m more l o.1)
 
-ordered_ends : (least : ℕ) (ms : List Mark) (most : ℕ) → Ordered least ms most → least ≤ most
+pub ordered_ends : (least : ℕ) (ms : List Mark) (most : ℕ) → Ordered least ms most → least ≤ most
 ordered_ends least [] most o = o
 ordered_ends least (m ∷ ms) most o = let k = ordered_ends m.bytes ms most o.1 in let h = o.0 in omega arith
 

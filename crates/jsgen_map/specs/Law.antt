@@ -1,5 +1,5 @@
 -- Examples that compute, and what the machine over bytes counts.
-use Rattle.std.specs.Prelude.{◌≡◌, ℕ, List, [], ◌∷◌, ◌++◌, Option, None, Some, length, map, codes}
+use Rattle.std.specs.Prelude.{◌≡◌, ℕ, List, [], ◌∷◌, Option, None, Some, length, map, codes}
 use Rattle.std.specs.Str.{IsUtf8}
 use Rattle.jsgen_syntax.specs.declared.span.Span.{Span}
 use Rattle.jsgen_map.specs.declared.position.Position.{Position}

@@ -86,3 +86,10 @@ pub record MapOf (output source : List ℕ) (marks : List Mark) (names : List (L
 -- what the source has there, where it is another text than what is printed
 abbrev pub other_name : List ℕ → List ℕ → Option (List ℕ)
 other_name was printed = if bytes_eq was printed then None else Some was
+
+-- marks of a code, in its order and each at a character's end, of a source, and no two neighbours of one offset
+pub record AreMarks (code source : List ℕ) (marks : List Mark) : Type 0 where
+  pub ordered : Ordered 0 marks (length code)
+  pub ends : All (λ (m : Mark). IsUtf8 (take m.bytes code)) marks
+  pub parted : Parted None marks
+  pub offsets : All (λ (m : Mark). m.offset ≤ length source) marks
