@@ -40,6 +40,7 @@ pub(crate) fn count_on(count: Count, bytes: &[u8]) -> Count
     count
 }
 
+#[inline]
 fn step(count: Count, byte: u8) -> Count
     requires line { count.place.line + 1 < 2 ^ 64 }
     requires column { count.place.column + 1 < 2 ^ 64 }
@@ -47,6 +48,12 @@ fn step(count: Count, byte: u8) -> Count
     ensures line { result.place.line ≤ count.place.line + 1 }
     ensures column { result.place.column ≤ count.place.column + 1 }
 {
+    if b'\r' < byte && byte < 128 {
+        return Count {
+            place: next_unit(count.place),
+            seen: Seen::Other,
+        };
+    }
     if byte == b'\n' {
         return Count {
             place: line_feed(count.seen, count.place),
@@ -74,6 +81,7 @@ fn step(count: Count, byte: u8) -> Count
     }
 }
 
+#[inline]
 fn next_line(place: Position) -> Position
     requires { place.line + 1 < 2 ^ 64 }
     ensures { result ≡ next_line place }
@@ -84,6 +92,7 @@ fn next_line(place: Position) -> Position
     }
 }
 
+#[inline]
 fn next_unit(place: Position) -> Position
     requires { place.column + 1 < 2 ^ 64 }
     ensures { result ≡ next_unit place }
@@ -94,6 +103,7 @@ fn next_unit(place: Position) -> Position
     }
 }
 
+#[inline]
 fn line_feed(seen: Seen, place: Position) -> Position
     requires { place.line + 1 < 2 ^ 64 }
     ensures { result ≡ line_feed seen place }
@@ -105,6 +115,7 @@ fn line_feed(seen: Seen, place: Position) -> Position
 }
 
 // A byte inside a character.
+#[inline]
 fn inner(seen: Seen, place: Position, byte: u8) -> Count
     requires line { place.line + 1 < 2 ^ 64 }
     requires column { place.column + 1 < 2 ^ 64 }
@@ -131,6 +142,7 @@ fn inner(seen: Seen, place: Position, byte: u8) -> Count
 }
 
 // What the first byte of a character past ASCII tells.
+#[inline]
 fn lead(byte: u8) -> Seen
     ensures { result ≡ lead byte }
 {

@@ -114,6 +114,7 @@ fn plain_len(bytes: &[u8]) -> usize
 }
 
 // Whether a line ends behind the character.
+#[inline]
 fn closes_line(code: u32, rest: &[u8]) -> bool
     requires { ArePoints rest.now }
     ensures { result ≡ closes_line code (chars rest.now) }
@@ -122,6 +123,7 @@ fn closes_line(code: u32, rest: &[u8]) -> bool
         && !(code == 13 && begins_with_line_feed(rest))
 }
 
+#[inline]
 fn begins_with_line_feed(bytes: &[u8]) -> bool
     requires { ArePoints bytes.now }
     ensures { result ≡ begins_with 10 (chars bytes.now) }
@@ -133,6 +135,7 @@ fn begins_with_line_feed(bytes: &[u8]) -> bool
 }
 
 // The units of UTF-16 of a character.
+#[inline]
 fn units(code: u32) -> u32
     ensures { result ≡ units code }
 {
