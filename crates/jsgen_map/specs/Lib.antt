@@ -1,0 +1,10 @@
+pub mod Count
+pub mod LineColumn
+pub mod Lines
+pub mod Reading
+pub mod Tables
+pub mod Marks
+pub mod Names
+pub mod Plain
+pub mod Builder
+pub mod Law
