@@ -1,5 +1,5 @@
 // Marks of a source map, where one is wanted; and comments, which aren't printed yet, so that their steps add nothing.
-ghost use Rattle.std.specs.Prelude.{◌≡◌, ◌∷◌, true, None, option_map, is_some};
+ghost use Rattle.std.specs.Prelude.{◌≡◌, ◌-◌, ◌∷◌, true, None, option_map, is_some};
 ghost use Rattle.std.specs.Str.{chars};
 ghost use Rattle.jsgen_model.specs.Items.{mark, end_mark, link_mark, marked_word, comments, orphans, all_of_them, with_key_annotation};
 ghost use Rattle.jsgen_model.specs.Marks.{has_start_mark, has_end_mark, has_link_mark, closes_link, ends_in_link, other_name_in};
@@ -89,7 +89,8 @@ impl<'a> Printer<'a> {
         ensures { Lays self.old self.new (end_mark span) }
     {
         if self.has_end_mark(span) {
-            self.add_mark(span.end.saturating_sub(1), None);
+            let offset = last_offset(span);
+            self.add_mark(offset, None);
         }
     }
 
@@ -173,6 +174,13 @@ impl<'a> Printer<'a> {
     {
         let _ = offset;
     }
+}
+
+// The offset of a span's last byte.
+fn last_offset(span: Span) -> u32
+    ensures { result ≡ span.end - 1 }
+{
+    span.end.saturating_sub(1)
 }
 
 // What the object of a link ends in, behind which it has a mark.
