@@ -3,7 +3,7 @@ use Rattle.std.proofs.Common.{◌≡◌, ℕ, ◌+◌, ◌≤◌, Bool, true, fa
 use Rattle.std.proofs.lemmas.Bool.{both_ways}
 use Rattle.jsgen_syntax.specs.Escapes.{name_text}
 use Rattle.jsgen_syntax.specs.declared.span.Span.{Span}
-use Rattle.jsgen_tree.specs.Named.{Named, printed_name}
+use Rattle.jsgen_tree.specs.Named.{printed_name}
 use Rattle.jsgen_model.specs.Punctuator.{Round, opening, closing}
 use Rattle.jsgen_model.specs.Items.{Items, ◌⊕◌, name, private_name, deeper, in_class, brackets, wrapped, wrapped_at_start, parentheses_unless_minified, unless_minified, where_same}
 use Rattle.jsgen_model.specs.Marks.{Mark, size, is_empty, last_from, last_offset, is_last, unless_last, has_start_mark, other_name_in}

@@ -1,5 +1,5 @@
 -- What items add: text behind the code, and marks that lead to its end or behind it. All other laws of marks take this one.
-use Rattle.std.proofs.Common.{◌≡◌, ℕ, ◌*◌, ◌-◌, Bool, true, false, ◌||◌, List, [], ◌∷◌, ◌++◌, Option, Some, None, codes, replicate, refl, ap, sym, subst, ◌∙◌, arith, append_assoc, append-nil, if◌then◌else◌}
+use Rattle.std.proofs.Common.{◌≡◌, ℕ, ◌*◌, ◌-◌, Bool, true, false, ◌||◌, List, [], ◌∷◌, ◌++◌, Option, None, codes, replicate, refl, ap, sym, subst, ◌∙◌, arith, append_assoc, append-nil, if◌then◌else◌}
 use Rattle.jsgen_syntax.specs.Escapes.{name_text}
 use Rattle.jsgen_syntax.specs.declared.span.Span.{Span}
 use Rattle.jsgen_tree.specs.Named.{printed_name}
@@ -7,9 +7,9 @@ use Rattle.jsgen_model.specs.Punctuator.{Round, opening, closing}
 use Rattle.jsgen_model.specs.Items.{Items, nothing, ◌⊕◌, word, name, private_name, number, literal, regular_expression, template_part, string, first_string, directive, punctuator, operator, member_dot, soft_space, soft_line, hard_space, indentation, body_space, deeper, in_class, brackets, wrapped, wrapped_at_start, parentheses_unless_minified, unless_minified, where_same, statement_end, due_semicolon, drop_semicolon, statement_begins, arrow_body_begins, default_export_begins, mark, end_mark, link_mark, marked_word, comments, orphans, annotation}
 use Rattle.jsgen_model.specs.Marks.{Mark, size, last_offset, is_last, unless_last, other_name_in, has_start_mark, has_end_mark, has_link_mark}
 use Rattle.jsgen_model.specs.Layout.{Pen, Ending, other_end, written, written_if, text_if, is_apart, is_barred, deeper_level, entered, indented, indent_or_space, at_indentation, end_statement, are_same, not}
-use Rattle.jsgen_model.specs.Lay.{lay, marked_if, name_mark, piece_mark, has_piece_mark, spaced, part_opening, part_closing, span_mark}
+use Rattle.jsgen_model.specs.Lay.{lay, marked_if, name_mark, piece_mark, has_piece_mark, spaced, part_opening, span_mark}
 use Rattle.jsgen_model.specs.Private.{printed_private}
-use Rattle.jsgen_mark_laws.specs.Law.{Adds, Ordered, Parted}
+use Rattle.jsgen_mark_laws.specs.Law.{Adds, Parted}
 use Rattle.jsgen_mark_laws.proofs.Sizes.{longer}
 use Rattle.jsgen_mark_laws.proofs.Marks.{ordered_append, parted_append, last_append, not_last}
 

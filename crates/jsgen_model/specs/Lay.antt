@@ -1,5 +1,5 @@
 -- The text and the marks that items give, from a pen: `layout` has the text alone.
-use Rattle.std.specs.Prelude.{ℕ, List, ◌∷◌, ◌++◌, ◌-◌, Bool, true, false, Option, Some, None, ◌||◌, codes, if◌then◌else◌}
+use Rattle.std.specs.Prelude.{ℕ, List, ◌∷◌, ◌++◌, ◌-◌, Bool, false, Option, None, ◌||◌, codes, if◌then◌else◌}
 use Rattle.jsgen_syntax.specs.Escapes.{name_text, has_escapes}
 use Rattle.jsgen_syntax.specs.Raw.{template_text}
 use Rattle.jsgen_syntax.specs.declared.span.Span.{Span}

@@ -1,18 +1,16 @@
 -- Which spans have marks, and what becomes of a step where there is none.
-use Rattle.std.proofs.Common.{◌≡◌, ℕ, ◌≤◌, Bool, true, false, ◌&&◌, ◌||◌, ◌==◌, List, Option, Some, None, is_some, length, ◌-◌, refl, ap, sym, subst, ◌∙◌, arith}
+use Rattle.std.proofs.Common.{◌≡◌, ℕ, ◌≤◌, Bool, true, false, ◌==◌, List, Option, Some, None, is_some, length, ◌-◌, refl, ap, sym, subst, arith}
 use Rattle.std.specs.List.{slice_get}
 use Rattle.std.specs.Option.{option_map, option_map_or}
 use Rattle.std.specs.Str.{chars, IsUtf8}
-use Rattle.std.proofs.lemmas.Bool.{both_ways}
 use Rattle.std.proofs.lemmas.Bool.Decides.{nat_tests}
 use Rattle.jsgen_syntax.proofs.Last.{last_passes}
 use Rattle.jsgen_syntax.specs.declared.span.Span.{Span}
-use Rattle.jsgen_model.specs.Items.{Items}
-use Rattle.jsgen_model.specs.Lay.{lay, marked_if}
+use Rattle.jsgen_model.specs.Lay.{marked_if}
 use Rattle.jsgen_model.specs.Layout.{Pen}
 use Rattle.jsgen_model.specs.Marks.{has_start_mark, has_end_mark, has_link_mark, closes_link, ends_in_link}
 use Rattle.jsgen_printer.specs.Printer.{pen_of}
-use Rattle.jsgen_printer.specs.Steps.{has_failed, Ends, Goes, Lays}
+use Rattle.jsgen_printer.specs.Steps.{Ends, Goes}
 use Rattle.jsgen_printer.specs.declared.printer.Printer.{Printer}
 
 -- a mark stands only where a map is wanted

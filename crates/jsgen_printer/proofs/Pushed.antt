@@ -1,6 +1,6 @@
 -- One more mark.
-use Rattle.std.proofs.Common.{◌≡◌, ℕ, true, length, List, [], ◌∷◌, ◌++◌, Option, Some, None, map, refl, ap, sym, ◌∙◌}
-use Rattle.std.specs.Str.{chars, encode_utf8_all}
+use Rattle.std.proofs.Common.{◌≡◌, ℕ, true, length, List, [], ◌∷◌, ◌++◌, Option, Some, map, refl, ap, sym, ◌∙◌}
+use Rattle.std.specs.Str.{chars}
 use Rattle.std.proofs.lemmas.Str.{encodes-chars}
 use Rattle.jsgen_syntax.specs.Buffer.{buffer_bytes}
 use Rattle.jsgen_syntax.specs.declared.buffer.CodeBuffer.{CodeBuffer}

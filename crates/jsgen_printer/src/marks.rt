@@ -91,7 +91,11 @@ pub fn other_name<'a>(source: &'a str, span: Span, printed: &str) -> Option<&'a 
     ensures { option_map (λ s. chars s.now) result ≡ other_name (source_text source.now span) (chars printed.now) }
 {
     match source_text(source, span) {
-        Some(was) => if is_same(was, printed) { None } else { Some(was) },
+        Some(was) => if is_same(was, printed) {
+            None
+        } else {
+            Some(was)
+        },
         None => None,
     }
 }
@@ -101,7 +105,11 @@ pub fn other_private_name<'a>(source: &'a str, span: Span, printed: &str) -> Opt
     ensures { option_map (λ s. chars s.now) result ≡ other_name (source_text source.now span) (35 ∷ chars printed.now) }
 {
     match source_text(source, span) {
-        Some(was) => if is_behind_hash(was, printed) { None } else { Some(was) },
+        Some(was) => if is_behind_hash(was, printed) {
+            None
+        } else {
+            Some(was)
+        },
         None => None,
     }
 }

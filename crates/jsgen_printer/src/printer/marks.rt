@@ -58,10 +58,9 @@ impl<'a> Printer<'a> {
         ensures { result ≡ has_link_mark (pen_of self.now).style.source span (pen_of self.now).code }
     {
         match &self.marks {
-            Some(marks) =>
-                span.start != span.end
-                    && self.ends_in_link()
-                    && (span.end as usize) < marks.source.len(),
+            Some(marks) => span.start != span.end
+                && self.ends_in_link()
+                && (span.end as usize) < marks.source.len(),
             None => false,
         }
     }

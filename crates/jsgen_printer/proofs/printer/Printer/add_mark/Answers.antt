@@ -1,4 +1,4 @@
-use Rattle.std.proofs.Common.{◌≡◌, Option, Some, option_map, map, ap, sym, ◌∙◌}
+use Rattle.std.proofs.Common.{◌≡◌, Some, option_map, map, ap, sym, ◌∙◌}
 use Rattle.std.specs.Str.{chars}
 use Rattle.jsgen_model.specs.Marks as marks
 use Rattle.jsgen_model.specs.Marks.{last_offset, unless_last, is_last}

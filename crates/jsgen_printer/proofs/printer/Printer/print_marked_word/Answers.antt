@@ -15,7 +15,7 @@ returns c =
     let span = c.args.span in
     let word = c.args.text.now in
     goes_laid (marked_word span word)
-      (ap (λ t. written t other_end (span_mark span (written_if c.is_apart-apart.result (chars (codes " ")) pen))) (ascii_chars word c.requires)
-      ∙ (ap (λ t. written word other_end (span_mark span (written_if c.is_apart-apart.result t pen))) (ascii_chars (codes " ") refl)
-      ∙ ap (λ b. written word other_end (span_mark span (written_if b (codes " ") pen))) c.is_apart-apart.ensures))
-      (goes_then (λ p. prefix_append p.code _) (λ p. prefix_append p.code _) (goes_then (λ p. prefix_append p.code _) (λ p. whole_prefix p.code) c.print_if.ensures (items_go c.print_mark.ensures)) c.print_str.ensures)
+    (ap (λ t. written t other_end (span_mark span (written_if c.is_apart-apart.result (chars (codes " ")) pen))) (ascii_chars word c.requires)
+    ∙ (ap (λ t. written word other_end (span_mark span (written_if c.is_apart-apart.result t pen))) (ascii_chars (codes " ") refl)
+    ∙ ap (λ b. written word other_end (span_mark span (written_if b (codes " ") pen))) c.is_apart-apart.ensures))
+    (goes_then (λ p. prefix_append p.code _) (λ p. prefix_append p.code _) (goes_then (λ p. prefix_append p.code _) (λ p. whole_prefix p.code) c.print_if.ensures (items_go c.print_mark.ensures)) c.print_str.ensures)

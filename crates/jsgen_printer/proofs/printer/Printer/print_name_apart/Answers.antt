@@ -13,6 +13,6 @@ returns c =
     let pen = pen_of c.args.self.now in
     let printed = chars c.args.text.now in
     goes_as _
-      (ap (λ t. name_written printed (name_mark c.args.span printed (written_if c.is_apart-apart.result t pen))) (ascii_chars (codes " ") refl)
-      ∙ ap (λ b. name_written printed (name_mark c.args.span printed (written_if b (codes " ") pen))) c.is_apart-apart.ensures)
-      (goes_then (λ p. prefix_append p.code _) (λ p. prefix_append p.code _) (goes_then (λ p. prefix_append p.code _) (λ p. whole_prefix p.code) c.print_if.ensures c.print_name_mark.ensures) c.print_bare_name.ensures)
+    (ap (λ t. name_written printed (name_mark c.args.span printed (written_if c.is_apart-apart.result t pen))) (ascii_chars (codes " ") refl)
+    ∙ ap (λ b. name_written printed (name_mark c.args.span printed (written_if b (codes " ") pen))) c.is_apart-apart.ensures)
+    (goes_then (λ p. prefix_append p.code _) (λ p. prefix_append p.code _) (goes_then (λ p. prefix_append p.code _) (λ p. whole_prefix p.code) c.print_if.ensures c.print_name_mark.ensures) c.print_bare_name.ensures)

@@ -19,7 +19,7 @@ returns c =
     let opens = chars c.opening.result.now in
     let closes = chars c.closing.result.now in
     goes_laid (template_part part c.args.tagged span (chars c.args.raw.now))
-      (ap (λ t. written (raw ++ closes) other_end (piece_mark part span (written t other_end pen))) (opens_so part c.opening.result.now c.opening.ensures)
-      ∙ ap (λ t. written (raw ++ t) other_end (piece_mark part span (written (part_opening part) other_end pen))) (closes_so part c.closing.result.now c.closing.ensures))
-      (goes_then (λ p. prefix_append p.code opens) (λ p. prefix_append p.code _) (goes_then (λ p. prefix_append p.code opens) (λ p. whole_prefix p.code) c.print_str.ensures c.print_piece_mark.ensures)
-      (in_a_row (λ style. template_text c.args.tagged style.minified style.ascii (chars c.args.raw.now)) (λ _. closes) c.print_piece.ensures c.print_str-2.ensures))
+    (ap (λ t. written (raw ++ closes) other_end (piece_mark part span (written t other_end pen))) (opens_so part c.opening.result.now c.opening.ensures)
+    ∙ ap (λ t. written (raw ++ t) other_end (piece_mark part span (written (part_opening part) other_end pen))) (closes_so part c.closing.result.now c.closing.ensures))
+    (goes_then (λ p. prefix_append p.code opens) (λ p. prefix_append p.code _) (goes_then (λ p. prefix_append p.code opens) (λ p. whole_prefix p.code) c.print_str.ensures c.print_piece_mark.ensures)
+    (in_a_row (λ style. template_text c.args.tagged style.minified style.ascii (chars c.args.raw.now)) (λ _. closes) c.print_piece.ensures c.print_str-2.ensures))
