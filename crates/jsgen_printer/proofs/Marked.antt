@@ -1,17 +1,16 @@
 -- Which spans have marks, and what becomes of a step where there is none.
-use Rattle.std.proofs.Common.{◌≡◌, ℕ, ◌≤◌, Bool, true, false, ◌==◌, List, Option, Some, None, is_some, length, ◌-◌, refl, ap, sym, subst, arith}
+use Rattle.std.proofs.Common.{◌≡◌, ℕ, ◌≤◌, Bool, true, false, List, Option, Some, None, is_some, length, ◌-◌, refl, ap, sym, subst, arith}
 use Rattle.std.specs.List.{slice_get}
-use Rattle.std.specs.Option.{option_map, option_map_or}
+use Rattle.std.specs.Option.{option_map_or}
 use Rattle.std.specs.Str.{chars, IsUtf8}
-use Rattle.std.proofs.lemmas.Bool.Decides.{nat_tests}
 use Rattle.jsgen_syntax.proofs.Last.{last_passes}
 use Rattle.jsgen_syntax.specs.declared.span.Span.{Span}
-use Rattle.jsgen_model.specs.Lay.{marked_if}
 use Rattle.jsgen_model.specs.Layout.{Pen}
 use Rattle.jsgen_model.specs.Marks.{has_start_mark, has_end_mark, has_link_mark, closes_link, ends_in_link}
 use Rattle.jsgen_printer.specs.Printer.{pen_of}
 use Rattle.jsgen_printer.specs.Steps.{Ends, Goes}
 use Rattle.jsgen_printer.specs.declared.printer.Printer.{Printer}
+use Rattle.jsgen_printer.proofs.Patterns.{map_or, no_sign}
 
 -- a mark stands only where a map is wanted
 pub mapped_start : (source : Option (List ℕ)) (span : Span) → has_start_mark source span ≡ true → is_some source ≡ true
@@ -30,20 +29,7 @@ mapped_link (Some s) span code h = refl
 pub no_step : (p : Printer) (f : Pen → Pen) → f (pen_of p) ≡ pen_of p → Goes p p f
 no_step p f e = record { stays = λ h. (h, refl); goes = λ going. subst (λ failed. Ends failed (pen_of p) (pen_of p) (f (pen_of p))) (sym going) (sym e) }
 
--- no mark
-pub unmarked : (p : Printer) (test : Bool) (offset : ℕ) (called : Option (List ℕ)) → test ≡ false → marked_if test offset called (pen_of p) ≡ pen_of p
-unmarked p test offset called e = ap (λ b. marked_if b offset called (pen_of p)) e
-
 -- ---- the last byte
-
-map_or : (f : ℕ → Bool) (o p : Option ℕ) → option_map f o ≡ option_map f p → option_map_or f o false ≡ option_map_or f p false
-map_or f None None h = refl
-map_or f (Some x) (Some y) h = cc
-map_or f None (Some y) h = cc
-map_or f (Some x) None h = cc
-
-no_sign : (c d : ℕ) → 128 ≤ c → d ≤ 127 → (c == d) ≡ false
-no_sign c d h k = grind (arith, nat_tests)
 
 none_past_ascii : (c : ℕ) → 128 ≤ c → closes_link c ≡ false
 none_past_ascii c h = rw (no_sign c 41 h (omega arith), no_sign c 93 h (omega arith)) refl
