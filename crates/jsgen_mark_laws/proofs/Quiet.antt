@@ -1,5 +1,5 @@
 -- With marks or without, the text and all that matters to what follows is the same.
-use Rattle.std.proofs.Common.{◌≡◌, ℕ, ◌*◌, ◌-◌, Bool, true, false, ◌||◌, List, [], ◌∷◌, ◌++◌, codes, replicate, refl, ap, sym, ◌∙◌, append_assoc, if◌then◌else◌}
+use Rattle.std.proofs.Common.{◌≡◌, ℕ, ◌*◌, Bool, true, false, ◌||◌, List, [], ◌∷◌, ◌++◌, codes, replicate, refl, ap, sym, ◌∙◌, append_assoc, if◌then◌else◌}
 use Rattle.jsgen_syntax.specs.Escapes.{name_text, has_escapes}
 use Rattle.jsgen_syntax.specs.Raw.{template_text}
 use Rattle.jsgen_tree.specs.Named.{printed_name}

@@ -1,5 +1,5 @@
 -- Validity: the rules that a tree breaks, each with the start of the node at which it is broken.
-use Rattle.std.specs.Prelude.{◌≡◌, ◌==◌, ℕ, suc, ◌+◌, ◌-◌, ◌*◌, max, List, [], ◌∷◌, ◌++◌, length, take, slice_get, codes, Bool, true, false, not, ◌&&◌, ◌||◌, nat_lt, Contains, is_some, Result, Ok, Err, if◌then◌else◌, Option, Some, None}
+use Rattle.std.specs.Prelude.{◌≡◌, ◌==◌, ℕ, suc, ◌+◌, ◌*◌, max, List, [], ◌∷◌, ◌++◌, length, slice_get, codes, Bool, true, false, not, ◌&&◌, ◌||◌, nat_lt, Contains, is_some, Result, Ok, Err, if◌then◌else◌, Option, Some, None}
 use Rattle.std.specs.Option.{option_map_or}
 use Rattle.std.specs.Str.{encode_utf8_all}
 use Rattle.jsgen_syntax.specs.Name.{spells_name, is_free_name}
