@@ -1,4 +1,4 @@
-use Rattle.std.proofs.Common.{None, refl, ap, sym, ◌-◌, ◌∙◌}
+use Rattle.std.proofs.Common.{None, refl, ap, sym, ◌∙◌}
 use Rattle.jsgen_model.specs.Items.{mark}
 use Rattle.jsgen_model.specs.Lay.{marked_if}
 use Rattle.jsgen_printer.specs.Printer.{pen_of}
