@@ -96,6 +96,10 @@ pen_of p = record {
 abbrev pub by_tables : Tables → Pen → Pen
 by_tables tables pen = record pen { style = record pen.style { tables = tables } }
 
+-- the same pen, behind whose marks others may follow
+abbrev pub by_marks : Marks → Pen → Pen
+by_marks m pen = record pen { style = record pen.style { source = Some m.source.now }; marks = map mark_plain m.list.items }
+
 -- the pen behind a text that was handed in; an empty one leaves what the code ends in as it is
 abbrev pub unless_empty : List ℕ → Pen → Pen → Pen
 unless_empty [] before behind = before

@@ -1,5 +1,5 @@
 // The marks of a source map, while a text is printed.
-ghost use Rattle.std.specs.Prelude.{◌≡◌, ◌∷◌, None, OnOk, OnErr, map, option_map};
+ghost use Rattle.std.specs.Prelude.{◌≡◌, [], ◌∷◌, None, OnOk, OnErr, map, option_map};
 ghost use Rattle.std.specs.Str.{chars};
 ghost use Rattle.jsgen_model.specs.Marks.{last_from, is_last, unless_last, source_text, other_name};
 ghost use Rattle.jsgen_model.specs.Spans.{is_offset, spans_characters};
@@ -7,6 +7,7 @@ ghost use Rattle.jsgen_printer.specs.Marks.{mark_plain};
 
 use crate::same::{is_behind_hash, is_same};
 use jsgen_syntax::{Memory, Span};
+use std::alloc::Global;
 
 /// The text so far, of so many bytes, ends where what has this offset in the source begins; and the name that stands there, where it
 /// is printed as another.
@@ -28,6 +29,18 @@ pub struct Marks<'a> {
 
 #[tactic(auto, using(crate::proofs::Pushed::last_pushed, crate::proofs::Pushed::pushed))]
 impl<'a> Marks<'a> {
+    /// No marks yet, of a text that is printed from this source.
+    pub fn new(alloc: Global, source: &'a str) -> Marks<'a>
+        ensures source { result.source ≡ source.entry }
+        ensures list { result.list.items ≡ [] }
+    {
+        Marks {
+            source,
+            list: Vec::new(alloc),
+            last: None,
+        }
+    }
+
     // Whether the last mark has this offset.
     fn is_last(&self, offset: u32) -> bool
         ensures { result ≡ is_last self.now.last offset }

@@ -1,19 +1,38 @@
 // Marks of a source map, where one is wanted; and comments, which aren't printed yet, so that their steps add nothing.
-ghost use Rattle.std.specs.Prelude.{◌≡◌, ◌-◌, ◌∷◌, true, None, option_map, is_some};
-ghost use Rattle.std.specs.Str.{chars};
+ghost use Rattle.std.specs.Prelude.{◌≡◌, ◌-◌, ◌∷◌, true, None, option_map, is_some, string_bytes};
+ghost use Rattle.std.specs.Str.{chars, encode_utf8_all};
 ghost use Rattle.jsgen_model.specs.Items.{mark, end_mark, link_mark, marked_word, comments, orphans, all_of_them, with_key_annotation};
 ghost use Rattle.jsgen_model.specs.Marks.{has_start_mark, has_end_mark, has_link_mark, closes_link, ends_in_link, other_name_in};
 ghost use Rattle.jsgen_model.specs.Lay.{marked_if, span_mark, name_mark};
-ghost use Rattle.jsgen_printer.specs.Printer.{pen_of, is_ascii};
-ghost use Rattle.jsgen_printer.specs.Steps.{Goes, Lays};
+ghost use Rattle.jsgen_printer.specs.Printer.{pen_of, is_ascii, by_marks, marks_plain, source_plain};
+ghost use Rattle.jsgen_printer.specs.Steps.{has_failed, Goes, Lays};
 
 use super::{Ending, Printer};
-use crate::marks::{other_name, other_private_name};
+use crate::marks::{Marks, other_name, other_private_name};
 use jsgen_syntax::Span;
 
 #[tactic(auto, unfolding(crate::specs::Printer::pen_of))]
 impl<'a> Printer<'a> {
     ghost use Rattle.std.specs.Prelude.{IsTrue};
+
+    /// The same printer, which from here on leaves marks behind those that are handed in.
+    pub fn with_marks(self, marks: Marks<'a>) -> Printer<'a>
+        ensures pen { pen_of result ≡ by_marks marks.entry (pen_of self.entry) }
+        ensures failed { has_failed result ≡ has_failed self.entry }
+    {
+        let mut printer = self;
+        printer.marks = Some(marks);
+        printer
+    }
+
+    /// The text and its marks, and nothing is copied.
+    pub fn into_parts(self) -> (String, Option<Marks<'a>>)
+        ensures text { string_bytes result.0 ≡ encode_utf8_all (pen_of self.entry).code }
+        ensures marks { marks_plain result.1 ≡ (pen_of self.entry).marks }
+        ensures source { source_plain result.1 ≡ (pen_of self.entry).style.source }
+    {
+        (self.code.into_string(), self.marks)
+    }
 
     // One more mark where a map is wanted.
     fn add_mark(&mut self, offset: u32, name: Option<&'a str>)
