@@ -8,7 +8,8 @@ ghost use Rattle.jsgen_tree.specs.Job.{no_tables};
 ghost use Rattle.jsgen_tree.specs.Scoping.{scoping_plain, private_plain, tables_plain};
 ghost use Rattle.jsgen_syntax.specs.Raw.{tag_free};
 ghost use Rattle.jsgen_model.specs.Items.{string};
-ghost use Rattle.jsgen_model.specs.Layout.{style_of, empty_pen, written, other_end, layout};
+ghost use Rattle.jsgen_model.specs.Lay.{lay};
+ghost use Rattle.jsgen_model.specs.Layout.{style_of, empty_pen, written, other_end};
 ghost use Rattle.jsgen_syntax.specs.declared.precedence.Precedence.TheVariants.{Lowest};
 ghost use Rattle.jsgen_model.specs.Spell.{text_bytes, spell};
 ghost use Rattle.std.specs.Str.{chars};
@@ -239,7 +240,7 @@ impl<'a> Codegen<'a> {
     /// that makes it shortest, but never in backticks.
     pub fn print_string(&mut self, s: &str) -> Result<(), CodegenError>
         requires unfailed { has_failed self.old ≡ false }
-        ensures { Prints self.old self.new (layout (string false (flat_map encode_utf16 (chars s.now))) (pen_at self.old)) result }
+        ensures { Prints self.old self.new (lay (string false (flat_map encode_utf16 (chars s.now))) (pen_at self.old)) result }
     {
         self.has_printed = true;
         match JsStr::from_text(self.alloc, s) {
@@ -254,7 +255,7 @@ impl<'a> Codegen<'a> {
     pub fn print_expression(&mut self, expression: &Expression) -> Result<(), CodegenError>
         requires valid { IsValidExpression (options_of self.old) (tables_of self.old) (expression_plain node_plain expression.now) }
         requires unfailed { has_failed self.old ≡ false }
-        ensures { Prints self.old self.new (layout (spell (expression_plain node_plain expression.now) (at_level Lowest free)) (pen_at self.old)) result }
+        ensures { Prints self.old self.new (lay (spell (expression_plain node_plain expression.now) (at_level Lowest free)) (pen_at self.old)) result }
     {
         self.print_at(expression, Place::within_statement())
     }
@@ -262,7 +263,7 @@ impl<'a> Codegen<'a> {
     // Prints what stands at a place.
     fn print_at<T: PrintAtLevel>(&mut self, node: &T, place: Place) -> Result<(), CodegenError>
         requires unfailed { has_failed self.old ≡ false }
-        ensures { Prints self.old self.new (layout (spell (T.plain node.now) place) (pen_at self.old)) result }
+        ensures { Prints self.old self.new (lay (spell (T.plain node.now) place) (pen_at self.old)) result }
     {
         self.has_printed = true;
         node.print_at(&mut self.printer, place);
@@ -277,7 +278,7 @@ impl<'a> Codegen<'a> {
         context: Context,
     ) -> Result<(), CodegenError>
         requires unfailed { has_failed self.old ≡ false }
-        ensures { Prints self.old self.new (layout (spell (T.plain node.now) (at_level level (context_at context))) (pen_at self.old)) result }
+        ensures { Prints self.old self.new (lay (spell (T.plain node.now) (at_level level (context_at context))) (pen_at self.old)) result }
     {
         self.print_at(node, Place::at_level(level, place_context(context)))
     }
@@ -289,7 +290,7 @@ impl<'a> Codegen<'a> {
         context: Context,
     ) -> Result<(), CodegenError>
         requires unfailed { has_failed self.old ≡ false }
-        ensures { Prints self.old self.new (layout (T.alone node.now (context_at context)) (pen_at self.old)) result }
+        ensures { Prints self.old self.new (lay (T.alone node.now (context_at context)) (pen_at self.old)) result }
     {
         self.has_printed = true;
         node.print_alone(&mut self.printer, place_context(context));

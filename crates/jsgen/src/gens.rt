@@ -1,6 +1,6 @@
 // Print calls of nodes: each goes on with what was printed before, and is no part of a program.
 ghost use Rattle.std.specs.Prelude.{◌≡◌, false};
-ghost use Rattle.jsgen_model.specs.Layout.{layout};
+ghost use Rattle.jsgen_model.specs.Lay.{lay};
 ghost use Rattle.jsgen_model.specs.Spell.{spell};
 ghost use Rattle.jsgen_place.specs.Place.{at_level};
 ghost use Rattle.jsgen.specs.Codegen.{has_failed, pen_at, Prints};
@@ -17,7 +17,7 @@ use jsgen_tree::GetSpan;
 pub trait Gen: GetSpan + PrintAlone {
     final fn gen_node(&self, p: &mut Codegen<'_>, ctx: Context) -> Result<(), CodegenError>
         requires unfailed { has_failed p.old ≡ false }
-        ensures { Prints p.old p.new (layout (Self.alone self.now (context_at ctx)) (pen_at p.old)) result }
+        ensures { Prints p.old p.new (lay (Self.alone self.now (context_at ctx)) (pen_at p.old)) result }
     {
         p.print_alone(self, ctx)
     }
@@ -25,7 +25,7 @@ pub trait Gen: GetSpan + PrintAlone {
     /// The same text.
     final fn print(&self, p: &mut Codegen<'_>, ctx: Context) -> Result<(), CodegenError>
         requires unfailed { has_failed p.old ≡ false }
-        ensures { Prints p.old p.new (layout (Self.alone self.now (context_at ctx)) (pen_at p.old)) result }
+        ensures { Prints p.old p.new (lay (Self.alone self.now (context_at ctx)) (pen_at p.old)) result }
     {
         self.gen_node(p, ctx)
     }
@@ -40,7 +40,7 @@ pub trait GenExpr: GetSpan + PrintAtLevel {
         ctx: Context,
     ) -> Result<(), CodegenError>
         requires unfailed { has_failed p.old ≡ false }
-        ensures { Prints p.old p.new (layout (spell (Self.plain self.now) (at_level precedence (context_at ctx))) (pen_at p.old)) result }
+        ensures { Prints p.old p.new (lay (spell (Self.plain self.now) (at_level precedence (context_at ctx))) (pen_at p.old)) result }
     {
         p.print_at_level(self, precedence, ctx)
     }
@@ -53,7 +53,7 @@ pub trait GenExpr: GetSpan + PrintAtLevel {
         ctx: Context,
     ) -> Result<(), CodegenError>
         requires unfailed { has_failed p.old ≡ false }
-        ensures { Prints p.old p.new (layout (spell (Self.plain self.now) (at_level precedence (context_at ctx))) (pen_at p.old)) result }
+        ensures { Prints p.old p.new (lay (spell (Self.plain self.now) (at_level precedence (context_at ctx))) (pen_at p.old)) result }
     {
         self.gen_expr(p, precedence, ctx)
     }

@@ -4,7 +4,8 @@ use Rattle.std.proofs.lemmas.Bool.{both_ways, eqb-true}
 use Rattle.jsgen_tree.specs.Tree.{Tree, trees}
 use Rattle.jsgen_model.specs.Punctuator.{Brace, opening, closing}
 use Rattle.jsgen_model.specs.Items.{Items, nothing, ◌⊕◌, brackets, soft_line, indentation, drop_semicolon}
-use Rattle.jsgen_model.specs.Layout.{Pen, layout, written, other_end}
+use Rattle.jsgen_model.specs.Lay.{lay}
+use Rattle.jsgen_model.specs.Layout.{Pen, written, other_end}
 use Rattle.jsgen_model.specs.Spell.{braces, filled_braces}
 use Rattle.jsgen_model.specs.Printing.{IsPrefix}
 use Rattle.jsgen_printer.specs.Printer.{pen_of, at_depth}
@@ -35,4 +36,4 @@ closed_appends depth pen = more_prefix (closing Brace) (layout_appends indentati
 pub braces_laid : {a b c d : Printer} {i : Items} (depth : ℕ) → depth ≡ (pen_of a).depth → Goes a b braces_opened → Lays b c i → Goes c d (braces_closed depth) → Lays a d (filled_braces i)
 braces_laid {a} {b} {c} {d} {i} depth level h inside k =
     let closed : Goes c d (braces_closed (pen_of a).depth) = subst (λ n. Goes c d (braces_closed n)) level k in
-    goes_laid (filled_braces i) refl (goes_then opened_appends (λ pen. prefix_of_prefix (layout_appends i pen) (closed_appends (pen_of a).depth (layout i pen))) h (goes_then (λ pen. layout_appends i pen) (closed_appends (pen_of a).depth) (items_go inside) closed))
+    goes_laid (filled_braces i) refl (goes_then opened_appends (λ pen. prefix_of_prefix (layout_appends i pen) (closed_appends (pen_of a).depth (lay i pen))) h (goes_then (λ pen. layout_appends i pen) (closed_appends (pen_of a).depth) (items_go inside) closed))

@@ -6,18 +6,19 @@ use Rattle.std.proofs.lemmas.Option.{same_Some}
 use Rattle.jsgen_tree.specs.Tree.{Tree, holed}
 use Rattle.jsgen_model.specs.Punctuator.{comma}
 use Rattle.jsgen_model.specs.Items.{Items, ◌⊕◌, punctuator, soft_space}
-use Rattle.jsgen_model.specs.Layout.{Pen, layout, not}
+use Rattle.jsgen_model.specs.Lay.{lay}
+use Rattle.jsgen_model.specs.Layout.{Pen, not}
 use Rattle.jsgen_place.specs.declared.place.Place.{Place}
 use Rattle.jsgen_model.specs.Spell.{spell_elements, spell_more_elements, line_or_space, on_lines, object_inside, are_more, count, ends_in_hole}
 use Rattle.jsgen_lists.specs.Lists.{element_items, all_elements}
 
 -- ---- the first of the members
 
-pub elements_first : (lines : Bool) (o : Option Tree) (os : List (Option Tree)) (place : Place) (at : Pen) → layout (element_items o place ⊕ spell_more_elements lines (holed os) place) at ≡ layout (spell_elements lines (holed (o ∷ os)) place) at
+pub elements_first : (lines : Bool) (o : Option Tree) (os : List (Option Tree)) (place : Place) (at : Pen) → lay (element_items o place ⊕ spell_more_elements lines (holed os) place) at ≡ lay (spell_elements lines (holed (o ∷ os)) place) at
 elements_first lines None os place at = refl
 elements_first lines (Some t) os place at = refl
 
-pub more_first : (lines : Bool) (o : Option Tree) (os : List (Option Tree)) (place : Place) (at : Pen) → layout (spell_more_elements lines (holed (o ∷ os)) place) at ≡ layout (punctuator comma ⊕ (line_or_space lines ⊕ (element_items o place ⊕ spell_more_elements lines (holed os) place))) at
+pub more_first : (lines : Bool) (o : Option Tree) (os : List (Option Tree)) (place : Place) (at : Pen) → lay (spell_more_elements lines (holed (o ∷ os)) place) at ≡ lay (punctuator comma ⊕ (line_or_space lines ⊕ (element_items o place ⊕ spell_more_elements lines (holed os) place))) at
 more_first lines None os place at = refl
 more_first lines (Some t) os place at = refl
 

@@ -3,7 +3,8 @@ use Rattle.std.proofs.Common.{◌≡◌, ℕ, ◌+◌, ◌<◌, ◌≤◌, Bool,
 use Rattle.std.proofs.Math.ListN.{get_or}
 use Rattle.std.proofs.lemmas.List.{at_drop_more, at_drop_all}
 use Rattle.jsgen_model.specs.Items.{Items}
-use Rattle.jsgen_model.specs.Layout.{Pen, layout}
+use Rattle.jsgen_model.specs.Lay.{lay}
+use Rattle.jsgen_model.specs.Layout.{Pen}
 use Rattle.jsgen_printer.specs.Printer.{pen_of}
 use Rattle.jsgen_printer.specs.Steps.{has_failed}
 use Rattle.jsgen_printer.specs.declared.printer.Printer.{Printer}
@@ -18,10 +19,10 @@ pub none_left : {A : Type 0} (items : List A → Items) (xs : List A) (i : ℕ) 
 none_left items xs i h = at_drop_all items xs i h
 
 -- what is left, grouped otherwise
-left_where : {a b : Printer} {rest whole : Items} (rest' : Items) (failed : Bool) → has_failed b ≡ failed → ((pen : Pen) → layout rest pen ≡ layout rest' pen) → Towards a b rest whole → Towards a b rest' whole
+left_where : {a b : Printer} {rest whole : Items} (rest' : Items) (failed : Bool) → has_failed b ≡ failed → ((pen : Pen) → lay rest pen ≡ lay rest' pen) → Towards a b rest whole → Towards a b rest' whole
 unfolding pen_of
 left_where {a} {b} rest' false is e h = record { stays = h.stays; goes = λ going. rw is (let left = rw is at (h.goes going) in (left.0, sym (e (pen_of b)) ∙ left.1)) }
 left_where rest' true is e h = record { stays = h.stays; goes = λ going. rw is (rw is at (h.goes going)) }
 
-pub left_grouped : {a b : Printer} {rest whole : Items} (rest' : Items) → ((pen : Pen) → layout rest pen ≡ layout rest' pen) → Towards a b rest whole → Towards a b rest' whole
+pub left_grouped : {a b : Printer} {rest whole : Items} (rest' : Items) → ((pen : Pen) → lay rest pen ≡ lay rest' pen) → Towards a b rest whole → Towards a b rest' whole
 left_grouped {a} {b} rest' e h = left_where rest' (has_failed b) refl e h

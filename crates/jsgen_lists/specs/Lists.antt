@@ -3,7 +3,8 @@ use Rattle.std.specs.Prelude.{ℕ, Bool, Option, Some, None}
 use Rattle.jsgen_tree.specs.Tree.{Tree, Trees}
 use Rattle.jsgen_model.specs.Punctuator.{Brace, opening, closing}
 use Rattle.jsgen_model.specs.Items.{Items, nothing, ◌⊕◌, soft_line, indentation, drop_semicolon}
-use Rattle.jsgen_model.specs.Layout.{Pen, layout, written, other_end}
+use Rattle.jsgen_model.specs.Lay.{lay}
+use Rattle.jsgen_model.specs.Layout.{Pen, written, other_end}
 use Rattle.jsgen_model.specs.Spell.{spell, spell_elements, ends_in_hole, comma_if}
 use Rattle.jsgen_printer.specs.Printer.{deepened, at_depth}
 use Rattle.jsgen_place.specs.declared.place.Place.{Place}
@@ -19,7 +20,7 @@ all_elements lines ts place = spell_elements lines ts place ⊕ comma_if (ends_i
 
 -- the pen within braces, one level deeper, and behind them, at the level before
 abbrev pub braces_opened : Pen → Pen
-braces_opened pen = deepened (layout soft_line (written (opening Brace) other_end pen))
+braces_opened pen = deepened (lay soft_line (written (opening Brace) other_end pen))
 
 abbrev pub braces_closed : ℕ → Pen → Pen
-braces_closed depth pen = layout drop_semicolon (written (closing Brace) other_end (layout indentation (at_depth depth pen)))
+braces_closed depth pen = lay drop_semicolon (written (closing Brace) other_end (lay indentation (at_depth depth pen)))

@@ -5,3 +5,4 @@ pub mod NumberKinds
 pub mod NumberStates
 pub mod NumberMachine
 pub mod NumberRuns
+pub mod Offsets

@@ -1,5 +1,5 @@
 -- The text that items give, from a pen.
-use Rattle.std.specs.Prelude.{ℕ, suc, ◌*◌, List, [], ◌∷◌, ◌++◌, Bool, true, false, None, ◌&&◌, ◌||◌, ◌==◌, codes, replicate, if◌then◌else◌}
+use Rattle.std.specs.Prelude.{ℕ, suc, ◌*◌, List, [], ◌∷◌, ◌++◌, Bool, true, false, Option, None, ◌&&◌, ◌||◌, ◌==◌, codes, replicate, if◌then◌else◌}
 use Rattle.std.specs.List.{last_or}
 use Rattle.std.specs.Option.{option_map_or}
 use Rattle.jsgen_syntax.specs.Buffer.{indent_code}
@@ -15,9 +15,10 @@ use Rattle.jsgen_tree.specs.Job.{Tables}
 use Rattle.jsgen_tree.specs.Named.{Named, printed_name}
 use Rattle.jsgen_model.specs.Punctuator.{Punctuator, plus, plus_plus, minus, minus_minus, bang, equal_equal, equal_equal_equal, punctuator_text, Round, opening, closing}
 use Rattle.jsgen_model.specs.Items.{Items, TemplatePart, whole_part, head_part, middle_part, tail_part, nothing, ◌⊕◌, word, name, private_name, number, literal, regular_expression, template_part, string, first_string, directive, punctuator, operator, member_dot, soft_space, soft_line, hard_space, indentation, body_space, deeper, in_class, brackets, wrapped, wrapped_at_start, Opener, a_brace, a_declaration, parentheses_unless_minified, where_same, statement_end, due_semicolon, drop_semicolon, statement_begins, arrow_body_begins, default_export_begins, mark, end_mark, link_mark, marked_word, comments, orphans, annotation, unless_minified}
+use Rattle.jsgen_model.specs.Marks.{Mark}
 use Rattle.jsgen_model.specs.Private.{classes_within, printed_private}
 
--- what never changes: whether the text is minified and whether it is ASCII, the quote of pretty text and of directives, what a level of indentation is made of, and the tables by which names are printed
+-- what never changes: whether the text is minified and whether it is ASCII, the quote of pretty text and of directives, what a level of indentation is made of, the tables by which names are printed, and the bytes of the source, where a source map is wanted
 pub record Style : Type 0 where
   pub minified : Bool
   pub ascii : Bool
@@ -25,6 +26,7 @@ pub record Style : Type 0 where
   pub indent : ℕ
   pub width : ℕ
   pub tables : Tables
+  pub source : Option (List ℕ)
 
 -- what the code so far ends in, as far as it matters to what follows
 pub data Ending : Type 0 where
@@ -57,6 +59,8 @@ pub record Pen : Type 0 where
   pub classes : List ℕ
   -- the number of the next class whose body begins
   pub next_class : ℕ
+  -- the marks of a source map so far
+  pub marks : List Mark
 
 -- the code goes on with this text, which ends so
 abbrev pub written : List ℕ → Ending → Pen → Pen
@@ -270,7 +274,7 @@ layout drop_semicolon pen = with_semicolon false pen
 layout statement_begins pen = record pen { start = statement }
 layout arrow_body_begins pen = record pen { start = arrow_body }
 layout default_export_begins pen = record pen { start = default_export }
--- marks, comments and annotations aren't printed yet
+-- none of the text are marks, which `lay` has, and comments and annotations, which aren't printed yet
 layout (marked_word span w) pen = written (space_if (is_apart pen.ending pen.code) ++ w) other_end pen
 layout (mark span) pen = pen
 layout (end_mark span) pen = pen
@@ -281,7 +285,7 @@ layout (annotation test kind offset) pen = pen
 
 -- before anything is printed
 abbrev pub empty_pen : Style → ℕ → Pen
-empty_pen style depth = record { style = style; code = []; depth = depth; pending_space = false; pending_semicolon = false; ending = other_end; start = statement; classes = []; next_class = 0 }
+empty_pen style depth = record { style = style; code = []; depth = depth; pending_space = false; pending_semicolon = false; ending = other_end; start = statement; classes = []; next_class = 0; marks = [] }
 
 -- the style of these options and tables
 abbrev pub style_of : Options → Tables → Style
@@ -292,4 +296,5 @@ style_of options tables = record {
   indent = indent_code options.indent_char;
   width = options.indent_width;
   tables = tables;
+  source = None;
 }

@@ -1,7 +1,10 @@
 pub mod Punctuator
 pub mod Items
 pub mod Private
+pub mod Spans
+pub mod Marks
 pub mod Layout
+pub mod Lay
 pub mod Printing
 pub mod Quotes
 pub mod Spell

@@ -37,7 +37,8 @@ use Rattle.jsgen_model.specs.Punctuator.{ellipsis, comma, semicolon, equal, minu
 use Rattle.jsgen_model.specs.Quotes.{is_require_call, is_definition_call, is_key_of_exports, is_export_mark}
 use Rattle.jsgen_model.specs.Items.{Items, TemplatePart, whole_part, head_part, middle_part, tail_part, nothing, ◌⊕◌, word, name, private_name, number, template_part, with_key_annotation, string, first_string, directive, punctuator, operator, member_dot, brackets, soft_space, soft_line, hard_space, body_space, deeper, in_class, indentation, wrapped, wrapped_at_start, a_brace, a_declaration, parentheses_unless_minified, where_same, statement_end, due_semicolon, drop_semicolon, statement_begins, arrow_body_begins, unless_minified, literal, default_export_begins}
 use Rattle.jsgen_tree.specs.Nodes as tree
-use Rattle.jsgen_model.specs.Layout.{layout, empty_pen, style_of}
+use Rattle.jsgen_model.specs.Lay.{lay}
+use Rattle.jsgen_model.specs.Layout.{empty_pen, style_of}
 use Rattle.jsgen_model.specs.Operators.{operator_item, logical_item, unary_sign, behind_unary, update_item, assignment_item}
 -- generated from tools/nodes/table.txt: names
 use Rattle.jsgen_tree.specs.Values.{reg_exp_literal_pattern, reg_exp_literal_flags, yield_expression_delegate}
@@ -928,7 +929,7 @@ abbrev mutual
 
 -- the characters of the text of a job's program, whose first line is at the level that the options ask for
 abbrev pub printed : JobData → List ℕ
-printed job = (layout (spell job.program among_statements) (empty_pen (style_of job.options job.tables) job.options.initial_indent)).code
+printed job = (lay (spell job.program among_statements) (empty_pen (style_of job.options job.tables) job.options.initial_indent)).code
 
 -- and its bytes in UTF-8
 abbrev pub text_bytes : JobData → List ℕ

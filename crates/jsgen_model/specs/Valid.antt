@@ -1,7 +1,7 @@
 -- Validity: the rules that a tree breaks, each with the start of the node at which it is broken.
-use Rattle.std.specs.Prelude.{◌≡◌, ◌==◌, ℕ, suc, ◌+◌, ◌-◌, ◌*◌, max, List, [], ◌∷◌, ◌++◌, map, length, take, drop, slice_get, codes, Bool, true, false, not, ◌&&◌, ◌||◌, nat_lt, nat_le, Contains, is_some, Result, Ok, Err, if◌then◌else◌, Option, Some, None}
+use Rattle.std.specs.Prelude.{◌≡◌, ◌==◌, ℕ, suc, ◌+◌, ◌*◌, max, List, [], ◌∷◌, ◌++◌, length, slice_get, codes, Bool, true, false, not, ◌&&◌, ◌||◌, nat_lt, Contains, is_some, Result, Ok, Err, if◌then◌else◌, Option, Some, None}
 use Rattle.std.specs.Option.{option_map_or}
-use Rattle.std.specs.Str.{chars, encode_utf8_all}
+use Rattle.std.specs.Str.{encode_utf8_all}
 use Rattle.jsgen_syntax.specs.Name.{spells_name, is_free_name}
 use Rattle.jsgen_syntax.specs.Raw.{directive_value}
 use Rattle.jsgen_syntax.specs.declared.span.Span.{Span}
@@ -39,6 +39,7 @@ use Rattle.jsgen_model.specs.RegularExpressions.{is_body, are_flags}
 use Rattle.jsgen_model.specs.Templates.{is_raw, is_cooked}
 use Rattle.jsgen_model.specs.Tokens.{has_line_end}
 use Rattle.jsgen_model.specs.Private.{classes_within, printed_private}
+pub use Rattle.jsgen_model.specs.Spans.{begins_character, is_offset, spans_characters, text_at}
 use Rattle.jsgen_model.specs.Resolved.{after, after_maybe, after_trees, after_maybe_trees}
 use Rattle.jsgen_model.specs.declared.fault.TreeFault.{TreeFault}
 use Rattle.jsgen_model.specs.declared.fault.TreeFault.TheVariants as faults
@@ -126,18 +127,6 @@ fault_if true f = f ∷ []
 fault_if false f = []
 
 -- ---- what each rule asks
-
--- no byte within a character of UTF-8 (RFC 3629)
-abbrev pub begins_character : ℕ → Bool
-begins_character b = nat_lt b 128 || nat_le 192 b
-
--- an offset in these bytes: their end, or where a character begins
-abbrev pub is_offset : List ℕ → ℕ → Bool
-is_offset bytes i = (i == length bytes) || option_map_or begins_character (slice_get bytes i) false
-
--- the span begins and ends at offsets in these bytes
-abbrev pub spans_characters : List ℕ → Span → Bool
-spans_characters bytes s = is_offset bytes s.start && is_offset bytes s.end
 
 -- where it has to be, a span that isn't empty is one of the source
 abbrev pub is_off_source : Bool → List ℕ → Span → Bool
@@ -495,10 +484,6 @@ is_comment comments.HtmlOpen cs = begins_with (codes "<!--") (λ rest. not (has_
 is_comment comments.HtmlClose cs = begins_with (codes "-->") (λ rest. not (has_line_end rest)) cs
 is_comment comments.SingleLineBlock cs = begins_with (codes "/*") (λ rest. not (has_line_end rest) && ends_at_close rest) cs
 is_comment comments.MultiLineBlock cs = begins_with (codes "/*") (λ rest. has_line_end rest && ends_at_close rest) cs
-
--- the characters that a span has in these bytes
-abbrev pub text_at : List ℕ → Span → List ℕ
-text_at bytes s = chars (take (s.end - s.start) (drop s.start bytes))
 
 -- a comment is one of its kind in the source
 abbrev pub comment_faults : List ℕ → Span → CommentKind → List TreeFault

@@ -1,8 +1,9 @@
 -- What a step adds stands behind the code before.
 use Rattle.std.proofs.Common.{ℕ, Bool, true, false, ◌||◌, List, [], ◌∷◌, if◌then◌else◌}
 use Rattle.jsgen_model.specs.Punctuator.{Round, opening, closing}
-use Rattle.jsgen_model.specs.Items.{Items, ◌⊕◌, indentation, deeper, brackets, wrapped, wrapped_at_start, parentheses_unless_minified, where_same, statement_end, in_class, unless_minified}
-use Rattle.jsgen_model.specs.Layout.{Pen, layout, written, written_if, text_if, other_end, indented, indent_or_space, at_indentation, end_statement, deeper_level, entered, are_same, is_barred, not}
+use Rattle.jsgen_model.specs.Items.{Items, ◌⊕◌, name, marked_word, template_part, indentation, deeper, brackets, wrapped, wrapped_at_start, parentheses_unless_minified, where_same, statement_end, in_class, unless_minified}
+use Rattle.jsgen_model.specs.Lay.{lay, part_opening}
+use Rattle.jsgen_model.specs.Layout.{Pen, written, written_if, text_if, other_end, indented, indent_or_space, at_indentation, end_statement, deeper_level, entered, are_same, is_barred, not}
 use Rattle.jsgen_model.specs.Printing.{IsPrefix}
 use Rattle.jsgen_printer.proofs.Prefixes.{whole_prefix, prefix_append, more_prefix, prefix_of_prefix}
 
@@ -26,23 +27,26 @@ either_appends : (test : Bool) (code : List ℕ) (a b : Pen) → IsPrefix code a
 either_appends true code a b p q = p
 either_appends false code a b p q = q
 
-wrapped_appends : (test : Bool) (items : Items) (pen : Pen) → ((at : Pen) → IsPrefix at.code (layout items at).code) → IsPrefix pen.code (layout (wrapped test items) pen).code
+wrapped_appends : (test : Bool) (items : Items) (pen : Pen) → ((at : Pen) → IsPrefix at.code (lay items at).code) → IsPrefix pen.code (lay (wrapped test items) pen).code
 wrapped_appends test items pen inside = more_prefix (text_if test (closing Round)) (prefix_of_prefix (prefix_append pen.code (text_if test (opening Round))) (inside (written_if test (opening Round) pen)))
 
-pub layout_appends : (items : Items) (pen : Pen) → IsPrefix pen.code (layout items pen).code
-layout_appends (a ⊕ b) pen = prefix_of_prefix (layout_appends a pen) (layout_appends b (layout a pen))
+pub layout_appends : (items : Items) (pen : Pen) → IsPrefix pen.code (lay items pen).code
+layout_appends (a ⊕ b) pen = prefix_of_prefix (layout_appends a pen) (layout_appends b (lay a pen))
 layout_appends (deeper a) pen = layout_appends a (record pen { depth = deeper_level pen.style.minified pen.depth })
 layout_appends (in_class a) pen = layout_appends a (entered pen)
 layout_appends (brackets b a) pen = more_prefix (closing b) (prefix_of_prefix (prefix_append pen.code (opening b)) (layout_appends a (written (opening b) other_end pen)))
 layout_appends (wrapped test a) pen = wrapped_appends test a pen (λ at. layout_appends a at)
 layout_appends (wrapped_at_start test opener a) pen = wrapped_appends (test || is_barred opener pen.start) a pen (λ at. layout_appends a at)
 layout_appends (parentheses_unless_minified a) pen = wrapped_appends (not pen.style.minified) a pen (λ at. layout_appends a at)
-layout_appends (unless_minified a) pen = either_appends pen.style.minified pen.code pen (layout a pen) (whole_prefix pen.code) (layout_appends a pen)
-layout_appends (where_same m n a b) pen = either_appends (are_same pen.style.tables m n) pen.code (layout a pen) (layout b pen) (layout_appends a pen) (layout_appends b pen)
+layout_appends (unless_minified a) pen = either_appends pen.style.minified pen.code pen (lay a pen) (whole_prefix pen.code) (layout_appends a pen)
+layout_appends (where_same m n a b) pen = either_appends (are_same pen.style.tables m n) pen.code (lay a pen) (lay b pen) (layout_appends a pen) (layout_appends b pen)
+layout_appends (name span n) pen = more_prefix _ (prefix_append pen.code _)
+layout_appends (marked_word span w) pen = more_prefix w (prefix_append pen.code _)
+layout_appends (template_part part tagged span raw) pen = more_prefix _ (prefix_append pen.code (part_opening part))
 layout_appends indentation pen = indentation_appends pen.style.minified pen
 layout_appends statement_end pen = end_appends pen.style.minified pen
 layout_appends item pen = search (whole_prefix, prefix_append)
 
 -- what leads to the pen before leads to the pen behind the items
-pub layout_more : {a : List ℕ} (items : Items) (pen : Pen) → IsPrefix a pen.code → IsPrefix a (layout items pen).code
+pub layout_more : {a : List ℕ} (items : Items) (pen : Pen) → IsPrefix a pen.code → IsPrefix a (lay items pen).code
 layout_more items pen p = prefix_of_prefix p (layout_appends items pen)

@@ -15,7 +15,8 @@ use Rattle.jsgen_tree.specs.Characters.{characters}
 use Rattle.jsgen_tree.proofs.Texts.{same_characters}
 use Rattle.jsgen_model.specs.Items.{Items, ◌⊕◌, indentation, deeper, in_class, brackets, wrapped, wrapped_at_start, parentheses_unless_minified, unless_minified, where_same, statement_end}
 use Rattle.jsgen_model.specs.Punctuator.{Round, opening}
-use Rattle.jsgen_model.specs.Layout.{Pen, nowhere, layout, written, written_if, other_end, name_ending, with_private_name, entered, indented, indent_or_space, at_indentation, end_statement, deeper_level, are_same, is_barred, not}
+use Rattle.jsgen_model.specs.Lay.{lay}
+use Rattle.jsgen_model.specs.Layout.{Pen, nowhere, written, written_if, other_end, name_ending, with_private_name, entered, indented, indent_or_space, at_indentation, end_statement, deeper_level, are_same, is_barred, not}
 use Rattle.jsgen_model.specs.Private.{name_in, has_table}
 use Rattle.jsgen_printer.specs.Printer.{pen_of, name_written, within_outer}
 use Rattle.jsgen_printer.specs.Steps.{Goes, Lays}
@@ -63,16 +64,16 @@ either_keeps true classes a b p q = p
 either_keeps false classes a b p q = q
 
 -- behind items the classes round here are those before
-keeps_classes : (items : Items) (pen : Pen) → (layout items pen).classes ≡ pen.classes
-keeps_classes (a ⊕ b) pen = keeps_classes b (layout a pen) ∙ keeps_classes a pen
+keeps_classes : (items : Items) (pen : Pen) → (lay items pen).classes ≡ pen.classes
+keeps_classes (a ⊕ b) pen = keeps_classes b (lay a pen) ∙ keeps_classes a pen
 keeps_classes (deeper a) pen = keeps_classes a (record pen { depth = deeper_level pen.style.minified pen.depth })
 keeps_classes (in_class a) pen = refl
 keeps_classes (brackets b a) pen = keeps_classes a (written (opening b) other_end pen)
 keeps_classes (wrapped test a) pen = keeps_classes a (written_if test (opening Round) pen)
 keeps_classes (wrapped_at_start test opener a) pen = keeps_classes a (written_if (test || is_barred opener pen.start) (opening Round) pen)
 keeps_classes (parentheses_unless_minified a) pen = keeps_classes a (written_if (not pen.style.minified) (opening Round) pen)
-keeps_classes (where_same m n a b) pen = either_keeps (are_same pen.style.tables m n) pen.classes (layout a pen) (layout b pen) (keeps_classes a pen) (keeps_classes b pen)
-keeps_classes (unless_minified a) pen = either_keeps pen.style.minified pen.classes pen (layout a pen) refl (keeps_classes a pen)
+keeps_classes (where_same m n a b) pen = either_keeps (are_same pen.style.tables m n) pen.classes (lay a pen) (lay b pen) (keeps_classes a pen) (keeps_classes b pen)
+keeps_classes (unless_minified a) pen = either_keeps pen.style.minified pen.classes pen (lay a pen) refl (keeps_classes a pen)
 keeps_classes indentation pen = indentation_keeps pen.style.minified pen
 keeps_classes statement_end pen = end_keeps pen.style.minified pen
 keeps_classes item pen = refl
@@ -90,4 +91,4 @@ pub in_class_laid : {a b c d : Printer} {i : Items} (outer : ℕ) → outer ≡ 
 in_class_laid {a} {b} {c} {d} {i} outer e h inside k =
     let pen = pen_of a in
     let back = ap (λ cs. reverse (take outer (reverse cs))) (keeps_classes i (entered pen)) ∙ (ap (λ n. reverse (take n (reverse (entered pen).classes))) e ∙ round_it (has_table pen.style.tables pen.next_class) pen.next_class pen.classes) in
-    goes_laid (in_class i) (ap (λ cs. record (layout i (entered pen)) { classes = cs }) back) (goes_then (λ pen. layout_appends i (entered pen)) (λ pen. whole_prefix pen.code) (goes_then (λ pen. whole_prefix pen.code) (λ pen. layout_appends i pen) h (items_go inside)) k)
+    goes_laid (in_class i) (ap (λ cs. record (lay i (entered pen)) { classes = cs }) back) (goes_then (λ pen. layout_appends i (entered pen)) (λ pen. whole_prefix pen.code) (goes_then (λ pen. whole_prefix pen.code) (λ pen. layout_appends i pen) h (items_go inside)) k)

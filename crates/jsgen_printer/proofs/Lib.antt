@@ -4,11 +4,14 @@ pub mod Attempts
 pub mod Bangs
 pub mod Classes
 pub mod Handed
+pub mod Marked
 pub mod Numbers
 pub mod Operators
 mod Patterns
 mod Templates
 pub mod Prefixes
+pub mod Pushed
 pub mod Sequence
+pub mod Sources
 pub mod Texts
 pub mod Turns

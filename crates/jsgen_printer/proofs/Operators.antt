@@ -8,7 +8,8 @@ use Rattle.jsgen_syntax.specs.declared.operator.UnaryOperator.{UnaryOperator}
 use Rattle.jsgen_syntax.specs.declared.operator.UnaryOperator.TheVariants as unary_operators
 use Rattle.jsgen_syntax.specs.declared.operator.UpdateOperator.{UpdateOperator}
 use Rattle.jsgen_syntax.specs.declared.operator.UpdateOperator.TheVariants as update_operators
-use Rattle.jsgen_model.specs.Layout.{Pen, layout, written, space_if}
+use Rattle.jsgen_model.specs.Lay.{lay}
+use Rattle.jsgen_model.specs.Layout.{Pen, written, space_if}
 use Rattle.jsgen_model.specs.Operators.{operator_item, unary_sign, update_item}
 use Rattle.jsgen_printer.specs.Printer.{stands_apart, end_of, is_ascii}
 use Rattle.jsgen_printer.proofs.Texts.{ascii_chars}
@@ -18,7 +19,7 @@ operator_ascii operators.In = refl
 operator_ascii o = refl
 
 -- an operator is its text, apart where it has to be
-pub operator_written : (o : BinaryOperator) (pen : Pen) → layout (operator_item o) pen ≡ written (space_if (stands_apart (operator_item o) pen) ++ binary_text o) (end_of (operator_item o)) pen
+pub operator_written : (o : BinaryOperator) (pen : Pen) → lay (operator_item o) pen ≡ written (space_if (stands_apart (operator_item o) pen) ++ binary_text o) (end_of (operator_item o)) pen
 operator_written operators.In pen = refl
 operator_written o pen = refl
 
@@ -29,7 +30,7 @@ unary_ascii : (o : UnaryOperator) → is_ascii (unary_text o) ≡ true
 unary_ascii unary_operators.Typeof = refl
 unary_ascii o = refl
 
-pub unary_written : (o : UnaryOperator) (pen : Pen) → layout (unary_sign o) pen ≡ written (space_if (stands_apart (unary_sign o) pen) ++ unary_text o) (end_of (unary_sign o)) pen
+pub unary_written : (o : UnaryOperator) (pen : Pen) → lay (unary_sign o) pen ≡ written (space_if (stands_apart (unary_sign o) pen) ++ unary_text o) (end_of (unary_sign o)) pen
 unary_written unary_operators.Typeof pen = refl
 unary_written o pen = refl
 
@@ -40,7 +41,7 @@ update_ascii : (o : UpdateOperator) → is_ascii (update_text o) ≡ true
 update_ascii update_operators.Increment = refl
 update_ascii update_operators.Decrement = refl
 
-pub update_written : (o : UpdateOperator) (pen : Pen) → layout (update_item o) pen ≡ written (space_if (stands_apart (update_item o) pen) ++ update_text o) (end_of (update_item o)) pen
+pub update_written : (o : UpdateOperator) (pen : Pen) → lay (update_item o) pen ≡ written (space_if (stands_apart (update_item o) pen) ++ update_text o) (end_of (update_item o)) pen
 update_written update_operators.Increment pen = refl
 update_written update_operators.Decrement pen = refl
 

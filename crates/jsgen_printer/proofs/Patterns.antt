@@ -1,5 +1,5 @@
 -- Regular expressions behind what the code ends in.
-use Rattle.std.proofs.Common.{◌≡◌, ℕ, ◌-◌, ◌≤◌, Bool, true, false, ◌||◌, ◌&&◌, ◌==◌, Option, Some, None, List, [], ◌∷◌, ◌++◌, length, refl, ap, append_assoc, arith}
+use Rattle.std.proofs.Common.{◌≡◌, ℕ, ◌-◌, ◌≤◌, Bool, false, ◌==◌, Option, Some, None, List, [], ◌∷◌, ◌++◌, length, refl, append_assoc, arith}
 use Rattle.std.specs.List.{slice_get}
 use Rattle.std.specs.Option.{option_map, option_map_or}
 use Rattle.std.specs.Str.{chars, IsUtf8}
@@ -8,13 +8,15 @@ use Rattle.jsgen_syntax.proofs.Last.{last_passes}
 use Rattle.jsgen_syntax.specs.Raw.{pattern_text}
 use Rattle.jsgen_model.specs.Layout.{space_if, is_barred_before, joins_pattern, regular_expression_text}
 
-map_or : (f : ℕ → Bool) (o p : Option ℕ) → option_map f o ≡ option_map f p → option_map_or f o false ≡ option_map_or f p false
+-- a test of the last character, where there is one
+pub map_or : (f : ℕ → Bool) (o p : Option ℕ) → option_map f o ≡ option_map f p → option_map_or f o false ≡ option_map_or f p false
 map_or f None None h = refl
 map_or f (Some x) (Some y) h = cc
 map_or f None (Some y) h = cc
 map_or f (Some x) None h = cc
 
-no_sign : (c d : ℕ) → 128 ≤ c → d ≤ 127 → (c == d) ≡ false
+-- no sign of ASCII is past ASCII
+pub no_sign : (c d : ℕ) → 128 ≤ c → d ≤ 127 → (c == d) ≡ false
 no_sign c d h k = grind (arith, nat_tests)
 
 none_past_ascii : (pattern : List ℕ) (c : ℕ) → 128 ≤ c → is_barred_before pattern c ≡ false

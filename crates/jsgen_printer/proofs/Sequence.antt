@@ -4,7 +4,8 @@ use Rattle.std.proofs.lemmas.Bool.{both_ways}
 use Rattle.jsgen_tree.specs.Named.{Named}
 use Rattle.jsgen_model.specs.Punctuator.{Bracket, Round, opening, closing}
 use Rattle.jsgen_model.specs.Items.{Items, nothing, ◌⊕◌, brackets, wrapped, wrapped_at_start, Opener, parentheses_unless_minified, unless_minified, where_same, deeper}
-use Rattle.jsgen_model.specs.Layout.{Style, Pen, Ending, nowhere, layout, written, written_if, other_end, text_if, is_barred, not, are_same}
+use Rattle.jsgen_model.specs.Lay.{lay}
+use Rattle.jsgen_model.specs.Layout.{Style, Pen, Ending, nowhere, written, written_if, other_end, text_if, is_barred, not, are_same}
 use Rattle.jsgen_model.specs.Printing.{IsPrefix, Stops}
 use Rattle.jsgen_printer.specs.Printer.{pen_of, deepened, at_depth}
 use Rattle.jsgen_printer.specs.Steps.{has_failed, Ends, Goes, Lays}
@@ -45,10 +46,10 @@ goes_then {a} {b} {c} {f} {g} kept more h k = record {
 pub goes_as : {a b : Printer} {f : Pen → Pen} (g : Pen → Pen) → f (pen_of a) ≡ g (pen_of a) → Goes a b f → Goes a b g
 goes_as {a} {b} g e h = record { stays = h.stays; goes = λ going. subst (λ whole. Ends (has_failed b) (pen_of a) (pen_of b) whole) e (h.goes going) }
 
-pub goes_laid : {a b : Printer} {f : Pen → Pen} (i : Items) → f (pen_of a) ≡ layout i (pen_of a) → Goes a b f → Lays a b i
+pub goes_laid : {a b : Printer} {f : Pen → Pen} (i : Items) → f (pen_of a) ≡ lay i (pen_of a) → Goes a b f → Lays a b i
 goes_laid {a} {b} i e h = record { stays = h.stays; goes = λ going. subst (λ whole. Ends (has_failed b) (pen_of a) (pen_of b) whole) e (h.goes going) }
 
-pub items_go : {a b : Printer} {i : Items} → Lays a b i → Goes a b (λ pen. layout i pen)
+pub items_go : {a b : Printer} {i : Items} → Lays a b i → Goes a b (λ pen. lay i pen)
 items_go h = record { stays = h.stays; goes = h.goes }
 
 -- texts one after the other, which may depend on the style
@@ -61,11 +62,11 @@ pub ◌⨾◌ : {a b c : Printer} {i j : Items} → Lays a b i → Lays b c j �
 ◌⨾◌ {a} {b} {c} {i} {j} h k = goes_laid (i ⊕ j) refl (goes_then (λ pen. layout_appends i pen) (λ pen. layout_appends j pen) (items_go h) (items_go k))
 
 -- other items that give the same layout where the pen is
-pub laid_there : {a b : Printer} {i j : Items} → (has_failed a ≡ false → layout i (pen_of a) ≡ layout j (pen_of a)) → Lays a b i → Lays a b j
+pub laid_there : {a b : Printer} {i j : Items} → (has_failed a ≡ false → lay i (pen_of a) ≡ lay j (pen_of a)) → Lays a b i → Lays a b j
 laid_there {a} {b} e h = record { stays = h.stays; goes = λ going. subst (λ whole. Ends (has_failed b) (pen_of a) (pen_of b) whole) (e going) (h.goes going) }
 
 -- the same items, grouped otherwise
-pub regrouped : {a b : Printer} {i j : Items} → ((pen : Pen) → layout i pen ≡ layout j pen) → Lays a b i → Lays a b j
+pub regrouped : {a b : Printer} {i j : Items} → ((pen : Pen) → lay i pen ≡ lay j pen) → Lays a b i → Lays a b j
 regrouped {a} {b} e h = laid_there (λ going. e (pen_of a)) h
 
 -- no step
@@ -73,8 +74,8 @@ pub nothing_laid : (p : Printer) → Lays p p nothing
 nothing_laid p = record { stays = λ h. (h, refl); goes = λ going. rw going refl }
 
 -- items that the layout passes over
-pub passed_over : (p : Printer) (i : Items) → ((pen : Pen) → layout i pen ≡ pen) → Lays p p i
-passed_over p i e = record { stays = λ h. (h, refl); goes = λ going. subst (λ failed. Ends failed (pen_of p) (pen_of p) (layout i (pen_of p))) (sym going) (sym (e (pen_of p))) }
+pub passed_over : (p : Printer) (i : Items) → ((pen : Pen) → lay i pen ≡ pen) → Lays p p i
+passed_over p i e = record { stays = λ h. (h, refl); goes = λ going. subst (λ failed. Ends failed (pen_of p) (pen_of p) (lay i (pen_of p))) (sym going) (sym (e (pen_of p))) }
 
 -- ---- steps round others
 
@@ -86,26 +87,26 @@ wrapped_laid {a} {b} {c} {d} {i} test h inside k = goes_laid (wrapped test i) re
 
 -- in parentheses where the pen asks for them
 pub wrapped_at_start_laid : {a b c d : Printer} {i : Items} (own : Bool) (opener : Opener) (test : Bool) → test ≡ own || is_barred opener (pen_of a).start → Goes a b (written_if test (opening Round)) → Lays b c i → Goes c d (written_if test (closing Round)) → Lays a d (wrapped_at_start own opener i)
-wrapped_at_start_laid {a} {b} {c} {d} {i} own opener test e h inside k = laid_there (λ going. ap (λ b. layout (wrapped b i) (pen_of a)) e) (wrapped_laid test h inside k)
+wrapped_at_start_laid {a} {b} {c} {d} {i} own opener test e h inside k = laid_there (λ going. ap (λ b. lay (wrapped b i) (pen_of a)) e) (wrapped_laid test h inside k)
 
 pub unless_minified_laid : {a b c d : Printer} {i : Items} (test : Bool) → test ≡ not (pen_of a).style.minified → Goes a b (written_if test (opening Round)) → Lays b c i → Goes c d (written_if test (closing Round)) → Lays a d (parentheses_unless_minified i)
-unless_minified_laid {a} {b} {c} {d} {i} test e h inside k = laid_there (λ going. ap (λ b. layout (wrapped b i) (pen_of a)) e) (wrapped_laid test h inside k)
+unless_minified_laid {a} {b} {c} {d} {i} test e h inside k = laid_there (λ going. ap (λ b. lay (wrapped b i) (pen_of a)) e) (wrapped_laid test h inside k)
 
 -- in minified text nothing
-left_out_there : (minified : Bool) (i : Items) (pen : Pen) → layout (if minified then nothing else i) pen ≡ (if minified then pen else layout i pen)
+left_out_there : (minified : Bool) (i : Items) (pen : Pen) → lay (if minified then nothing else i) pen ≡ (if minified then pen else lay i pen)
 left_out_there true i pen = refl
 left_out_there false i pen = refl
 
 pub left_out_laid : {a b : Printer} (i : Items) (minified : Bool) → minified ≡ (pen_of a).style.minified → Lays a b (if minified then nothing else i) → Lays a b (unless_minified i)
-left_out_laid {a} i minified e h = laid_there (λ going. left_out_there minified i (pen_of a) ∙ ap (λ b. if b then pen_of a else layout i (pen_of a)) e) h
+left_out_laid {a} i minified e h = laid_there (λ going. left_out_there minified i (pen_of a) ∙ ap (λ b. if b then pen_of a else lay i (pen_of a)) e) h
 
 -- one of two, by how two names are printed
-same_there : (said : Bool) (i j : Items) (pen : Pen) → layout (if said then i else j) pen ≡ (if said then layout i pen else layout j pen)
+same_there : (said : Bool) (i j : Items) (pen : Pen) → lay (if said then i else j) pen ≡ (if said then lay i pen else lay j pen)
 same_there true i j pen = refl
 same_there false i j pen = refl
 
 pub where_same_laid : {a b : Printer} (m n : Named) (i j : Items) (said : Bool) → said ≡ are_same (pen_of a).style.tables m n → Lays a b (if said then i else j) → Lays a b (where_same m n i j)
-where_same_laid {a} m n i j said e h = laid_there (λ going. same_there said i j (pen_of a) ∙ ap (λ b. if b then layout i (pen_of a) else layout j (pen_of a)) e) h
+where_same_laid {a} m n i j said e h = laid_there (λ going. same_there said i j (pen_of a) ∙ ap (λ b. if b then lay i (pen_of a) else lay j (pen_of a)) e) h
 
 -- ---- where no step has failed
 
@@ -130,5 +131,5 @@ deeper_laid {a} {b} {c} {d} {i} depth level h inside k =
     let all = goes_then (λ pen. layout_appends i (deepened pen)) (λ pen. whole_prefix pen.code) (goes_then (λ pen. whole_prefix pen.code) (λ pen. layout_appends i pen) h (items_go inside)) k in
     record {
       stays = all.stays;
-      goes = λ going. at_level_before (has_failed d) depth (pen_of a).depth (pen_of a) (pen_of d) (layout i (deepened (pen_of a))) (λ whole. level (went_before (items_go inside) (went_before k whole))) (all.goes going);
+      goes = λ going. at_level_before (has_failed d) depth (pen_of a).depth (pen_of a) (pen_of d) (lay i (deepened (pen_of a))) (λ whole. level (went_before (items_go inside) (went_before k whole))) (all.goes going);
     }

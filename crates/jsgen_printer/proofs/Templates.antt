@@ -1,30 +1,25 @@
 -- A piece between what opens and what closes its part.
-use Rattle.std.proofs.Common.{◌≡◌, ℕ, List, ◌++◌, refl, ap, ◌∙◌}
+use Rattle.std.proofs.Common.{◌≡◌, ℕ, List, refl, ap, ◌∙◌}
 use Rattle.std.specs.Str.{chars}
-use Rattle.jsgen_model.specs.Layout.{part_text}
-use Rattle.jsgen_printer.specs.Printer.{part_of, opening_text, closing_text}
-use Rattle.jsgen_printer.specs.declared.printer.templates.TemplatePart.{TemplatePart}
-use Rattle.jsgen_printer.specs.declared.printer.templates.TemplatePart.TheVariants as parts
+use Rattle.jsgen_model.specs.Items.{TemplatePart, whole_part, head_part, middle_part, tail_part}
+use Rattle.jsgen_model.specs.Lay.{part_opening, part_closing}
 use Rattle.jsgen_printer.proofs.Texts.{ascii_chars}
 
-opening_characters : (part : TemplatePart) → chars (opening_text part) ≡ opening_text part
-opening_characters parts.Whole = ascii_chars (opening_text parts.Whole) refl
-opening_characters parts.Head = ascii_chars (opening_text parts.Head) refl
-opening_characters parts.Middle = ascii_chars (opening_text parts.Middle) refl
-opening_characters parts.Tail = ascii_chars (opening_text parts.Tail) refl
+-- what stands before a piece and behind it is ASCII
+opening_characters : (part : TemplatePart) → chars (part_opening part) ≡ part_opening part
+opening_characters whole_part = ascii_chars (part_opening whole_part) refl
+opening_characters head_part = ascii_chars (part_opening head_part) refl
+opening_characters middle_part = ascii_chars (part_opening middle_part) refl
+opening_characters tail_part = ascii_chars (part_opening tail_part) refl
 
-closing_characters : (part : TemplatePart) → chars (closing_text part) ≡ closing_text part
-closing_characters parts.Whole = ascii_chars (closing_text parts.Whole) refl
-closing_characters parts.Head = ascii_chars (closing_text parts.Head) refl
-closing_characters parts.Middle = ascii_chars (closing_text parts.Middle) refl
-closing_characters parts.Tail = ascii_chars (closing_text parts.Tail) refl
+closing_characters : (part : TemplatePart) → chars (part_closing part) ≡ part_closing part
+closing_characters whole_part = ascii_chars (part_closing whole_part) refl
+closing_characters head_part = ascii_chars (part_closing head_part) refl
+closing_characters middle_part = ascii_chars (part_closing middle_part) refl
+closing_characters tail_part = ascii_chars (part_closing tail_part) refl
 
-between : (part : TemplatePart) (raw : List ℕ) → opening_text part ++ (raw ++ closing_text part) ≡ part_text (part_of part) raw
-between parts.Whole raw = refl
-between parts.Head raw = refl
-between parts.Middle raw = refl
-between parts.Tail raw = refl
+pub opens_so : (part : TemplatePart) (text : List ℕ) → text ≡ part_opening part → chars text ≡ part_opening part
+opens_so part text e = ap chars e ∙ opening_characters part
 
-pub whole_part_text : (part : TemplatePart) (opens closes raw : List ℕ) → opens ≡ opening_text part → closes ≡ closing_text part → chars opens ++ (raw ++ chars closes) ≡ part_text (part_of part) raw
-whole_part_text part opens closes raw e f =
-    ap (λ text. text ++ (raw ++ chars closes)) (ap chars e ∙ opening_characters part) ∙ (ap (λ text. opening_text part ++ (raw ++ text)) (ap chars f ∙ closing_characters part) ∙ between part raw)
+pub closes_so : (part : TemplatePart) (text : List ℕ) → text ≡ part_closing part → chars text ≡ part_closing part
+closes_so part text e = ap chars e ∙ closing_characters part

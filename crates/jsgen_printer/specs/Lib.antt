@@ -1,3 +1,4 @@
 pub mod Context
+pub mod Marks
 pub mod Printer
 pub mod Steps

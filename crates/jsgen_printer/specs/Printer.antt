@@ -1,17 +1,20 @@
 -- What a printer stands for: a pen of the layout.
-use Rattle.std.specs.Prelude.{ℕ, List, [], ◌∷◌, Bool, false, nat_lt, take, reverse, codes}
+use Rattle.std.specs.Prelude.{ℕ, List, [], ◌∷◌, Bool, false, nat_lt, take, map, reverse, Option, Some, None}
 use Rattle.std.specs.List.{list_all}
 use Rattle.std.specs.Str.{chars}
 use Rattle.jsgen_syntax.specs.Buffer.{buffer_bytes, indent_byte, indent_width}
-use Rattle.jsgen_syntax.specs.Escapes.{name_text, has_escapes}
 use Rattle.jsgen_tree.specs.Job.{Tables}
 use Rattle.jsgen_tree.specs.Scoping.{tables_plain}
 use Rattle.jsgen_model.specs.Punctuator as punctuators
 use Rattle.jsgen_model.specs.Layout as layouts
-use Rattle.jsgen_model.specs.Layout.{Pen, written, is_apart, joins, name_ending, deeper_level}
+pub use Rattle.jsgen_model.specs.Lay.{name_written}
+use Rattle.jsgen_model.specs.Layout.{Pen, is_apart, joins, deeper_level}
 use Rattle.jsgen_model.specs.Items as items
 use Rattle.jsgen_model.specs.Items.{Items, word, operator}
 use Rattle.jsgen_model.specs.Operators.{operator_item, unary_sign, update_item}
+use Rattle.jsgen_model.specs.Marks as marks
+use Rattle.jsgen_printer.specs.Marks.{mark_plain}
+use Rattle.jsgen_printer.specs.declared.marks.Marks.{Marks}
 use Rattle.jsgen_printer.specs.declared.printer.Printer.{Printer}
 use Rattle.jsgen_printer.specs.declared.printer.Bracket.{Bracket}
 use Rattle.jsgen_printer.specs.declared.printer.Bracket.TheVariants as brackets
@@ -65,23 +68,19 @@ part_of parts.Head = items.head_part
 part_of parts.Middle = items.middle_part
 part_of parts.Tail = items.tail_part
 
--- what stands before the piece of a part, and behind it
-abbrev pub opening_text : TemplatePart → List ℕ
-opening_text parts.Whole = codes "`"
-opening_text parts.Head = codes "`"
-opening_text parts.Middle = codes "}"
-opening_text parts.Tail = codes "}"
+-- the marks so far, and the bytes of the source that they lead to; none of either where no source map is wanted
+abbrev pub marks_plain : Option Marks → List marks.Mark
+marks_plain None = []
+marks_plain (Some m) = map mark_plain m.list.items
 
-abbrev pub closing_text : TemplatePart → List ℕ
-closing_text parts.Whole = codes "`"
-closing_text parts.Head = codes "${"
-closing_text parts.Middle = codes "${"
-closing_text parts.Tail = codes "`"
+abbrev pub source_plain : Option Marks → Option (List ℕ)
+source_plain None = None
+source_plain (Some m) = Some m.source.now
 
 -- the pen, whose code is the characters of the buffer's bytes
 unfoldable pub pen_of : Printer → Pen
 pen_of p = record {
-  style = record { minified = p.minify; ascii = p.ascii_only; quote = p.quote; indent = indent_byte p.code; width = indent_width p.code; tables = tables_plain p.tables };
+  style = record { minified = p.minify; ascii = p.ascii_only; quote = p.quote; indent = indent_byte p.code; width = indent_width p.code; tables = tables_plain p.tables; source = source_plain p.marks };
   code = chars (buffer_bytes p.code);
   depth = p.depth;
   pending_space = p.pending_space;
@@ -90,15 +89,16 @@ pen_of p = record {
   start = start_of p.start;
   classes = reverse p.classes.items;
   next_class = p.next_class;
+  marks = marks_plain p.marks;
 }
 
 -- the same pen, by whose tables names are printed from here on
 abbrev pub by_tables : Tables → Pen → Pen
 by_tables tables pen = record pen { style = record pen.style { tables = tables } }
 
--- the pen behind a name that no space stands before
-abbrev pub name_written : List ℕ → Pen → Pen
-name_written w pen = written (name_text pen.style.ascii w) (name_ending (has_escapes pen.style.ascii w)) pen
+-- the same pen, behind whose marks others may follow
+abbrev pub by_marks : Marks → Pen → Pen
+by_marks m pen = record pen { style = record pen.style { source = Some m.source.now }; marks = map mark_plain m.list.items }
 
 -- the pen behind a text that was handed in; an empty one leaves what the code ends in as it is
 abbrev pub unless_empty : List ℕ → Pen → Pen → Pen

@@ -1,7 +1,8 @@
 -- What a step of printing does: it goes on by some items, or memory runs out, and from then on nothing is added.
 use Rattle.std.specs.Prelude.{◌≡◌, Bool, true, false}
 use Rattle.jsgen_model.specs.Items.{Items}
-use Rattle.jsgen_model.specs.Layout.{Pen, layout}
+use Rattle.jsgen_model.specs.Lay.{lay}
+use Rattle.jsgen_model.specs.Layout.{Pen}
 use Rattle.jsgen_model.specs.Printing.{Stops}
 use Rattle.jsgen_printer.specs.Printer.{pen_of}
 use Rattle.jsgen_printer.specs.declared.printer.Printer.{Printer}
@@ -23,4 +24,4 @@ pub record Goes (old new : Printer) (f : Pen → Pen) : Type 0 where
 -- a step that lays out items
 pub record Lays (old new : Printer) (items : Items) : Type 0 where
   pub stays : has_failed old ≡ true → (has_failed new ≡ true) × ((pen_of new).code ≡ (pen_of old).code)
-  pub goes : has_failed old ≡ false → Ends (has_failed new) (pen_of old) (pen_of new) (layout items (pen_of old))
+  pub goes : has_failed old ≡ false → Ends (has_failed new) (pen_of old) (pen_of new) (lay items (pen_of old))

@@ -4,10 +4,13 @@
 
 mod context;
 mod laws;
+mod marks;
 mod operator;
 mod printer;
+mod same;
 
 pub use context::Context;
 pub use laws::a_flag_that_is_unset_leaves_the_others;
+pub use marks::{Mark, Marks};
 pub use operator::Operator;
 pub use printer::{Bracket, Ending, Printer, Start, TemplatePart};

@@ -6,6 +6,7 @@ ghost use Rattle.jsgen_syntax.specs.Name.{goes_in_word};
 ghost use Rattle.jsgen_syntax.specs.declared.quote.Quote.TheVariants.{Single, Double};
 ghost use Rattle.jsgen_model.specs.Layout.{but_backticks};
 
+use crate::marks::Marks;
 use crate::operator::Operator;
 
 mod classes;
@@ -76,6 +77,8 @@ pub struct Printer<'a> {
     // the numbers of the classes round here that have a table of private names, the outermost first
     classes: Vec<usize>,
     next_class: usize,
+    // where a source map is wanted
+    marks: Option<Marks<'a>>,
     has_failed: bool,
     ghost indents: { width ≡ indent_width code },
 }
@@ -86,7 +89,8 @@ impl<'a> Printer<'a> {
     ghost use Rattle.std.specs.Str.{chars, encode_utf8_all};
     ghost use Rattle.jsgen_model.specs.Punctuator.{Round, opening, closing, ellipsis, comma, semicolon, equal, plus, minus, equal_equal, equal_equal_equal, plus_plus, minus_minus, colon, question, question_dot, arrow, star};
     ghost use Rattle.jsgen_model.specs.Items.{word, string, first_string, directive, member_dot, punctuator, soft_space, soft_line, hard_space, indentation, body_space, statement_end, due_semicolon, drop_semicolon, statement_begins, arrow_body_begins, a_brace, a_declaration, literal, default_export_begins};
-    ghost use Rattle.jsgen_model.specs.Layout.{layout, written, written_if, other_end, space_if, ends_in_word, ends_in_escapes, is_apart, name_ending, joins, dot_joins, indented, ends_in_less_bang, chosen_quote, deeper_level, empty_pen, style_of, is_barred};
+    ghost use Rattle.jsgen_model.specs.Lay.{lay};
+    ghost use Rattle.jsgen_model.specs.Layout.{written, written_if, other_end, space_if, ends_in_word, ends_in_escapes, is_apart, name_ending, joins, dot_joins, indented, ends_in_less_bang, chosen_quote, deeper_level, empty_pen, style_of, is_barred};
     ghost use Rattle.jsgen_syntax.specs.Buffer.{indent_byte};
     ghost use Rattle.jsgen_tree.specs.Options.{options_plain};
     ghost use Rattle.jsgen_tree.specs.Job.{no_tables};
@@ -118,6 +122,7 @@ impl<'a> Printer<'a> {
             start: Start::Statement,
             classes: Vec::new(alloc),
             next_class: 0,
+            marks: None,
             has_failed: false,
         }
     }

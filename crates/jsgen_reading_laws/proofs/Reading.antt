@@ -11,14 +11,16 @@ use Rattle.jsgen_tree.specs.Job.{Tables, JobData}
 use Rattle.jsgen_tree.specs.Tree.{Tree, absent, no_trees, type_of}
 use Rattle.jsgen_tree.specs.Nodes as tree
 use Rattle.jsgen_model.specs.Tokens.{◌⧺◌}
+use Rattle.jsgen_place.specs.Place.{among_statements}
 use Rattle.jsgen_model.specs.Items.{◌⊕◌, due_semicolon}
 use Rattle.jsgen_model.specs.Layout.{Pen, layout, empty_pen, style_of}
 use Rattle.jsgen_model.specs.Grammar as grammar
 use Rattle.jsgen_model.specs.Normal.{nothing_of}
-use Rattle.jsgen_model.specs.Spell.{spell_body, spell_directives, printed, text_bytes}
+use Rattle.jsgen_model.specs.Spell.{spell, spell_body, spell_directives, printed, text_bytes}
 use Rattle.jsgen_model.specs.Valid.{IsValid, surroundings_of}
 use Rattle.jsgen_model.specs.Plain.{IsPlain, IsQuiet}
 use Rattle.jsgen_model.specs.Reading.{IsReadAs}
+use Rattle.jsgen_mark_laws.proofs.Quiet.{same_text}
 use Rattle.jsgen_token_laws.proofs.Last.{Open, is_indent}
 use Rattle.jsgen_token_laws.proofs.Writes.{wrote_both, all_tokens}
 use Rattle.jsgen_token_laws.proofs.Plain.{all_plain}
@@ -40,7 +42,11 @@ style_indents options tables = by options.indent_char
 
 -- ---- the whole
 
-read_as : (options : Options) (tables : Tables) (t : Tree) → IsProgram tables t → let job : JobData = record { options = options; tables = tables; program = t } in IsReadAs (printed job) job
+-- the text without its marks
+abbrev quiet_text : JobData → List ℕ
+quiet_text job = (layout (spell job.program among_statements) (empty_pen (style_of job.options job.tables) job.options.initial_indent)).code
+
+read_as : (options : Options) (tables : Tables) (t : Tree) → IsProgram tables t → let job : JobData = record { options = options; tables = tables; program = t } in IsReadAs (quiet_text job) job
 read_as options tables t (family.a_program {a} {comments} {directives} {body} v w) =
     let p : Pen = empty_pen (style_of options tables) options.initial_indent in
     let q : Pen = layout (spell_directives directives ⊕ spell_body body) p in
@@ -56,7 +62,9 @@ read_as options tables t (family.a_program {a} {comments} {directives} {body} v 
     }
 
 pub printed_is_read : (job : JobData) → type_of job.program ≡ types.Program → IsValid job → IsPlain job.program → IsQuiet job → IsReadAs (printed job) job
-printed_is_read job s v p q = read_as job.options job.tables job.program (program_valid 0 (surroundings_of job) refl job.program p (ap is_program s) v)
+printed_is_read job s v p q =
+    let same = same_text (spell job.program among_statements) (empty_pen (style_of job.options job.tables) job.options.initial_indent) in
+    subst (λ text. IsReadAs text job) (sym same) (read_as job.options job.tables job.program (program_valid 0 (surroundings_of job) refl job.program p (ap is_program s) v))
 
 -- the bytes spell the characters that they were made of
 on_bytes : (text : List ℕ) (job : JobData) → IsReadAs text job → IsReadAs (chars (encode_utf8_all text)) job

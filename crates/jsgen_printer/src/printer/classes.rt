@@ -58,8 +58,8 @@ impl Printer<'_> {
     pub fn print_private_name(&mut self, span: Span, name: &str)
         ensures { Lays self.old self.new (private_name span (chars name.now)) }
     {
-        let _ = span;
         let printed = printed_name(self.tables, &self.classes, name);
+        self.print_private_mark(span, printed);
         self.print_str("#", Ending::Other);
         self.print_bare_name(printed);
     }

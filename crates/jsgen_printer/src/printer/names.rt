@@ -1,13 +1,15 @@
 // Names: as they are written, or by the tables.
-ghost use Rattle.std.specs.Prelude.{◌≡◌, bytes_eq};
+ghost use Rattle.std.specs.Prelude.{◌≡◌};
 ghost use Rattle.std.specs.Str.{chars};
 ghost use Rattle.jsgen_tree.specs.Named.{as_written, looked_up, bound, printed_name};
 ghost use Rattle.jsgen_model.specs.Items.{name};
-ghost use Rattle.jsgen_model.specs.Layout.{layout, with_name, are_same};
+ghost use Rattle.jsgen_model.specs.Lay.{name_written, name_mark, spaced};
+ghost use Rattle.jsgen_model.specs.Layout.{are_same};
 ghost use Rattle.jsgen_printer.specs.Printer.{pen_of};
 ghost use Rattle.jsgen_printer.specs.Steps.{Goes, Lays};
 
 use super::Printer;
+use crate::same::is_same;
 use jsgen_syntax::Span;
 
 #[tactic(auto, unfolding(crate::specs::Printer::pen_of))]
@@ -16,26 +18,23 @@ impl Printer<'_> {
     pub fn print_name(&mut self, span: Span, text: &str)
         ensures { Lays self.old self.new (name span (as_written (chars text.now))) }
     {
-        let _ = span;
-        self.print_name_apart(text);
+        self.print_name_apart(span, text);
     }
 
     /// A name that is looked up, by the number of its reference.
     pub fn print_reference(&mut self, span: Span, text: &str, reference: Option<u32>)
         ensures { Lays self.old self.new (name span (looked_up reference (chars text.now))) }
     {
-        let _ = span;
         let printed = self.tables.reference_name(reference, text);
-        self.print_name_apart(printed);
+        self.print_name_apart(span, printed);
     }
 
     /// A name that is bound, by the number of its symbol.
     pub fn print_binding(&mut self, span: Span, text: &str, symbol: Option<u32>)
         ensures { Lays self.old self.new (name span (bound symbol (chars text.now))) }
     {
-        let _ = span;
         let printed = self.tables.binding_name(symbol, text);
-        self.print_name_apart(printed);
+        self.print_name_apart(span, printed);
     }
 
     /// Whether a name that is looked up is printed as this one is written.
@@ -66,18 +65,13 @@ impl Printer<'_> {
         self.tables.binding_name(symbol, text)
     }
 
-    // A name, apart from a word that the code ends in.
-    fn print_name_apart(&mut self, text: &str)
-        ensures { Goes self.old self.new (with_name (chars text.now)) }
+    // A name as it is printed, apart from a word that the code ends in, with the mark of its span.
+    fn print_name_apart(&mut self, span: Span, text: &str)
+        ensures { Goes self.old self.new (λ pen. name_written (chars text.now) (name_mark span (chars text.now) (spaced pen))) }
     {
         let apart = self.is_apart();
         self.print_if(apart, " ");
+        self.print_name_mark(span, text);
         self.print_bare_name(text);
     }
-}
-
-fn is_same(a: &str, b: &str) -> bool
-    ensures { result ≡ bytes_eq (chars a.now) (chars b.now) }
-{
-    a == b
 }

@@ -3,7 +3,8 @@ ghost use Rattle.std.specs.Prelude.{◌≡◌, ◌++◌, codes, decimal, true, f
 ghost use Rattle.std.specs.Str.{chars};
 ghost use Rattle.jsgen_model.specs.Punctuator.{minus};
 ghost use Rattle.jsgen_model.specs.Items.{◌⊕◌, number, operator, wrapped};
-ghost use Rattle.jsgen_model.specs.Layout.{layout, number_ending};
+ghost use Rattle.jsgen_model.specs.Lay.{lay};
+ghost use Rattle.jsgen_model.specs.Layout.{number_ending};
 ghost use Rattle.jsgen_model.specs.Spell.{big_text};
 ghost use Rattle.jsgen_printer.specs.Printer.{ending_of};
 ghost use Rattle.jsgen_printer.specs.Steps.{Lays};

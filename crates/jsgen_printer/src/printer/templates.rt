@@ -3,8 +3,9 @@ ghost use Rattle.std.specs.Prelude.{◌≡◌, codes};
 ghost use Rattle.std.specs.Str.{chars};
 ghost use Rattle.jsgen_syntax.specs.Raw.{template_text};
 ghost use Rattle.jsgen_model.specs.Items.{template_part};
+ghost use Rattle.jsgen_model.specs.Lay.{part_opening, part_closing, piece_mark};
 ghost use Rattle.jsgen_model.specs.Layout.{written, other_end};
-ghost use Rattle.jsgen_printer.specs.Printer.{part_of, opening_text, closing_text};
+ghost use Rattle.jsgen_printer.specs.Printer.{part_of};
 ghost use Rattle.jsgen_printer.specs.Steps.{Goes, Lays};
 
 use super::{Ending, Printer, Start};
@@ -26,7 +27,7 @@ pub enum TemplatePart {
 
 impl TemplatePart {
     fn opening(self) -> &'static str
-        ensures { result.now ≡ opening_text self }
+        ensures { result.now ≡ part_opening (part_of self) }
     {
         match self {
             TemplatePart::Whole | TemplatePart::Head => "`",
@@ -35,7 +36,7 @@ impl TemplatePart {
     }
 
     fn closing(self) -> &'static str
-        ensures { result.now ≡ closing_text self }
+        ensures { result.now ≡ part_closing (part_of self) }
     {
         match self {
             TemplatePart::Whole | TemplatePart::Tail => "`",
@@ -51,10 +52,20 @@ impl Printer<'_> {
     pub fn print_template_part(&mut self, part: TemplatePart, tagged: bool, span: Span, raw: &str)
         ensures { Lays self.old self.new (template_part (part_of part) tagged span (chars raw.now)) }
     {
-        let _ = span;
         self.print_str(part.opening(), Ending::Other);
+        self.print_piece_mark(part, span);
         self.print_piece(tagged, raw);
         self.print_str(part.closing(), Ending::Other);
+    }
+
+    // The mark of a piece, where a brace stands before it.
+    fn print_piece_mark(&mut self, part: TemplatePart, span: Span)
+        ensures { Goes self.old self.new (piece_mark (part_of part) span) }
+    {
+        match part {
+            TemplatePart::Whole | TemplatePart::Head => {}
+            TemplatePart::Middle | TemplatePart::Tail => self.print_mark(span),
+        }
     }
 
     // The code goes on with the raw text of a piece.

@@ -7,4 +7,4 @@ pub returns-in-Class : goal.returns-in-Class
 returns-in-Class g c = rw c.in-Class.is (rw c.deref-in-Class.ensures at c.print_exported_class.ensures)
 
 pub returns-in-Expression : goal.returns-in-Expression
-returns-in-Expression g c = rw c.in-Expression.is (rw c.get.ensures at c.print_exported_expression.ensures)
+returns-in-Expression g c = rw c.in-Expression.is (rw c.deref-in-Expression.ensures at (rw c.get.ensures at c.print_exported_expression.ensures))

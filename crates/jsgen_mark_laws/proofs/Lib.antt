@@ -1,0 +1,5 @@
+pub mod Sizes
+pub mod Marks
+pub mod Steps
+pub mod Names
+pub mod Quiet

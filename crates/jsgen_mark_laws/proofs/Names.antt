@@ -1,0 +1,160 @@
+-- Marks stand in order, and names where their marks are, for all items.
+use Rattle.std.proofs.Common.{◌≡◌, ℕ, ◌+◌, ◌≤◌, Bool, true, false, not, ◌||◌, List, [], ◌∷◌, ◌++◌, Option, Some, None, is_some, refl, ap, sym, subst, ◌∙◌, arith, append_assoc, append-nil, if◌then◌else◌}
+use Rattle.std.proofs.lemmas.Bool.{both_ways}
+use Rattle.jsgen_syntax.specs.Escapes.{name_text}
+use Rattle.jsgen_syntax.specs.declared.span.Span.{Span}
+use Rattle.jsgen_tree.specs.Named.{printed_name}
+use Rattle.jsgen_model.specs.Punctuator.{Round, opening, closing}
+use Rattle.jsgen_model.specs.Items.{Items, ◌⊕◌, name, private_name, deeper, in_class, brackets, wrapped, wrapped_at_start, parentheses_unless_minified, unless_minified, where_same}
+use Rattle.jsgen_model.specs.Marks.{Mark, size, is_empty, last_from, last_offset, is_last, unless_last, has_start_mark, other_name_in}
+use Rattle.jsgen_model.specs.Layout as layouts
+use Rattle.jsgen_model.specs.Layout.{Pen, other_end, written, written_if, is_barred, deeper_level, entered, are_same}
+use Rattle.jsgen_model.specs.Lay.{lay, marked_if, name_mark, spaced}
+use Rattle.jsgen_model.specs.Private.{printed_private}
+use Rattle.jsgen_mark_laws.specs.Law.{Adds, Ordered, Parted, Right}
+use Rattle.jsgen_mark_laws.specs.Names.{Printed, names_of, printed_at, last_before, StandsAt, Stand}
+use Rattle.jsgen_mark_laws.proofs.Sizes.{size_append, size_some, longer}
+use Rattle.jsgen_mark_laws.proofs.Marks.{ordered_append, parted_append, was_last, before_longer, before_end, last_is}
+use Rattle.jsgen_mark_laws.proofs.Steps.{lay_steps, same, spaced_step, written_step, written_if_step}
+
+pub right_behind : {p q : Pen} → Adds p q → Right p → Right q
+right_behind {p} {q} s r = record {
+  ordered = subst (λ ms. Ordered 0 ms (size q.code)) (sym s.marks) (ordered_append p.marks s.more 0 (size p.code) (size q.code) r.ordered s.ordered);
+  parted = subst (λ ms. Parted None ms) (sym s.marks) (parted_append None p.marks s.more r.parted s.parted);
+}
+
+pub marks_are_right : (items : Items) (p : Pen) → Right p → Right (lay items p)
+marks_are_right items p r = right_behind (lay_steps items p) r
+
+-- ---- names that stand stay where they are
+
+stand_from : (code : List ℕ) (marks : List Mark) (a b : ℕ) (ns : List Printed) → a ≤ b → Stand code marks b ns → Stand code marks a ns
+stand_from code marks a b [] h k = omega (arith, h, k)
+stand_from code marks a b (n ∷ ns) h k = (record { before = k.0.before; rest = k.0.rest; is = k.0.is; behind = omega (arith, h, k.0.behind); some = k.0.some; own = k.0.own; last = k.0.last; its = k.0.its }, k.1)
+
+at_longer : {p q : Pen} (s : Adds p q) (least : ℕ) (n : Printed) → (a : StandsAt p.code p.marks least n) → StandsAt q.code q.marks least n
+at_longer {p} {q} s least n a = record {
+  before = a.before;
+  rest = a.rest ++ s.text;
+  is = s.code ∙ (ap (λ x. x ++ s.text) a.is ∙ (append_assoc a.before (n.text ++ a.rest) s.text ∙ ap (λ x. a.before ++ x) (append_assoc n.text a.rest s.text)));
+  behind = a.behind;
+  some = a.some;
+  own = a.own;
+  last = ap (λ ms. last_before (size a.before) ms) s.marks ∙ (before_longer (size a.before) p.marks s.more (size p.code) (size q.code) s.ordered (omega (arith, ap size a.is, size_append a.before (n.text ++ a.rest), size_append n.text a.rest, a.some)) ∙ a.last);
+  its = a.its;
+}
+
+stand_longer : {p q : Pen} (s : Adds p q) (least : ℕ) (ns : List Printed) → Stand p.code p.marks least ns → Stand q.code q.marks least ns
+unfolding at_longer
+stand_longer {p} {q} s least [] h = omega (arith, h, longer p.code q.code s.text s.code)
+stand_longer {p} {q} s least (n ∷ ns) h = (at_longer s least n h.0, stand_longer s (size h.0.before + size n.text) ns h.1)
+
+stand_then : {p q : Pen} (s : Adds p q) (least : ℕ) (ms ns : List Printed) → Stand p.code p.marks least ms → Stand q.code q.marks (size p.code) ns → Stand q.code q.marks least (ms ++ ns)
+unfolding at_longer
+stand_then {p} {q} s least [] ns h k = stand_from q.code q.marks least (size p.code) ns h k
+stand_then {p} {q} s least (m ∷ ms) ns h k = (at_longer s least m h.0, stand_then s (size h.0.before + size m.text) ms ns h.1 k)
+
+-- names, with steps round them that print none
+stand_round : {p a b q : Pen} (ns : List Printed) → Adds p a → Stand b.code b.marks (size a.code) ns → Adds b q → Stand q.code q.marks (size p.code) ns
+stand_round {p} {a} {b} {q} ns s h t = stand_from q.code q.marks (size p.code) (size a.code) ns (longer p.code a.code s.text s.code) (stand_longer t (size a.code) ns h)
+
+-- ---- the mark of a name
+
+last_own : (ms : List Mark) (n o : ℕ) → Ordered 0 ms n → last_from None ms ≡ Some o → (m : Mark) × (last_before n ms ≡ Some m) × (m.offset ≡ o)
+last_own [] n o h e = absurd (both_ways false refl (ap is_some e))
+last_own (m ∷ ms) n o h e = last_is n o m ms 0 n h (omega arith) e
+
+marked_own : (o : ℕ) (called : Option (List ℕ)) (p : Pen) → Right p → (m : Mark) × (last_before (size p.code) (marked_if true o called p).marks ≡ Some m) × (m.offset ≡ o)
+marked_own o called p r = go (is_last (last_offset p.marks) o) refl
+  where
+    m : Mark
+    m = record { bytes = size p.code; offset = o; name = called }
+
+    go : (b : Bool) → is_last (last_offset p.marks) o ≡ b → (k : Mark) × (last_before (size p.code) (unless_last b m p.marks) ≡ Some k) × (k.offset ≡ o)
+    go true e = last_own p.marks (size p.code) o r.ordered (was_last (last_offset p.marks) o e)
+    go false e = (m, before_end (size p.code) p.marks m (omega arith), refl)
+
+-- a name has a mark where the source is there and its span isn't empty
+has_mark : (source : Option (List ℕ)) (src : List ℕ) (span : Span) → source ≡ Some src → is_empty span ≡ false → true ≡ has_start_mark source span
+has_mark None src span e f = absurd (both_ways false refl (ap is_some e))
+has_mark (Some s) src span e f = ap (λ b. not b) (sym f)
+
+name_own : (src : List ℕ) (span : Span) (w : List ℕ) (p : Pen) → p.style.source ≡ Some src → is_empty span ≡ false → Right p → (m : Mark) × (last_before (size p.code) (name_mark span w p).marks ≡ Some m) × (m.offset ≡ span.start)
+name_own src span w p e f r = subst (λ b. (m : Mark) × (last_before (size p.code) (marked_if b span.start (other_name_in p.style.source span w) p).marks ≡ Some m) × (m.offset ≡ span.start)) (has_mark p.style.source src span e f) (marked_own span.start (other_name_in p.style.source span w) p r)
+
+-- ---- for all items
+
+no_name : (items : Items) (p : Pen) → size p.code ≤ size (lay items p).code
+no_name items p = let s = lay_steps items p in longer p.code (lay items p).code s.text s.code
+
+-- a name behind the code of a pen, whose mark stands there
+stands : (span : Span) (w text : List ℕ) (p at q : Pen) (src : List ℕ) → size p.code ≤ size at.code → at.style.source ≡ Some src → Right at → q.code ≡ at.code ++ text → q.marks ≡ (name_mark span w at).marks → Stand q.code q.marks (size p.code) (printed_at (is_empty span) span text)
+stands span w text p at q src grown e r code marks = go (is_empty span) refl text refl
+  where
+    whole : size q.code ≡ size at.code + size text
+    whole = ap size code ∙ size_append at.code text
+
+    go : (b : Bool) → is_empty span ≡ b → (v : List ℕ) → text ≡ v → Stand q.code q.marks (size p.code) (printed_at b span v)
+    go true f v g = omega (arith, grown, whole)
+    go false f [] g = omega (arith, grown, whole)
+    go false f (c ∷ cs) g =
+        let own = name_own src span w at e f r in (
+          record {
+            before = at.code;
+            rest = [];
+            is = code ∙ (ap (λ x. at.code ++ x) g ∙ ap (λ x. at.code ++ x) (sym (append-nil (c ∷ cs))));
+            behind = grown;
+            some = size_some c cs;
+            own = own.0;
+            last = ap (λ ms. last_before (size at.code) ms) marks ∙ own.1;
+            its = own.2;
+          },
+          omega (arith, whole, ap size g),
+        )
+
+either_stand : (t : Bool) (p a b : Pen) (ms ns : List Printed) → Stand a.code a.marks (size p.code) ms → Stand b.code b.marks (size p.code) ns → Stand (if t then a else b).code (if t then a else b).marks (size p.code) (if t then ms else ns)
+either_stand true p a b ms ns h k = h
+either_stand false p a b ms ns h k = k
+
+source_behind : {p q : Pen} (src : List ℕ) → Adds p q → p.style.source ≡ Some src → q.style.source ≡ Some src
+source_behind src s e = ap (λ st. st.source) s.style ∙ e
+
+abbrev Stands : Items → Pen → Type 0
+Stands items p = (src : List ℕ) → p.style.source ≡ Some src → Right p → Stand (lay items p).code (lay items p).marks (size p.code) (names_of items p)
+
+in_parentheses : (test : Bool) (items : Items) (p : Pen) → Stands items (written_if test (opening Round) p) → Stands (wrapped test items) p
+in_parentheses test items p inside = λ src e r.
+    let p1 : Pen = written_if test (opening Round) p in
+    let s = written_if_step test (opening Round) p in
+    stand_round (names_of items p1) s (inside src (source_behind src s e) (right_behind s r)) (written_if_step test (closing Round) (lay items p1))
+
+pub names_stand : (items : Items) (p : Pen) → Stands items p
+names_stand (a ⊕ b) p = λ src e r.
+    let s = lay_steps a p in
+    stand_then (lay_steps b (lay a p)) (size p.code) (names_of a p) (names_of b (lay a p)) (names_stand a p src e r) (names_stand b (lay a p) src (source_behind src s e) (right_behind s r))
+names_stand (name span n) p = λ src e r.
+    let w = printed_name p.style.tables n in
+    stands span w (name_text p.style.ascii w) p (spaced p) (lay (name span n) p) src (longer p.code (spaced p).code _ refl) e (right_behind (spaced_step p) r) refl refl
+names_stand (private_name span w) p = λ src e r.
+    let own = printed_private p.style.tables p.classes w in
+    stands span (35 ∷ own) (35 ∷ name_text p.style.ascii own) p p (lay (private_name span w) p) src (omega arith) e r refl refl
+names_stand (deeper items) p = λ src e r.
+    let p1 : Pen = record p { depth = deeper_level p.style.minified p.depth } in
+    let q : Pen = lay items p1 in
+    let s = same p p1 refl refl refl in
+    stand_round (names_of items p1) s (names_stand items p1 src (source_behind src s e) (right_behind s r)) (same q (record q { depth = p.depth }) refl refl refl)
+names_stand (in_class items) p = λ src e r.
+    let p1 : Pen = entered p in
+    let q : Pen = lay items p1 in
+    let s = same p p1 refl refl refl in
+    stand_round (names_of items p1) s (names_stand items p1 src (source_behind src s e) (right_behind s r)) (same q (record q { classes = p.classes }) refl refl refl)
+names_stand (brackets b items) p = λ src e r.
+    let p1 : Pen = written (opening b) other_end p in
+    let s = written_step (opening b) other_end p in
+    stand_round (names_of items p1) s (names_stand items p1 src (source_behind src s e) (right_behind s r)) (written_step (closing b) other_end (lay items p1))
+names_stand (wrapped test items) p = in_parentheses test items p (names_stand items (written_if test (opening Round) p))
+names_stand (wrapped_at_start own opener items) p = let test : Bool = own || is_barred opener p.start in in_parentheses test items p (names_stand items (written_if test (opening Round) p))
+names_stand (parentheses_unless_minified items) p = let test : Bool = layouts.not p.style.minified in in_parentheses test items p (names_stand items (written_if test (opening Round) p))
+names_stand (unless_minified items) p = λ src e r. either_stand p.style.minified p p (lay items p) [] (names_of items p) (omega arith) (names_stand items p src e r)
+names_stand (where_same m n a b) p = λ src e r. either_stand (are_same p.style.tables m n) p (lay a p) (lay b p) (names_of a p) (names_of b p) (names_stand a p src e r) (names_stand b p src e r)
+names_stand item p = λ src e r. no_name item p

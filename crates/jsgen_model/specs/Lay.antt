@@ -1,0 +1,87 @@
+-- The text and the marks that items give, from a pen: `layout` has the text alone.
+use Rattle.std.specs.Prelude.{ℕ, List, ◌∷◌, ◌++◌, ◌-◌, Bool, false, Option, None, ◌||◌, codes, if◌then◌else◌}
+use Rattle.jsgen_syntax.specs.Escapes.{name_text, has_escapes}
+use Rattle.jsgen_syntax.specs.Raw.{template_text}
+use Rattle.jsgen_syntax.specs.declared.span.Span.{Span}
+use Rattle.jsgen_tree.specs.Named.{printed_name}
+use Rattle.jsgen_model.specs.Punctuator.{Round, opening, closing}
+use Rattle.jsgen_model.specs.Items.{Items, TemplatePart, whole_part, head_part, middle_part, tail_part, ◌⊕◌, name, private_name, template_part, deeper, in_class, brackets, wrapped, wrapped_at_start, parentheses_unless_minified, unless_minified, where_same, mark, end_mark, link_mark, marked_word}
+use Rattle.jsgen_model.specs.Marks.{one_more_if, size, other_name_in, has_start_mark, has_end_mark, has_link_mark}
+use Rattle.jsgen_model.specs.Layout.{Pen, other_end, written, written_if, is_apart, name_ending, is_barred, deeper_level, entered, with_private_name, are_same, not, layout}
+use Rattle.jsgen_model.specs.Private.{printed_private}
+
+-- ---- marks
+
+-- one more mark where the test holds, of an offset and with the name that stands there
+abbrev pub marked_if : Bool → ℕ → Option (List ℕ) → Pen → Pen
+marked_if test offset named pen = record pen { marks = one_more_if test (record { bytes = size pen.code; offset = offset; name = named }) pen.marks }
+
+-- the mark of a span's start, of its last byte, and of what follows it behind the object of a link
+abbrev pub span_mark : Span → Pen → Pen
+span_mark span pen = marked_if (has_start_mark pen.style.source span) span.start None pen
+
+abbrev pub span_end_mark : Span → Pen → Pen
+span_end_mark span pen = marked_if (has_end_mark pen.style.source span) (span.end - 1) None pen
+
+abbrev pub link_end_mark : Span → Pen → Pen
+link_end_mark span pen = marked_if (has_link_mark pen.style.source span pen.code) span.end None pen
+
+-- the mark of a name, by what it is printed as
+abbrev pub name_mark : Span → List ℕ → Pen → Pen
+name_mark span printed pen = marked_if (has_start_mark pen.style.source span) span.start (other_name_in pen.style.source span printed) pen
+
+-- the mark of a piece of a template, behind the brace before it
+abbrev pub has_piece_mark : TemplatePart → Option (List ℕ) → Span → Bool
+has_piece_mark whole_part source span = false
+has_piece_mark head_part source span = false
+has_piece_mark middle_part source span = has_start_mark source span
+has_piece_mark tail_part source span = has_start_mark source span
+
+abbrev pub piece_mark : TemplatePart → Span → Pen → Pen
+piece_mark part span pen = marked_if (has_piece_mark part pen.style.source span) span.start None pen
+
+-- ---- what stands round a mark
+
+-- the space before a word and a name
+abbrev pub spaced : Pen → Pen
+spaced pen = written_if (is_apart pen.ending pen.code) (codes " ") pen
+
+-- a name behind it
+abbrev pub name_written : List ℕ → Pen → Pen
+name_written w pen = written (name_text pen.style.ascii w) (name_ending (has_escapes pen.style.ascii w)) pen
+
+-- what stands before the piece of a part, and behind it
+abbrev pub part_opening : TemplatePart → List ℕ
+part_opening whole_part = codes "`"
+part_opening head_part = codes "`"
+part_opening middle_part = codes "}"
+part_opening tail_part = codes "}"
+
+abbrev pub part_closing : TemplatePart → List ℕ
+part_closing whole_part = codes "`"
+part_closing head_part = codes "${"
+part_closing middle_part = codes "${"
+part_closing tail_part = codes "`"
+
+-- ---- the whole
+
+-- the pen after the items: of two, after the second from where the first ends
+abbrev pub lay : Items → Pen → Pen
+lay (a ⊕ b) pen = lay b (lay a pen)
+lay (name span n) pen = name_written (printed_name pen.style.tables n) (name_mark span (printed_name pen.style.tables n) (spaced pen))
+lay (private_name span w) pen = with_private_name (printed_private pen.style.tables pen.classes w) (name_mark span (35 ∷ printed_private pen.style.tables pen.classes w) pen)
+lay (template_part part tagged span raw) pen = written (template_text tagged pen.style.minified pen.style.ascii raw ++ part_closing part) other_end (piece_mark part span (written (part_opening part) other_end pen))
+lay (deeper items) pen = record (lay items (record pen { depth = deeper_level pen.style.minified pen.depth })) { depth = pen.depth }
+lay (in_class items) pen = record (lay items (entered pen)) { classes = pen.classes }
+lay (brackets b items) pen = written (closing b) other_end (lay items (written (opening b) other_end pen))
+lay (wrapped test items) pen = written_if test (closing Round) (lay items (written_if test (opening Round) pen))
+lay (wrapped_at_start test opener items) pen = written_if (test || is_barred opener pen.start) (closing Round) (lay items (written_if (test || is_barred opener pen.start) (opening Round) pen))
+lay (parentheses_unless_minified items) pen = written_if (not pen.style.minified) (closing Round) (lay items (written_if (not pen.style.minified) (opening Round) pen))
+lay (unless_minified items) pen = if pen.style.minified then pen else lay items pen
+lay (where_same m n a b) pen = if are_same pen.style.tables m n then lay a pen else lay b pen
+lay (mark span) pen = span_mark span pen
+lay (end_mark span) pen = span_end_mark span pen
+lay (link_mark span) pen = link_end_mark span pen
+lay (marked_word span w) pen = written w other_end (span_mark span (spaced pen))
+-- what has no mark is as in the text
+lay item pen = layout item pen

@@ -1,0 +1,19 @@
+// Texts that have the same characters.
+ghost use Rattle.std.specs.Prelude.{◌≡◌, ◌∷◌, bytes_eq};
+ghost use Rattle.std.specs.Str.{chars};
+
+pub(crate) fn is_same(a: &str, b: &str) -> bool
+    ensures { result ≡ bytes_eq (chars a.now) (chars b.now) }
+{
+    a == b
+}
+
+/// Whether a text is the other one behind `#`.
+pub(crate) fn is_behind_hash(text: &str, rest: &str) -> bool
+    ensures { result ≡ bytes_eq (chars text.now) (35 ∷ chars rest.now) }
+{
+    match text.strip_prefix('#') {
+        Some(own) => is_same(own, rest),
+        None => false,
+    }
+}
