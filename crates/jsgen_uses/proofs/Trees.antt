@@ -15,7 +15,7 @@ use Rattle.jsgen_uses.specs.Log.{console_log, log_call, log_program, log_job, Re
 use Rattle.jsgen_uses.proofs.Words.{console_is_free, log_is_name}
 
 plain : (message name : List ℕ) → Everywhere is_plain_by_type (log_program message name)
-plain message name = (refl, (tt, (tt, (((refl, ((refl, ((refl, ((refl, tt), ((refl, tt), tt))), (((refl, tt), ((refl, tt), tt)), tt))), tt)), tt), tt))))
+plain message name = (refl, (tt, (tt, (tt, (((refl, ((refl, ((refl, ((refl, tt), ((refl, tt), tt))), (((refl, tt), ((refl, tt), tt)), tt))), tt)), tt), tt)))))
 
 quiet_callee : Everywhere is_quiet_row console_log
 quiet_callee = (refl, ((refl, tt), ((refl, tt), tt)))
@@ -24,7 +24,7 @@ quiet_call : (message name : List ℕ) → Everywhere is_quiet_row (log_call mes
 quiet_call message name = (refl, (quiet_callee, (((refl, tt), ((refl, tt), tt)), tt)))
 
 quiet : (message name : List ℕ) → Everywhere is_quiet_row (log_program message name)
-quiet message name = (refl, (tt, (tt, (((refl, (quiet_call message name, tt)), tt), tt))))
+quiet message name = (refl, (tt, (tt, (tt, (((refl, (quiet_call message name, tt)), tt), tt)))))
 
 breaches_where : (message name : List ℕ) (free : Bool) → is_free_name name ≡ free → job_breaches (log_job message name) ≡ fault_if (not free) (faults.Name 0)
 breaches_where message name true h = rw (console_is_free, log_is_name, h)
