@@ -28,7 +28,7 @@ function formOf(node) {
     case "TemplateLiteral":
       return node.expressions.length === 0 ? ["string", node.quasis[0].value.cooked] : members(node);
     case "TaggedTemplateExpression":
-      return ["tagged", normal(node.tag), node.quasi.quasis.map((piece) => piece.value.raw), normal(node.quasi.expressions)];
+      return ["tagged", normal(node.tag), node.quasi.quasis.map(rawText), normal(node.quasi.expressions)];
     case "LogicalExpression":
       return ["logical", node.operator, operands(node, (inside) => inside.type === node.type && inside.operator === node.operator)];
     case "SequenceExpression":
@@ -54,6 +54,11 @@ function formOf(node) {
     default:
       return members(node);
   }
+}
+
+// What a tag sees of a piece, but that `</script` is printed with a backslash there too (docs/LAYOUT.md).
+function rawText(piece) {
+  return piece.value.raw.replace(/<\\\/(?=script)/gi, "</");
 }
 
 // A name of an import, an export or an attribute, be it written as a name or as a string.

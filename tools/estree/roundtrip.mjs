@@ -100,11 +100,22 @@ function tryProgram(tally, tried) {
     }
     const found = differenceOf(wanted.get(source), code);
     if (found) tally.fail(tried.place(source, found.at ?? firstUnparsed(tried.text, asked)), set, found.what);
-    if (options.ascii_only && /[^\x00-\x7f]/.test(code)) tally.fail(tried.place(tried.text, 0), set, "the text is not ASCII");
+    if (options.ascii_only && PAST_ASCII.test(code) && !keepsPastAscii(parsed(source), source)) tally.fail(tried.place(tried.text, 0), set, "the text is not ASCII");
   }
   for (const [set, pretty] of [["minified", "pretty"], ["renamed, minified", "renamed"]]) {
     if (lengths[set] > lengths[pretty]) tally.fail(tried.place(tried.text, 0), set, "the text is longer than the pretty one");
   }
+}
+
+const PAST_ASCII = /[^\x00-\x7f]/;
+
+// Whether the program has a raw text past ASCII that a tag sees, or such a hashbang: these are printed as they stand.
+function keepsPastAscii(node, source) {
+  if (/^#!.*[^\x00-\x7f]/.test(source)) return true;
+  if (Array.isArray(node)) return node.some((part) => keepsPastAscii(part, ""));
+  if (node === null || typeof node !== "object") return false;
+  if (node.type === "TaggedTemplateExpression" && node.quasi.quasis.some((piece) => PAST_ASCII.test(piece.value.raw))) return true;
+  return Object.values(node).some((part) => keepsPastAscii(part, ""));
 }
 
 // The offset in the text of a line that tells one in bytes at its end, as `refused: Name at 12`.

@@ -18,6 +18,7 @@ const SAME = [
   ["if (a) { if (b) c }", "if (a) if (b) c"],
   ["'use strict'", '"use strict"'],
   [".5 + 1.", "0.5 + 1"],
+  ["c`</Script`", "c`<\\/Script`"],
   ["((a) => (a))", "a => a"],
   ["(a, b = (1), ...c) => ((a, b), c)", "(a, b = 1, ...c) => (a, b, c)"],
   ["require('x')", "require(`x`)"],
