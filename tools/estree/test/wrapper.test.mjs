@@ -63,7 +63,7 @@ test("eight calls at once make one build, and each prints", async () => {
     }
     assert.deepEqual(calls().map((line) => line.split(" ")[1]), ["all", "all", "run"]);
     assert.ok(all.some((call) => call.lines.includes("another call is building")));
-    assert.equal(all.filter((call) => call.lines.includes("jsgen: 0 s: building, which proves ")).length, 1);
+    assert.equal(all.filter((call) => /^jsgen: \d+ s: building, which proves /m.test(call.lines)).length, 1);
   });
 });
 
