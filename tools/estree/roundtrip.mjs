@@ -3,7 +3,9 @@
 // printed by tables, with that of the source in which these names alone are renamed.
 // With --random, so many programs that are made up are printed so too. A run that fails is told by its file and line (of a program
 // that is made up, its number stands for the file), its set of options and what differs, the first ten of them.
-import { readFileSync, readdirSync, statSync } from "node:fs";
+import { spawnSync } from "node:child_process";
+import { mkdtempSync, readFileSync, readdirSync, rmSync, statSync, writeFileSync } from "node:fs";
+import { tmpdir } from "node:os";
 import { join } from "node:path";
 import { Refused, printed, run } from "./command.mjs";
 import { jobOf, NotRead } from "./convert.mjs";
@@ -37,7 +39,7 @@ const SHOWN = 10;
 
 class Tally {
   constructor() {
-    this.programs = this.passed = this.runs = this.bad = 0;
+    this.programs = this.passed = this.runs = this.bad = this.unread = 0;
     this.started = Date.now();
   }
 
@@ -53,7 +55,7 @@ class Tally {
 
   summary() {
     const seconds = ((Date.now() - this.started) / 1000).toFixed(0);
-    return `${this.programs} programs; ${this.passed} files are no modules, or aren't read; ${this.runs} runs, ${this.bad} bad; ${seconds} s`;
+    return `${this.programs} programs; ${this.passed} files are no modules, or aren't read; ${this.runs} runs, ${this.bad} bad; ${seconds} s${this.unread > 0 ? `; ${this.unread} texts that V8 takes and acorn can't read` : ""}`;
   }
 }
 
@@ -99,7 +101,8 @@ function tryProgram(tally, tried) {
       continue;
     }
     const found = differenceOf(wanted.get(source), code);
-    if (found) tally.fail(tried.place(source, found.at ?? firstUnparsed(tried.text, asked)), set, found.what);
+    if (found?.at === null && isTakenByV8(code)) tally.unread++;
+    else if (found) tally.fail(tried.place(source, found.at ?? firstUnparsed(tried.text, asked)), set, found.what);
     if (options.ascii_only && PAST_ASCII.test(code) && !keepsPastAscii(parsed(source), source)) tally.fail(tried.place(tried.text, 0), set, "the text is not ASCII");
   }
   for (const [set, pretty] of [["minified", "pretty"], ["renamed, minified", "renamed"]]) {
@@ -132,6 +135,18 @@ function differenceOf(wanted, code) {
   } catch (error) {
     if (!(error instanceof SyntaxError)) throw error;
     return { what: `what is printed does not parse: ${error.message}\n  printed: ${excerpt(code, error.pos)}`, at: null };
+  }
+}
+
+// Whether V8 takes a text as a module: acorn can't read a pattern that begins with `=` right behind `for await (..)`.
+function isTakenByV8(code) {
+  const folder = mkdtempSync(join(tmpdir(), "jsgen-"));
+  try {
+    const file = join(folder, "code.mjs");
+    writeFileSync(file, code);
+    return spawnSync(process.execPath, ["--check", file]).status === 0;
+  } finally {
+    rmSync(folder, { recursive: true });
   }
 }
 
