@@ -1,8 +1,7 @@
 -- The numbers that C is told of an outcome.
-use Rattle.std.specs.Prelude.{ℕ, Option, Some, None}
+use Rattle.std.specs.Prelude.{◌≡◌, ℕ, Option, Some, None}
 use Rattle.jsgen_model.specs.declared.fault.TreeFault.{TreeFault}
 use Rattle.jsgen_model.specs.declared.fault.TreeFault.TheVariants as rules
-use Rattle.jsgen_fields.specs.declared.At.{At}
 use Rattle.jsgen_fields.specs.declared.InputFault.{InputFault}
 use Rattle.jsgen_fields.specs.declared.InputFault.TheVariants as faults
 use Rattle.jsgen_jobs.specs.declared.JobFault.TheVariants.{NotJob, Refused, Memory}
@@ -42,28 +41,27 @@ rule_numbers (rules.Span start) = broken_numbers 5 start
 rule_numbers (rules.Comment start) = broken_numbers 6 start
 rule_numbers (rules.Indent start) = broken_numbers 7 start
 
--- a fault by its number: of the whole, of a row, of a field of the head or of a row
-abbrev pub head_numbers : ℕ → ℕ → Answer
-head_numbers rule field = record { text_length = 0; row = 0; field = field; has_row = 0; start = 0; rule = rule }
+-- a row's number, and how many rows are told
+abbrev pub row_number : Option ℕ → ℕ
+row_number None = 0
+row_number (Some row) = row
 
-abbrev pub row_numbers : ℕ → ℕ → ℕ → Answer
-row_numbers rule row field = record { text_length = 0; row = row; field = field; has_row = 1; start = 0; rule = rule }
+abbrev pub row_count : Option ℕ → ℕ
+row_count None = 0
+row_count (Some row) = 1
 
-abbrev pub spot_numbers : ℕ → Option ℕ → ℕ → Answer
-spot_numbers rule None field = head_numbers rule field
-spot_numbers rule (Some row) field = row_numbers rule row field
-
-abbrev pub place_numbers : ℕ → At → Answer
-place_numbers rule at = spot_numbers rule at.row at.field
+-- a fault by its number, at a field of a row or else of the head
+abbrev pub place_numbers : ℕ → Option ℕ → ℕ → Answer
+place_numbers rule row field = record { text_length = 0; row = row_number row; field = field; has_row = row_count row; start = 0; rule = rule }
 
 abbrev pub fault_numbers : InputFault → Answer
-fault_numbers faults.Json = head_numbers 11 0
-fault_numbers (faults.Float at) = place_numbers 12 at
-fault_numbers (faults.Missing at) = place_numbers 13 at
-fault_numbers (faults.Wrong at) = place_numbers 14 at
-fault_numbers (faults.Child at) = place_numbers 15 at
-fault_numbers (faults.Shared row) = row_numbers 16 row 0
-fault_numbers faults.Memory = head_numbers 17 0
+fault_numbers faults.Json = place_numbers 11 None 0
+fault_numbers (faults.Float at) = place_numbers 12 at.row at.field
+fault_numbers (faults.Missing at) = place_numbers 13 at.row at.field
+fault_numbers (faults.Wrong at) = place_numbers 14 at.row at.field
+fault_numbers (faults.Child at) = place_numbers 15 at.row at.field
+fault_numbers (faults.Shared row) = place_numbers 16 (Some row) 0
+fault_numbers faults.Memory = place_numbers 17 None 0
 
 -- all but the status
 abbrev pub numbers_of : Outcome → Answer
@@ -73,3 +71,7 @@ numbers_of (Faulty (NotJob fault)) = fault_numbers fault
 numbers_of (Faulty (Refused fault)) = rule_numbers fault
 numbers_of (Faulty Memory) = no_numbers
 numbers_of TooLong = no_numbers
+
+-- a status and the other numbers are those of one outcome
+abbrev pub NumbersTell : Type 0
+NumbersTell = (a b : Outcome) → status_of a ≡ status_of b → numbers_of a ≡ numbers_of b → a ≡ b

@@ -1,6 +1,9 @@
 -- What each outcome says of the bytes of a job and of the caller's buffer.
-use Rattle.std.specs.Prelude.{◌≡◌, ℕ, ◌<◌, List, ◌++◌, length, drop, Result, Ok, Err}
+use Rattle.std.specs.Prelude.{◌≡◌, ℕ, ◌<◌, List, ◌++◌, length, take, drop, Result, Ok, Err}
+use Rattle.std.specs.Str.{chars, IsUtf8}
 use Rattle.jsgen_tree.specs.Job.{JobData}
+use Rattle.jsgen_model.specs.Plain.{IsPlain, IsQuiet}
+use Rattle.jsgen_model.specs.Reading.{IsReadAs}
 use Rattle.jsgen_model.specs.Spell.{text_bytes}
 use Rattle.jsgen_check.specs.Verdict.{told}
 use Rattle.jsgen_jobs.specs.Job.{IsJobOf, IsSomeJob, IsFaulty}
@@ -42,3 +45,11 @@ Checked (Done count) bytes = IsWithin bytes × IsSomeJob bytes × (count ≡ 0)
 Checked (TooSmall count) bytes = ⊥
 Checked (Faulty fault) bytes = IsWithin bytes × HasFault fault bytes
 Checked TooLong bytes = limit < length bytes
+
+-- a buffer begins with so many bytes of UTF-8 that the grammar reads as a program with the normal form of the job's
+abbrev pub BeginsAs : JobData → ℕ → List ℕ → Type 0
+BeginsAs job count buffer = IsUtf8 (take count buffer) × IsReadAs (chars (take count buffer)) job
+
+-- where the status is 0, and the bytes are a plain and quiet job that keeps the rules, it is read back from the buffer
+abbrev pub IsReadBack : ℕ → Answer → List ℕ → List ℕ → Type 0
+IsReadBack status answer bytes new = status ≡ 0 → (job : JobData) → IsJobOf job bytes → IsPlain job.program → IsQuiet job → BeginsAs job answer.text_length new

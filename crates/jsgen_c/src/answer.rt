@@ -1,8 +1,8 @@
 // What a call tells besides its status, as numbers.
 ghost use Rattle.std.specs.Prelude.{◌≡◌};
-ghost use Rattle.jsgen_c.specs.Numbers.{no_numbers, text_numbers, rule_numbers, head_numbers, row_numbers, place_numbers, fault_numbers};
+ghost use Rattle.jsgen_c.specs.Numbers.{no_numbers, text_numbers, rule_numbers, place_numbers, fault_numbers};
 
-use jsgen::{At, InputFault, TreeFault};
+use jsgen::{InputFault, TreeFault};
 
 /// The numbers of an answer, in a struct of the caller's. Those that the status and the rule don't speak of are 0.
 #[derive(Clone, Copy, Debug, PartialEq, Eq)]
@@ -71,44 +71,30 @@ impl Answer {
         ensures { result ≡ fault_numbers fault }
     {
         match fault {
-            InputFault::Json => Answer {
-                rule: 11,
-                ..Answer::nothing()
-            },
-            InputFault::Float(at) => Answer::of_place(12, at),
-            InputFault::Missing(at) => Answer::of_place(13, at),
-            InputFault::Wrong(at) => Answer::of_place(14, at),
-            InputFault::Child(at) => Answer::of_place(15, at),
-            InputFault::Shared(row) => Answer {
-                rule: 16,
-                row,
-                has_row: 1,
-                ..Answer::nothing()
-            },
-            InputFault::Memory => Answer {
-                rule: 17,
-                ..Answer::nothing()
-            },
+            InputFault::Json => Answer::of_place(11, None, 0),
+            InputFault::Float(at) => Answer::of_place(12, at.row, at.field),
+            InputFault::Missing(at) => Answer::of_place(13, at.row, at.field),
+            InputFault::Wrong(at) => Answer::of_place(14, at.row, at.field),
+            InputFault::Child(at) => Answer::of_place(15, at.row, at.field),
+            InputFault::Shared(row) => Answer::of_place(16, Some(row), 0),
+            InputFault::Memory => Answer::of_place(17, None, 0),
         }
     }
 
-    // A fault at a field.
-    fn of_place(rule: u32, at: At) -> Answer
-        ensures { result ≡ place_numbers rule at }
+    // A fault, by its number, at a field of a row or else of the head.
+    fn of_place(rule: u32, row: Option<usize>, field: usize) -> Answer
+        ensures { result ≡ place_numbers rule row field }
     {
-        match at.row {
-            None => Answer {
-                rule,
-                field: at.field,
-                ..Answer::nothing()
-            },
-            Some(row) => Answer {
-                rule,
-                row,
-                has_row: 1,
-                field: at.field,
-                ..Answer::nothing()
-            },
+        let (has_row, row) = match row {
+            None => (0, 0),
+            Some(row) => (1, row),
+        };
+        Answer {
+            rule,
+            row,
+            has_row,
+            field,
+            ..Answer::nothing()
         }
     }
 }

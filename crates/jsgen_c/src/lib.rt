@@ -4,9 +4,10 @@
 
 mod answer;
 mod fill;
+mod laws;
 mod outcome;
 
-ghost use Rattle.jsgen_c.specs.Outcome.{Tells, Printed, Checked};
+ghost use Rattle.jsgen_c.specs.Outcome.{Tells, Printed, Checked, IsReadBack};
 
 use crate::answer::Answer;
 use crate::fill::{check, print};
@@ -21,6 +22,9 @@ pub extern "C" fn jsgen_print_job(
     answer: &mut Answer,
 ) -> u32
     ensures printed { Tells result answer.new (λ outcome. Printed outcome job.now buffer.old buffer.new) }
+
+    // The theorem: the text is read as the program of the job, where that is plain and quiet.
+    ensures reads { IsReadBack result answer.new job.now buffer.new }
 {
     let outcome = print(alloc, job, buffer);
     *answer = outcome.answer();
