@@ -126,24 +126,34 @@ test("a job of as many bytes as may be is looked at, and a longer one isn't", { 
 function storedCases() {
   const texts = readdirSync(top("tests")).filter((name) => name.endsWith(".txt"));
   const lines = texts.flatMap((name) => readFileSync(top(`tests/${name}`), "utf8").split("\n"));
-  const jobs = lines.map((said, at) => [/^job: ?(.*)$/.exec(said)?.[1], lines[at + 1]?.trim()]);
-  return jobs.filter(([job]) => job !== undefined && !job.includes("‹"));
+  const jobs = lines.map((said, at) => [/^job: ?(.*)$/.exec(said)?.[1], /^(\d) \| ?([^⏎]*)/.exec(lines[at + 1]?.trim())]);
+  return jobs.filter(([job]) => job !== undefined && !job.includes("‹")).map(([job, [, status, said]]) => [job, Number(status), said]);
 }
 
-test("the stored jobs have the status and the numbers of the line that is told of them", { skip }, () => {
+// The jobs of docs/FORMAT.md, "When a job is refused", each with its status and its line.
+function documentedCases() {
+  const rows = readFileSync(top("docs/FORMAT.md"), "utf8").matchAll(/^\| `([^`]+)` \|.*\| `(\{.*)` \|$/gm);
+  return [...rows].map(([, said, job]) => [job, said.startsWith("refused") ? 1 : 3, said]);
+}
+
+// A template of two pieces with nothing between them.
+const TEMPLATE =
+  '{"rows":[{"type":"TemplateElement","raw":"a","cooked":"a"},{"type":"TemplateElement","raw":"b","cooked":"b"},{"type":"TemplateLiteral","span":[4,9],"quasis":[0,1]},{"type":"ExpressionStatement","expression":2},{"type":"Program","kind":"module","body":[3]}]}';
+
+test("jobs have the status and the numbers of the line that is told of them", { skip }, () => {
   const rules = new Set();
-  for (const [job, wanted] of storedCases()) {
-    const [, status, said] = /^(\d) \| ?([^⏎]*)/.exec(wanted);
+  for (const [job, status, said] of [...storedCases(), ...documentedCases(), [TEMPLATE, 1, "refused: Template at 4"]]) {
     const answer = asked(["print", 100_000], job);
-    assert.equal(answer.status, Number(status), job);
-    if (answer.status !== 0) assert.equal(line(answer), said, job);
-    const checked = asked(["check"], job);
-    assert.deepEqual({ ...checked, requests: 0 }, { status: answer.status, length: 0, row: answer.row, field: answer.field, hasRow: answer.hasRow, start: answer.start, rule: answer.rule, requests: 0, kept: 0 }, job);
-    assert.ok(answer.restAsItWas, job);
+    assert.equal(answer.status, status, job);
+    if (status !== 0) assert.equal(line(answer), said, job);
+    assert.equal(answer.restAsItWas, true, job);
     assert.equal(answer.kept, 0, job);
-    if (answer.rule !== 0) rules.add(NUMBERS[answer.rule]);
+    const { row, field, hasRow, start, rule } = answer;
+    const { requests, ...checked } = asked(["check"], job);
+    assert.deepEqual(checked, { status, length: 0, row, field, hasRow, start, rule, kept: 0 }, job);
+    rules.add(NUMBERS[rule]);
   }
-  assert.deepEqual([...rules].sort(), NUMBERS.filter((name) => name !== "").sort());
+  assert.deepEqual([...rules].sort(), [...new Set(NUMBERS)].sort());
 });
 
 test("each request for memory that fails is answered by want of memory, and nothing is kept", { skip }, () => {
