@@ -5,7 +5,7 @@ import { fileURLToPath } from "node:url";
 const JSGEN = process.env.JSGEN ?? fileURLToPath(new URL("../../jsgen", import.meta.url));
 const FLAGS = { "--minify": "minify", "--ascii-only": "ascii_only", "--single-quote": "single_quote" };
 
-/** A faulty command line, or an input that can't be taken: its message is the line that is said. */
+/** A faulty command line: its message is the line that is said, and the usage stands behind it. */
 export class Refused extends Error {}
 
 /** The options of a job that the words ask for, and the other words. */
@@ -29,9 +29,10 @@ export async function run(usage, command) {
   try {
     process.exitCode = (await command(process.argv.slice(2))) ?? 0;
   } catch (error) {
-    const isSaid = error instanceof Refused || error instanceof SyntaxError || error.name === "NotRead" || error.code === "ENOENT";
-    if (!isSaid) throw error;
-    process.stderr.write(`${error.message}\nusage: ${usage}\n`);
+    const isUsage = error instanceof Refused;
+    const isInput = error instanceof SyntaxError || error.name === "NotRead" || error.code === "ENOENT";
+    if (!isUsage && !isInput) throw error;
+    process.stderr.write(isUsage ? `${error.message}\nusage: ${usage}\n` : `${error.message}\n`);
     process.exitCode = 1;
   }
 }

@@ -1,0 +1,38 @@
+/** How a tree is printed. */
+export interface Settings {
+  /** The text that the tree was parsed from; with it faults tell where they are. */
+  source?: string;
+  minify?: boolean;
+  asciiOnly?: boolean;
+  singleQuote?: boolean;
+  /** Tabs, or so many spaces a level. */
+  indent?: "tab" | number;
+  /** Tables by which names are printed (docs/FORMAT.md). */
+  names?: object | null;
+  /** Other options of a job (docs/FORMAT.md). */
+  options?: object;
+}
+
+export interface Printed {
+  code: string;
+  /** No source map is made yet. */
+  map: null;
+}
+
+/** A job that isn't printed. Its message is the line that the program says. */
+export class JsgenError extends Error {
+  /** 1 the tree breaks a rule, 3 no job, 6 out of memory, 7 the job is too long. */
+  status: number | string;
+  /** The rule that is broken, or by what the bytes are no job. */
+  rule?: string;
+  /** The start of the node that breaks a rule, in bytes of the source. */
+  start?: number;
+  row?: number;
+  field?: number;
+}
+
+/** Prints an ESTree tree of a module. Throws a JsgenError, or a TypeError for wrong arguments. */
+export function print(program: object, settings?: Settings): Printed;
+
+/** The code of a job (docs/FORMAT.md): JSON as a string, or as bytes of UTF-8. */
+export function printJob(job: string | Uint8Array): string;

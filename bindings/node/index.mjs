@@ -1,0 +1,76 @@
+// Prints ESTree trees and jobs in this process, by the addon that build.mjs makes, or by the program where there is no addon.
+import { spawnSync } from "node:child_process";
+import { createRequire } from "node:module";
+import { fileURLToPath } from "node:url";
+import { jobOf } from "../../tools/estree/convert.mjs";
+import { JsgenError, errorOf, errorOfLine } from "./faults.mjs";
+
+export { JsgenError };
+
+const PROGRAM = process.env.JSGEN ?? fileURLToPath(new URL("../../jsgen", import.meta.url));
+const NAMES = { minify: "minify", asciiOnly: "ascii_only", singleQuote: "single_quote" };
+const OTHERS = new Set(["source", "indent", "names", "options"]);
+
+/** The addon, or null where it isn't built. */
+export const addon = loaded();
+
+function loaded() {
+  try {
+    return createRequire(import.meta.url)("./build/jsgen.node");
+  } catch {
+    return null;
+  }
+}
+
+/** The code of a job: JSON as a string, or as bytes of UTF-8. */
+export function printJob(job) {
+  if (typeof job !== "string" && !(job instanceof Uint8Array)) throw new TypeError("a job is a string or a Uint8Array");
+  const bytes = typeof job === "string" ? Buffer.from(job) : job;
+  return addon ? byAddon(bytes) : byProgram(bytes);
+}
+
+function byAddon(bytes) {
+  const answer = addon.printJob(bytes);
+  if (answer.status !== 0) throw errorOf(answer);
+  return answer.code;
+}
+
+function byProgram(bytes) {
+  const ran = spawnSync(PROGRAM, ["print"], { input: bytes, maxBuffer: 2 ** 30 });
+  if (ran.error) throw ran.error;
+  if (ran.status !== 0) throw errorOfLine(ran.status ?? ran.signal, ran.stderr.toString("utf8").trim());
+  return ran.stdout.toString("utf8");
+}
+
+/** Prints an ESTree tree of a module. */
+export function print(program, settings = {}) {
+  if (program === null || typeof program !== "object") throw new TypeError("a program is an ESTree node");
+  const job = jobOf(program.type === "File" ? program.program : program, {
+    source: settings.source,
+    names: settings.names ?? null,
+    options: optionsOf(settings),
+    spans: settings.source !== undefined,
+  });
+  return { code: printJob(JSON.stringify(job)), map: null };
+}
+
+function optionsOf(settings) {
+  const options = { ...settings.options };
+  for (const [name, value] of Object.entries(settings)) {
+    if (name in NAMES) options[NAMES[name]] = flag(name, value);
+    else if (!OTHERS.has(name)) throw new TypeError(`unknown setting ${name}`);
+  }
+  if (settings.indent !== undefined) Object.assign(options, indentOf(settings.indent));
+  return options;
+}
+
+function flag(name, value) {
+  if (typeof value !== "boolean") throw new TypeError(`${name} is true or false`);
+  return value;
+}
+
+function indentOf(indent) {
+  if (indent === "tab") return { indent_char: "tab" };
+  if (Number.isSafeInteger(indent) && indent >= 0 && indent <= 16) return { indent_char: "space", indent_width: indent };
+  throw new TypeError('indent is "tab", or a number of spaces up to 16');
+}

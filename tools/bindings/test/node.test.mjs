@@ -1,0 +1,129 @@
+// The package bindings/node, by its addon where that is built (`node bindings/node/build.mjs`), and by the program where that is.
+import assert from "node:assert/strict";
+import { spawnSync } from "node:child_process";
+import { mkdtempSync, readFileSync, rmSync, writeFileSync } from "node:fs";
+import { tmpdir } from "node:os";
+import { join } from "node:path";
+import { test } from "node:test";
+import { fileURLToPath } from "node:url";
+import { Worker } from "node:worker_threads";
+import { parsed } from "../../estree/parser.mjs";
+import { program, unbuilt } from "../../estree/program.mjs";
+
+const here = (name) => fileURLToPath(new URL(name, import.meta.url));
+if (!unbuilt) process.env.JSGEN = program();
+const { JsgenError, addon, print, printJob } = await import("../../../bindings/node/index.mjs");
+const skip = addon === null && unbuilt;
+const withoutAddon = addon === null && "the addon isn't built: node bindings/node/build.mjs";
+
+const SOURCE = 'import { a } from "b";\n\nexport class C extends a {\n  #d = 1;\n}\n';
+const FIRST = readFileSync(here("../../../examples/first.json"));
+
+function faultOf(job) {
+  try {
+    printJob(job);
+  } catch (error) {
+    assert.ok(error instanceof JsgenError, error.stack);
+    const { message, status, rule, start, row, field } = error;
+    return { message, status, rule, start, row, field };
+  }
+  assert.fail("it printed");
+}
+
+test("a tree is printed under its settings", { skip }, () => {
+  const tree = parsed(SOURCE);
+  assert.deepEqual(print(tree), { code: 'import { a } from "b";\nexport class C extends a {\n\t#d = 1;\n}\n', map: null });
+  assert.equal(print(tree, { source: SOURCE, minify: true }).code, 'import{a}from"b";export class C extends a{#d=1}');
+  assert.equal(print(tree, { indent: 2, singleQuote: true }).code, "import { a } from 'b';\nexport class C extends a {\n  #d = 1;\n}\n");
+  assert.equal(print(parsed('x("é")'), { asciiOnly: true }).code, 'x("\\xE9");\n');
+});
+
+test("a job is printed, as a string or as bytes", { skip }, () => {
+  assert.equal(printJob(FIRST), "const a = 1 + 2;\n");
+  assert.equal(printJob(FIRST.toString()), "const a = 1 + 2;\n");
+  assert.equal(printJob('{"rows":[{"type":"Program","kind":"module"}]}'), "");
+});
+
+test("faults are told by kind and place", { skip }, () => {
+  const rule = (name) => `{"rows":[{"type":"IdentifierReference","span":[5,6],"name":"${name}"},{"type":"ExpressionStatement","expression":0},{"type":"Program","kind":"module","body":[1]}]}`;
+  assert.equal(printJob(rule("a")), "a;\n");
+  assert.deepEqual(faultOf(rule("a b")), { message: "refused: Name at 5", status: 1, rule: "Name", start: 5, row: undefined, field: undefined });
+  for (const [job, message, fields] of [
+    ["", "not a job: Json", {}],
+    [new Uint8Array([0xff]), "not a job: Json", {}],
+    ['{"rows":[{"type":"Nothing"}]}', "not a job: Wrong row 0 field 0", { row: 0, field: 0 }],
+    ['{"rows":5}', /^not a job: Wrong field \d+$/, null],
+  ]) {
+    const fault = faultOf(job);
+    if (message instanceof RegExp) assert.match(fault.message, message);
+    else assert.equal(fault.message, message);
+    assert.equal(fault.status, 3);
+    if (fields) assert.deepEqual({ row: fault.row, field: fault.field }, { row: undefined, field: undefined, ...fields });
+  }
+  assert.deepEqual(faultOf(new Uint8Array(33_554_433).fill(32)).message, "input too long");
+});
+
+test("a text that is longer than its job comes whole", { skip }, () => {
+  const rows = Array.from({ length: 400 }, () => '{"type":"EmptyStatement"}');
+  const blocks = Array.from({ length: 200 }, (_, at) => `{"type":"BlockStatement","body":[${at === 0 ? 0 : at}]}`);
+  const job = `{"options":{"indent_char":"space","indent_width":16},"rows":[${[rows[0], ...blocks].join(",")},{"type":"Program","kind":"module","body":[200]}]}`;
+  const code = printJob(job);
+  assert.ok(code.length > job.length);
+  assert.equal(code.trim().split("\n").length, 401);
+});
+
+test("wrong arguments are a TypeError", () => {
+  for (const call of [() => printJob(), () => printJob(5), () => printJob([1]), () => print(null), () => print("a")]) assert.throws(call, TypeError);
+  const tree = parsed("a");
+  assert.throws(() => print(tree, { minfy: true }), { name: "TypeError", message: "unknown setting minfy" });
+  assert.throws(() => print(tree, { minify: 1 }), { name: "TypeError", message: "minify is true or false" });
+  assert.throws(() => print(tree, { indent: -1 }), TypeError);
+});
+
+test("the addon takes nothing but bytes", { skip: withoutAddon }, () => {
+  for (const wrong of [undefined, null, "a", 5, {}, [1], new Uint16Array(2), new DataView(new ArrayBuffer(4))]) assert.throws(() => addon.printJob(wrong), TypeError);
+  assert.throws(() => addon.printJob(), TypeError);
+  assert.equal(addon.printJob(new Uint8Array(0)).status, 3);
+});
+
+test("eight threads print at once", { skip: withoutAddon }, async () => {
+  const work = `
+    import { parentPort, workerData } from "node:worker_threads";
+    import { printJob } from ${JSON.stringify(new URL("../../../bindings/node/index.mjs", import.meta.url).href)};
+    let same = 0;
+    for (let turn = 0; turn < 200; turn++) same += printJob(workerData) === "const a = 1 + 2;\\n";
+    parentPort.postMessage(same);`;
+  const url = new URL(`data:text/javascript,${encodeURIComponent(work)}`);
+  const counts = await Promise.all(
+    Array.from({ length: 8 }, () => new Promise((done, fail) => new Worker(url, { workerData: FIRST.toString() }).on("message", done).on("error", fail))),
+  );
+  assert.deepEqual(counts, Array(8).fill(200));
+});
+
+test("memory is given back", { skip: withoutAddon }, () => {
+  const grown = (turns) => {
+    for (let turn = 0; turn < turns; turn++) printJob(FIRST);
+    globalThis.gc?.();
+    return process.memoryUsage.rss();
+  };
+  const before = grown(2_000);
+  assert.ok(grown(20_000) - before < 32 * 2 ** 20);
+});
+
+test("the command prints a file, and says why it doesn't", { skip }, () => {
+  const folder = mkdtempSync(join(tmpdir(), "jsgen-node-"));
+  try {
+    const command = (words, input = "") => {
+      const ran = spawnSync(process.execPath, [here("../../../bindings/node/bin/jsgen.mjs"), ...words], { input });
+      return [ran.status, ran.stdout.toString(), ran.stderr.toString()];
+    };
+    writeFileSync(join(folder, "a.js"), SOURCE);
+    assert.deepEqual(command(["--minify", join(folder, "a.js")]), [0, 'import{a}from"b";export class C extends a{#d=1}', ""]);
+    assert.deepEqual(command(["-o", join(folder, "b.js")], "a()"), [0, "", ""]);
+    assert.equal(readFileSync(join(folder, "b.js"), "utf8"), "a();\n");
+    assert.match(command([], "a(")[2], /^Unexpected token \(1:2\)\n$/);
+    assert.match(command(["-o"])[2], /^at most one file, and one behind -o, is wanted\nusage: jsgen /);
+  } finally {
+    rmSync(folder, { recursive: true });
+  }
+});
