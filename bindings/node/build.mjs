@@ -3,7 +3,7 @@ import { spawnSync } from "node:child_process";
 import { existsSync, mkdirSync } from "node:fs";
 import { dirname, join } from "node:path";
 import { fileURLToPath } from "node:url";
-import { libraries } from "../c/libraries.mjs";
+import { libraries } from "../../tools/bindings/library.mjs";
 
 const here = (name) => fileURLToPath(new URL(name, import.meta.url));
 const HEADERS = [process.env.NODE_HEADERS, join(dirname(process.execPath), "../include/node")].filter(Boolean);

@@ -18,7 +18,7 @@ export function errorOf({ status, rule, row, field, start }) {
       return new JsgenError(`refused: ${RULES[rule]} at ${start}`, { status, rule: RULES[rule], start });
     case 3: {
       const kind = FAULTS[rule];
-      const inRow = row === undefined ? "" : ` row ${row}`;
+      const inRow = row === undefined ? " head" : ` row ${row}`;
       const place = kind === "Json" || kind === "Memory" ? "" : kind === "Shared" ? inRow : `${inRow} field ${field}`;
       return new JsgenError(`not a job: ${kind}${place}`, { status, rule: kind, row, field: place.includes("field") ? field : undefined });
     }
@@ -35,7 +35,7 @@ export function errorOf({ status, rule, row, field, start }) {
 export function errorOfLine(status, line) {
   const refused = /^refused: (\w+) at (\d+)$/.exec(line);
   if (refused) return errorOf({ status: 1, rule: numberOf(RULES, refused[1]), start: Number(refused[2]) });
-  const fault = /^not a job: (\w+)(?: row (\d+))?(?: field (\d+))?$/.exec(line);
+  const fault = /^not a job: (\w+)(?: head| row (\d+))?(?: field (\d+))?$/.exec(line);
   if (fault) return errorOf({ status: 3, rule: numberOf(FAULTS, fault[1]), row: wholeOf(fault[2]), field: wholeOf(fault[3]) });
   return new JsgenError(line || `status ${status}`, { status });
 }

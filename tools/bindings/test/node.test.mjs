@@ -35,7 +35,7 @@ test("a tree is printed under its settings", { skip }, () => {
   assert.deepEqual(print(tree), { code: 'import { a } from "b";\nexport class C extends a {\n\t#d = 1;\n}\n', map: null });
   assert.equal(print(tree, { source: SOURCE, minify: true }).code, 'import{a}from"b";export class C extends a{#d=1}');
   assert.equal(print(tree, { indent: 2, singleQuote: true }).code, "import { a } from 'b';\nexport class C extends a {\n  #d = 1;\n}\n");
-  assert.equal(print(parsed('x("é")'), { asciiOnly: true }).code, 'x("\\xE9");\n');
+  assert.equal(print(parsed('x("é")'), { asciiOnly: true }).code, 'x("\\u00E9");\n');
 });
 
 test("a job is printed, as a string or as bytes", { skip }, () => {
@@ -52,7 +52,7 @@ test("faults are told by kind and place", { skip }, () => {
     ["", "not a job: Json", {}],
     [new Uint8Array([0xff]), "not a job: Json", {}],
     ['{"rows":[{"type":"Nothing"}]}', "not a job: Wrong row 0 field 0", { row: 0, field: 0 }],
-    ['{"rows":5}', /^not a job: Wrong field \d+$/, null],
+    ['{"rows":5}', /^not a job: Wrong head field \d+$/, null],
   ]) {
     const fault = faultOf(job);
     if (message instanceof RegExp) assert.match(fault.message, message);
