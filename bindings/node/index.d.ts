@@ -9,14 +9,27 @@ export interface Settings {
   indent?: "tab" | number;
   /** Tables by which names are printed (docs/FORMAT.md). */
   names?: object | null;
-  /** Other options of a job (docs/FORMAT.md). */
-  options?: object;
+  /** Other options of a job (docs/FORMAT.md); `source_map_path` names the source in the map. */
+  options?: { source_map_path?: string; [option: string]: unknown };
+  /** Whether a map is wanted too, which takes `source` and the package source-map. */
+  sourceMap?: boolean;
+}
+
+/** A source map of version 3. */
+export interface SourceMap {
+  version: 3;
+  /** The name of the printed file, where it is known. */
+  file?: string;
+  sources: string[];
+  sourcesContent: string[];
+  names: string[];
+  mappings: string;
 }
 
 export interface Printed {
   code: string;
-  /** No source map is made yet. */
-  map: null;
+  /** Null where none is asked for. */
+  map: SourceMap | null;
 }
 
 /** A job that isn't printed. Its message is the line that the program says. */

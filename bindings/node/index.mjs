@@ -3,13 +3,15 @@ import { spawnSync } from "node:child_process";
 import { createRequire } from "node:module";
 import { fileURLToPath } from "node:url";
 import { jobOf } from "../../tools/estree/convert.mjs";
+import { sourceMapOf } from "../../tools/estree/source_map.mjs";
 import { JsgenError, errorOf, errorOfLine } from "./faults.mjs";
 
 export { JsgenError };
 
 const PROGRAM = process.env.JSGEN ?? fileURLToPath(new URL("../../jsgen", import.meta.url));
 const NAMES = { minify: "minify", asciiOnly: "ascii_only", singleQuote: "single_quote" };
-const OTHERS = new Set(["source", "indent", "names", "options"]);
+const OTHERS = new Set(["source", "indent", "names", "options", "sourceMap"]);
+const UNNAMED = "<source>";
 
 /** The addon, or null where it isn't built. */
 export const addon = loaded();
@@ -26,7 +28,7 @@ function loaded() {
 export function printJob(job) {
   if (typeof job !== "string" && !(job instanceof Uint8Array)) throw new TypeError("a job is a string or a Uint8Array");
   const bytes = typeof job === "string" ? Buffer.from(job) : job;
-  return addon ? byAddon(bytes) : byProgram(bytes);
+  return addon ? byAddon(bytes) : byProgram("print", bytes);
 }
 
 function byAddon(bytes) {
@@ -35,8 +37,8 @@ function byAddon(bytes) {
   return answer.code;
 }
 
-function byProgram(bytes) {
-  const ran = spawnSync(PROGRAM, ["print"], { input: bytes, maxBuffer: 2 ** 30 });
+function byProgram(word, bytes) {
+  const ran = spawnSync(PROGRAM, [word], { input: bytes, maxBuffer: 2 ** 30 });
   if (ran.error) throw ran.error;
   if (ran.status !== 0) throw errorOfLine(ran.status ?? ran.signal, ran.stderr.toString("utf8").trim());
   return ran.stdout.toString("utf8");
@@ -45,13 +47,20 @@ function byProgram(bytes) {
 /** Prints an ESTree tree of a module. */
 export function print(program, settings = {}) {
   if (program === null || typeof program !== "object") throw new TypeError("a program is an ESTree node");
+  const options = optionsOf(settings);
   const job = jobOf(program.type === "File" ? program.program : program, {
     source: settings.source,
     names: settings.names ?? null,
-    options: optionsOf(settings),
+    options,
     spans: settings.source !== undefined,
   });
-  return { code: printJob(JSON.stringify(job)), map: null };
+  const bytes = Buffer.from(JSON.stringify(job));
+  return { code: printJob(bytes), map: settings.sourceMap ? mapOf(bytes, options.source_map_path, settings.source) : null };
+}
+
+// The map is the program's, also where the code is the addon's.
+function mapOf(bytes, name, source) {
+  return sourceMapOf(byProgram("map", bytes), { name, source });
 }
 
 function optionsOf(settings) {
@@ -61,6 +70,10 @@ function optionsOf(settings) {
     else if (!OTHERS.has(name)) throw new TypeError(`unknown setting ${name}`);
   }
   if (settings.indent !== undefined) Object.assign(options, indentOf(settings.indent));
+  if (settings.sourceMap !== undefined && flag("sourceMap", settings.sourceMap)) {
+    if (typeof settings.source !== "string") throw new TypeError("sourceMap wants the source");
+    options.source_map_path ??= UNNAMED;
+  }
   return options;
 }
 

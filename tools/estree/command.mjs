@@ -1,6 +1,9 @@
 // What the commands of this folder have in common: their words, the program, and the line on standard error.
 import { spawnSync } from "node:child_process";
+import { writeFileSync } from "node:fs";
+import { basename, dirname, relative, resolve, sep } from "node:path";
 import { fileURLToPath } from "node:url";
+import { dataUrl, linked } from "./source_map.mjs";
 
 const JSGEN = process.env.JSGEN ?? fileURLToPath(new URL("../../jsgen", import.meta.url));
 const FLAGS = { "--minify": "minify", "--ascii-only": "ascii_only", "--single-quote": "single_quote" };
@@ -17,11 +20,54 @@ export function optionsOf(words) {
   return { options: Object.fromEntries(asked), others };
 }
 
+/** Takes a word out of the words, and says whether it was there. */
+export function isTaken(words, word) {
+  const at = words.indexOf(word);
+  if (at >= 0) words.splice(at, 1);
+  return at >= 0;
+}
+
+/** Takes a word out of the words with the one behind it, and gives that: undefined where there is none, null where the word isn't there. */
+export function takenBehind(words, word) {
+  const at = words.indexOf(word);
+  return at < 0 ? null : words.splice(at, 2)[1];
+}
+
+/** Takes a word out with the whole number behind it, and gives that. */
+export function numberBehind(words, word, otherwise) {
+  const text = takenBehind(words, word);
+  if (text === null) return otherwise;
+  const number = Number(text);
+  if (!Number.isSafeInteger(number) || number < 0) throw new Refused(`${word} wants a whole number`);
+  return number;
+}
+
 /** Runs `./jsgen print` on a job, or the program that the variable JSGEN names: its status, its code and its line on standard error. */
 export function printed(job) {
-  const ran = spawnSync(JSGEN, ["print"], { input: JSON.stringify(job), maxBuffer: 2 ** 28 });
+  const { status, text, line } = answered("print", job);
+  return { status, code: text, line };
+}
+
+/** The same of any word of the program: what it writes is the text. */
+export function answered(word, job) {
+  const ran = spawnSync(JSGEN, [word], { input: JSON.stringify(job), maxBuffer: 2 ** 28 });
   if (ran.error) throw ran.error;
-  return { status: ran.status ?? ran.signal, code: ran.stdout.toString("utf8"), line: ran.stderr.toString("utf8").trim() };
+  return { status: ran.status ?? ran.signal, text: ran.stdout.toString("utf8"), line: ran.stderr.toString("utf8").trim() };
+}
+
+/** The name of a source file in the map that stands beside the file, or in the code where no file is given. */
+export function nameInMap(path, file) {
+  return file === null ? path : relative(dirname(resolve(file)), resolve(path)).split(sep).join("/");
+}
+
+/** Writes the code to the file and its map beside it, or both to standard output. The map may be null, and so may the file. */
+export function write(code, map, file) {
+  if (file === null) process.stdout.write(map === null ? code : linked(code, dataUrl(map)));
+  else if (map === null) writeFileSync(file, code);
+  else {
+    writeFileSync(file, linked(code, encodeURIComponent(`${basename(file)}.map`)));
+    writeFileSync(`${file}.map`, `${JSON.stringify(map)}\n`);
+  }
 }
 
 /** Runs a command. What it refuses is a line on standard error and status 1. */

@@ -1,22 +1,5 @@
-// The parser `acorn`: the one that is installed for this folder or for node (`npm install acorn`), or Debian's (`node-acorn`).
-import { createRequire } from "node:module";
-
-const PLACES = [
-  [`${process.cwd()}/`, "acorn"],
-  [import.meta.url, "acorn"],
-  [import.meta.url, "/usr/share/nodejs/acorn"],
-];
-
-function found() {
-  for (const [from, name] of PLACES) {
-    try {
-      return createRequire(from)(name);
-    } catch (error) {
-      if (error.code !== "MODULE_NOT_FOUND") throw error;
-    }
-  }
-  throw new Error("acorn is not installed: `npm install acorn`, or Debian's package node-acorn");
-}
+// The parser `acorn`: the one that is installed for this folder or for node, or Debian's (packages.mjs).
+import { packageNamed } from "./packages.mjs";
 
 let acorn = null;
 
@@ -25,7 +8,7 @@ let acorn = null;
  * into the program's member `comments`; a hashbang is none. Throws a SyntaxError of acorn's.
  */
 export function parsed(text, { parentheses = false, comments = false } = {}) {
-  acorn ??= found();
+  acorn ??= packageNamed("acorn");
   const seen = [];
   const options = { ecmaVersion: "latest", sourceType: "module", allowHashBang: true, preserveParens: parentheses, onComment: comments ? seen : null };
   const program = acorn.parse(text, options);
@@ -35,6 +18,6 @@ export function parsed(text, { parentheses = false, comments = false } = {}) {
 
 /** The version of the parser. */
 export function parserVersion() {
-  acorn ??= found();
+  acorn ??= packageNamed("acorn");
   return acorn.version;
 }

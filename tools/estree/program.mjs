@@ -18,3 +18,10 @@ export function program() {
   if (!existsSync(process.env.JSGEN)) throw new Error(`JSGEN names no program that is there: ${process.env.JSGEN}`);
   return process.env.JSGEN;
 }
+
+/** Why tests of the word `map` are left out: false where they aren't. */
+export const unmapped = unbuilt || (answersUsage("map") && "the program has no word `map`");
+
+function answersUsage(word) {
+  return spawnSync(program(), [word], { input: '{"rows":[{"type":"Program","kind":"module"}]}' }).status === 2;
+}

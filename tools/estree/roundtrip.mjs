@@ -3,14 +3,12 @@
 // printed by tables, with that of the source in which these names alone are renamed.
 // With --random, so many programs that are made up are printed so too. A run that fails is told by its file and line (of a program
 // that is made up, its number stands for the file), its set of options and what differs, the first ten of them.
-import { spawnSync } from "node:child_process";
-import { mkdtempSync, readFileSync, readdirSync, rmSync, statSync, writeFileSync } from "node:fs";
-import { tmpdir } from "node:os";
-import { join } from "node:path";
-import { Refused, printed, run } from "./command.mjs";
-import { jobOf, NotRead } from "./convert.mjs";
+import { readFileSync } from "node:fs";
+import { Refused, numberBehind, printed, run } from "./command.mjs";
+import { jobOf } from "./convert.mjs";
 import { firstDifference, normal } from "./normal.mjs";
 import { parsed } from "./parser.mjs";
+import { filesBelow, isModule, isTakenByV8 } from "./programs.mjs";
 import { randomProgram } from "./random.mjs";
 import { isField } from "./reads.mjs";
 import { LETTERS, SIGNS, renamedSource, renaming } from "./scopes.mjs";
@@ -138,18 +136,6 @@ function differenceOf(wanted, code) {
   }
 }
 
-// Whether V8 takes a text as a module: acorn can't read a pattern that begins with `=` right behind `for await (..)`.
-function isTakenByV8(code) {
-  const folder = mkdtempSync(join(tmpdir(), "jsgen-"));
-  try {
-    const file = join(folder, "code.mjs");
-    writeFileSync(file, code);
-    return spawnSync(process.execPath, ["--check", file]).status === 0;
-  } finally {
-    rmSync(folder, { recursive: true });
-  }
-}
-
 // The offset of the first statement whose own text, as it is printed, does not parse.
 function firstUnparsed(text, asked) {
   const isUnparsed = ({ start, end }) => {
@@ -172,35 +158,6 @@ function tryFile(tally, path) {
   const source = readFileSync(path, "utf8");
   if (isModule(source)) tryProgram(tally, new Tried(path, source));
   else tally.passed++;
-}
-
-// Whether the text is a module, all of which is read.
-function isModule(source) {
-  try {
-    jobOf(parsed(source), { spans: false });
-    return true;
-  } catch (error) {
-    if (error instanceof SyntaxError || error instanceof NotRead) return false;
-    throw error;
-  }
-}
-
-function* filesBelow(path) {
-  if (!statSync(path).isDirectory()) return yield path;
-  for (const entry of readdirSync(path, { withFileTypes: true })) {
-    const inside = join(path, entry.name);
-    if (entry.isDirectory()) yield* filesBelow(inside);
-    else if (entry.isFile() && /\.[cm]?js$/.test(entry.name)) yield inside;
-  }
-}
-
-// The number behind a word, which is taken out with it.
-function numberBehind(words, word, otherwise) {
-  const at = words.indexOf(word);
-  if (at < 0) return otherwise;
-  const number = Number(words.splice(at, 2)[1]);
-  if (!Number.isSafeInteger(number) || number < 0) throw new Refused(`${word} wants a whole number`);
-  return number;
 }
 
 await run("node roundtrip.mjs [--random COUNT [--seed NUMBER]] [DIRECTORY ..]", (words) => {

@@ -42,19 +42,24 @@ export function renaming(program, letters = LETTERS) {
 }
 
 /** The source with the new names in it: what the job with these tables is to print, in other words. */
-export function renamedSource(source, { symbols, references, symbolOf, referenceOf, privateOf, shorthand, specifiers }) {
+export function renamedSource(source, names) {
+  let text = "";
+  let at = 0;
+  for (const [node, written] of editsOf(names)) {
+    text += source.slice(at, node.start) + written;
+    at = node.end;
+  }
+  return text + source.slice(at);
+}
+
+/** The nodes in whose place something else stands there, in order, each with that. */
+export function editsOf({ symbols, references, symbolOf, referenceOf, privateOf, shorthand, specifiers }) {
   const bindings = [...symbolOf].map(([node, symbol]) => [node, symbols[symbol]]);
   const looked = [...referenceOf].filter(([, reference]) => references[reference] !== null);
   const uses = looked.map(([node, reference]) => [node, symbols[references[reference]]]);
   const privates = [...privateOf].map(([node, name]) => [node, `#${name}`]);
-  const edits = [...bindings, ...uses, ...privates].sort(([one], [other]) => one.start - other.start);
-  let text = "";
-  let at = 0;
-  for (const [node, name] of edits) {
-    text += source.slice(at, node.start) + writtenOut(node, name, shorthand, specifiers);
-    at = node.end;
-  }
-  return text + source.slice(at);
+  const inOrder = [...bindings, ...uses, ...privates].sort(([one], [other]) => one.start - other.start);
+  return inOrder.map(([node, name]) => [node, writtenOut(node, name, shorthand, specifiers)]);
 }
 
 // The new name, beside the old one where that stood for two.

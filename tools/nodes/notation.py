@@ -6,13 +6,15 @@
     DOT              the dot of a member
     END SEMI         the end of a statement, and a semicolon that is due
     BEGIN            the expression of an expression statement begins here
-    m M              the mark of the span's start, and of its end; `^ m 'x'` is a word with its mark
+    m M              the mark of the span's start, and of its end; `^ m 'x'` is a word with its mark, and `^ m f` a child with the row's
+    TABM             indentation, and where there may be any the mark of the span's start behind it
+    LINK f           a child at the row's own place, with the mark behind it where that is the place of the object of a link
     C K              the comments that belong to the span's start; where one of them is a property-key annotation
     HEAD             C TAB ^ m
     NAME f           a name as it is written, with its mark
     WORD f           the word of a field of words
     PATTERN f g      a regular expression by its pattern and its flags
-    UNARY f          an operator before its operand
+    UNARY f          an operator before its operand, with the mark of the span's start
     f                a child at the level Lowest, with what is forbidden here forbidden there; f@L+ the same at the level L;
                      f@L at the level L, with nothing forbidden; f@L% where calls may stand; f@= at the row's own place
     LIST f           children with a comma and a soft space between, each as a child f would stand there
@@ -120,6 +122,8 @@ class Reader:
         marked = self.next_is("m")
         if marked:
             self.take()
+        if marked and self.left[0][0] == "" and self.left[0][1] != "WORD":
+            return [("plain", "apart"), ("mark",)]
         kind, text = self.take()
         if (kind, text) == ("", "WORD"):
             return [("mark",)] * marked + self.read_WORD()
@@ -141,6 +145,12 @@ class Reader:
 
     def read_HEAD(self):
         return [("comments", "all_of_them"), ("plain", "indentation"), ("marked_word", self.take()[1])]
+
+    def read_TABM(self):
+        return [("marked_indentation",)]
+
+    def read_LINK(self):
+        return [("linked", self.field(self.take()[1], ["Expression"]))]
 
     def read_NAME(self):
         return [("name", self.field(self.take()[1], ["text"]))]

@@ -1,8 +1,7 @@
 -- What is answered of a job that was read.
-use Rattle.std.specs.Prelude.{◌≡◌, ⊤, Contains, String, string_bytes, Result, Ok, Err}
+use Rattle.std.specs.Prelude.{◌≡◌, ⊤, ℕ, List, Contains, String, string_bytes, Result, Ok, Err}
 use Rattle.std.specs.declared.alloc.Global.{Global}
 use Rattle.jsgen_tree.specs.Job.{JobData}
-use Rattle.jsgen_model.specs.Spell.{text_bytes}
 use Rattle.jsgen_model.specs.Valid.{job_breaches, IsValid}
 use Rattle.jsgen_check.specs.Verdict.{told}
 use Rattle.jsgen_jobs.specs.declared.JobFault.{JobFault}
@@ -19,7 +18,7 @@ abbrev pub VerdictOn : JobData → Result (Unit {0}) JobFault → Type 0
 VerdictOn job (Ok done) = IsValid job
 VerdictOn job (Err fault) = IsFaultOf job fault
 
--- its text
-abbrev pub AnswersOn : JobData → Result (String Global) JobFault → Type 0
-AnswersOn job (Ok text) = IsValid job × (string_bytes text ≡ text_bytes job)
-AnswersOn job (Err fault) = IsFaultOf job fault
+-- a text of it
+abbrev pub AnswersOn : (JobData → List ℕ) → JobData → Result (String Global) JobFault → Type 0
+AnswersOn wanted job (Ok text) = IsValid job × (string_bytes text ≡ wanted job)
+AnswersOn wanted job (Err fault) = IsFaultOf job fault

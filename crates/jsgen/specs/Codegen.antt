@@ -1,5 +1,5 @@
 -- What a printer of programs shows of itself.
-use Rattle.std.specs.Prelude.{◌≡◌, ℕ, List, Bool, true, Result, is_err}
+use Rattle.std.specs.Prelude.{◌≡◌, ℕ, List, [], Bool, true, Option, Some, None, Result, is_err, string_bytes}
 use Rattle.std.specs.Str.{encode_utf8_all}
 use Rattle.jsgen_tree.specs.Options.{Options, options_plain}
 use Rattle.jsgen_tree.specs.Job.{Tables, JobData}
@@ -7,7 +7,10 @@ use Rattle.jsgen_tree.specs.Scoping.{tables_plain}
 use Rattle.jsgen_tree.specs.Tree.{Tree}
 use Rattle.jsgen_model.specs.Layout.{Pen}
 use Rattle.jsgen_model.specs.Printing.{Reaches}
-use Rattle.jsgen_printer.specs.Printer.{pen_of}
+use Rattle.jsgen_map.specs.Marks.{MapOf}
+use Rattle.jsgen_map.specs.Names.{texts}
+use Rattle.jsgen_map.specs.declared.source_map.SourceMap.{SourceMap}
+use Rattle.jsgen_printer.specs.Printer.{pen_of, at_depth}
 use Rattle.jsgen_printer.specs.Steps as steps
 use Rattle.jsgen.specs.declared.codegen.Codegen.{Codegen}
 
@@ -45,3 +48,12 @@ pub record Prints {T E : Type 0} (old new : Codegen) (pen : Pen) (result : Resul
   pub printed : has_printed new ≡ true
   pub options : options_of new ≡ options_of old
   pub tables : tables_of new ≡ tables_of old
+
+-- the pen at a level, which from here on leaves marks that lead to this source
+abbrev pub mapped_from : ℕ → List ℕ → Pen → Pen
+mapped_from depth source pen = at_depth depth (record pen { style = record pen.style { source = Some source }; marks = [] })
+
+-- the map of the marks of a pen, which lead to this source, under this path
+abbrev pub MapsTo : Pen → List ℕ → List ℕ → Option SourceMap → Type 0
+MapsTo pen source path None = ⊥
+MapsTo pen source path (Some m) = (string_bytes m.source_name ≡ path) × (m.source_content.now ≡ source) × MapOf (encode_utf8_all pen.code) source pen.marks (texts m.names.items) m.tokens.items

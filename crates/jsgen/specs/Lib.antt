@@ -1,3 +1,4 @@
 pub mod Codegen
 pub mod Context
 pub mod Answer
+pub mod Mapped

@@ -20,11 +20,13 @@ ghost use Rattle.jsgen_check.specs.Verdict.{told};
 ghost use Rattle.jsgen_printer.specs.Printer.{pen_of, by_tables, name_written, unless_empty};
 ghost use Rattle.jsgen_place.specs.Place.{free, at_level};
 ghost use Rattle.jsgen.specs.Context.{context_at};
+ghost use Rattle.jsgen.specs.Mapped.{HasMap, NamesStandIn};
 
+use crate::mapped::{print_mapped, print_unmapped};
 use jsgen_alone::{PrintAlone, PrintAtLevel};
 use jsgen_check::{check_expression, check_program};
+use jsgen_map::SourceMap;
 use jsgen_model::TreeFault;
-use jsgen_nodes::statements::print_program;
 use jsgen_place::Place;
 use jsgen_printer::{Context, Printer};
 use jsgen_syntax::{JsStr, Memory, Precedence};
@@ -58,10 +60,11 @@ impl From<Memory> for CodegenError {
     }
 }
 
-/// What a program was printed as.
+/// What a program was printed as, and its source map, where a path is set for one.
 #[derive(Drop)]
-pub struct CodegenReturn {
+pub struct CodegenReturn<'a> {
     pub code: String,
+    pub map: Option<SourceMap<'a>>,
 }
 
 /// A printer: of a whole program by `build`, or of pieces of code, one call after another. It holds the text so far, and what
@@ -326,8 +329,9 @@ impl<'a> Codegen<'a> {
     }
 
     /// Prints a program, which `check` has to accept, before anything else is printed: its first line stands at the level
-    /// `initial_indent`, where print calls begin at level 0. The only error is want of memory.
-    pub fn build(self, program: &Program) -> Result<CodegenReturn, CodegenError>
+    /// `initial_indent`, where print calls begin at level 0. The source map, if a path is set, leads to the program's source. The
+    /// only error is want of memory.
+    pub fn build(self, program: &'a Program) -> Result<CodegenReturn<'a>, CodegenError>
         requires unprinted { has_printed self ≡ false }
         requires valid { IsValid (job_for self (program_plain program.now)) }
 
@@ -338,16 +342,19 @@ impl<'a> Codegen<'a> {
         // The grammar reads the text of a plain and quiet program as that program, up to its normal form.
         ensures reads { IfOk result (λ printed. IsPlain (program_plain program.now) → IsQuiet (job_for self.entry (program_plain program.now))
             → IsReadAs (chars (string_bytes printed.code)) (job_for self.entry (program_plain program.now))) }
+
+        // The source map of that text, by the marks of its layout.
+        ensures map { IfOk result (λ printed. HasMap (job_for self.entry (program_plain program.now)) printed.map) }
+
+        // Where each name stands in the text, the map leads to its place in the source.
+        ensures names_stand { IfOk result (λ printed. NamesStandIn (job_for self.entry (program_plain program.now)) printed.map) }
     {
-        let mut p = self.printer;
-        p.set_depth(self.options.initial_indent);
-        print_program(program, &mut p, Place::among_statements());
-        if p.has_failed() {
-            return Err(CodegenError::Memory);
+        let printer = self.printer;
+        let options = self.options;
+        match &options.source_map_path {
+            Some(path) => print_mapped(self.alloc, path, options.initial_indent, printer, program),
+            None => print_unmapped(options.initial_indent, printer, program),
         }
-        Ok(CodegenReturn {
-            code: p.into_string(),
-        })
     }
 }
 

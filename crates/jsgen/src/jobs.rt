@@ -1,18 +1,24 @@
 // From the bytes of a job to its text, or to what is wrong.
-ghost use Rattle.std.specs.Prelude.{◌≡◌, false, option_map};
+ghost use Rattle.std.specs.Prelude.{◌≡◌, false, option_map, IfOk, string_bytes};
 ghost use Rattle.jsgen_tree.specs.Options.{options_plain};
 ghost use Rattle.jsgen_tree.specs.Scoping.{scoping_plain, private_plain};
-ghost use Rattle.jsgen_jobs.specs.Job.{Reads, Verdict, Answers, Tells};
+ghost use Rattle.jsgen_jobs.specs.Job.{Reads, Verdict, Answers, AnswersBy, Tells};
+ghost use Rattle.jsgen_jobs.specs.MapText.{map_bytes};
+ghost use Rattle.jsgen_model.specs.Spell.{text_bytes};
 ghost use Rattle.jsgen_check.specs.Verdict.{told};
 ghost use Rattle.jsgen_tree.specs.Plain.{program_plain};
 ghost use Rattle.jsgen.specs.Codegen.{options_of, tables_of, job_for, has_printed};
 ghost use Rattle.jsgen.specs.Answer.{VerdictOn, AnswersOn};
+ghost use Rattle.jsgen.specs.Mapped.{lines_of};
 
 use crate::codegen::Codegen;
 use jsgen_fields::InputFault;
 use jsgen_jobs::{JobFault, PrintJobs};
+use jsgen_map::SourceMap;
+use jsgen_map_text::map_text;
 use jsgen_model::TreeFault;
 use jsgen_rows::{Job, read_job};
+use jsgen_syntax::Memory;
 use jsgen_tree::{CodegenOptions, PrivateMappings, Program, Scoping};
 use std::alloc::Global;
 
@@ -74,9 +80,9 @@ fn verdict_on(printer: Codegen<'_>, program: &Program) -> Result<(), JobFault>
 }
 
 // The text of a program that keeps them.
-fn text_of(printer: Codegen<'_>, program: &Program) -> Result<String, JobFault>
+fn text_of<'a>(printer: Codegen<'a>, program: &'a Program) -> Result<String, JobFault>
     requires { has_printed printer ≡ false }
-    ensures { AnswersOn (job_for printer.entry (program_plain program.now)) result }
+    ensures { AnswersOn text_bytes (job_for printer.entry (program_plain program.now)) result }
 {
     if let Err(fault) = printer.check(program) {
         return Err(JobFault::Refused(fault));
@@ -84,6 +90,37 @@ fn text_of(printer: Codegen<'_>, program: &Program) -> Result<String, JobFault>
     match printer.build(program) {
         Ok(printed) => Ok(printed.code),
         Err(_) => Err(JobFault::Memory),
+    }
+}
+
+// The lines of its source map.
+fn map_text_of<'a>(
+    alloc: Global,
+    printer: Codegen<'a>,
+    program: &'a Program,
+) -> Result<String, JobFault>
+    requires { has_printed printer ≡ false }
+    ensures { AnswersOn map_bytes (job_for printer.entry (program_plain program.now)) result }
+{
+    if let Err(fault) = printer.check(program) {
+        return Err(JobFault::Refused(fault));
+    }
+    match printer.build(program) {
+        Ok(printed) => match lines_of(alloc, &printed.map) {
+            Ok(lines) => Ok(lines),
+            Err(_) => Err(JobFault::Memory),
+        },
+        Err(_) => Err(JobFault::Memory),
+    }
+}
+
+// The lines of a map, and nothing where there is none.
+fn lines_of(alloc: Global, map: &Option<SourceMap<'_>>) -> Result<String, Memory>
+    ensures { IfOk result (λ s. string_bytes s ≡ lines_of map.now) }
+{
+    match map {
+        Some(map) => map_text(alloc, map),
+        None => Ok(String::new(alloc)),
     }
 }
 
@@ -139,6 +176,31 @@ pub fn print_job(alloc: Global, bytes: &[u8]) -> Result<String, JobFault>
     }
 }
 
+/// Reads a job from its bytes, and gives the lines of its source map: a line for each token, with line and column in the text and
+/// line and column in the source, from 0 and in units of UTF-16, and the number of a name; and behind them the word `name` and each
+/// name as JSON. Where no path is set for a map there are none. What is wrong is answered as by `print_job`.
+pub fn map_job(alloc: Global, bytes: &[u8]) -> Result<String, JobFault>
+    ensures answer { AnswersBy map_bytes bytes.now result }
+    ensures rule { Tells told bytes.now result }
+{
+    match job_in(alloc, bytes) {
+        Ok(
+            Job {
+                options,
+                scoping,
+                private,
+                program,
+            },
+        ) => {
+            let printer = printer_for(alloc, options, &scoping, &private);
+            let lines = map_text_of(alloc, printer, &program);
+            let_go(program, scoping, private);
+            lines
+        }
+        Err(fault) => Err(fault),
+    }
+}
+
 /// This library, where a caller is generic in what prints jobs.
 pub struct Library;
 
@@ -147,6 +209,10 @@ impl PrintJobs for Library {
 
     fn print_job(alloc: Global, bytes: &[u8]) -> Result<String, JobFault> {
         print_job(alloc, bytes)
+    }
+
+    fn map_job(alloc: Global, bytes: &[u8]) -> Result<String, JobFault> {
+        map_job(alloc, bytes)
     }
 
     fn check_job(alloc: Global, bytes: &[u8]) -> Result<(), JobFault> {

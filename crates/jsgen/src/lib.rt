@@ -7,12 +7,14 @@ mod gens;
 mod impls;
 mod jobs;
 mod laws;
+mod mapped;
 
 pub use codegen::{Codegen, CodegenError, CodegenReturn};
 pub use gens::{Gen, GenExpr};
-pub use jobs::{Library, check_job, print_job};
+pub use jobs::{Library, check_job, map_job, print_job};
 pub use jsgen_fields::{At, InputFault};
 pub use jsgen_jobs::{JobFault, PrintJobs};
+pub use jsgen_map::{SourceMap, Token};
 pub use jsgen_model::{TreeFault, plain_by_types};
 pub use jsgen_printer::{Context, Operator};
 pub use jsgen_rows::{Job, job_faults_are_told, read_job};

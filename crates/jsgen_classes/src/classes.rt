@@ -5,12 +5,12 @@ ghost use Rattle.jsgen_tree.specs.Tree.{optional};
 ghost use Rattle.jsgen_tree.specs.Rows.{class_row, class_body_row, binding_identifier_row, in_expression};
 ghost use Rattle.jsgen_place.specs.Place.{in_brackets};
 ghost use Rattle.jsgen_model.specs.Items.{◌⊕◌, comments, all_of_them, soft_space, word, hard_space};
-ghost use Rattle.jsgen_model.specs.Spell.{spell, items_if, spell_behind_word, spell_heritage};
+ghost use Rattle.jsgen_model.specs.Spell.{spell, linked_items, items_if, spell_behind_word, spell_heritage};
 ghost use Rattle.jsgen_printer.specs.Steps.{Lays};
 ghost use Rattle.jsgen_classes.specs.Classes.{from_word};
 
 use jsgen_inside::{Nested, PrintInside, print_binding_identifier};
-use jsgen_lists::print_class_braces;
+use jsgen_lists::{print_class_braces, print_linked};
 use jsgen_place::Place;
 use jsgen_printer::Printer;
 use jsgen_syntax::Precedence;
@@ -84,12 +84,12 @@ fn print_heritage<N, L: PrintInside<N>>(heritage: &Option<ExpressionNode<N>>, p:
 }
 
 fn print_extends<N, L: PrintInside<N>>(heritage: &ExpressionNode<N>, p: &mut Printer<'_>)
-    ensures { Lays p.old p.new (soft_space ⊕ (word (codes "extends") ⊕ (hard_space ⊕ spell (in_expression L.plain heritage.now) (in_brackets Postfix)))) }
+    ensures { Lays p.old p.new (soft_space ⊕ (word (codes "extends") ⊕ (hard_space ⊕ linked_items (in_expression L.plain heritage.now) (spell (in_expression L.plain heritage.now) (in_brackets Postfix))))) }
 {
     p.print_soft_space();
     p.print_word("extends");
     p.print_hard_space();
-    L::print(heritage.get(), p, Place::in_brackets(Precedence::Postfix));
+    print_linked::<_, Nested<L>>(heritage, p, Place::in_brackets(Precedence::Postfix));
 }
 
 /// The braces and what is in them, where the class's private names have their new ones.
@@ -100,8 +100,7 @@ pub fn print_class_body<N, L: PrintInside<N>>(
 )
     ensures { Lays p.old p.new (spell (class_body_row L.plain node.now) place) }
 {
-    p.print_mark(node.span);
     let outer = p.enter_class();
-    print_class_braces::<_, Nested<L>>(&node.body, p, place.member());
+    print_class_braces::<_, Nested<L>>(node.span, &node.body, p, place.member());
     p.leave_class(outer);
 }

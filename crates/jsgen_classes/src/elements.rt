@@ -22,7 +22,7 @@ pub fn print_static_block<N, M: PrintInClass<N>>(
     begin_element(place.in_list, node.span.start, p);
     p.print_mark(node.span);
     print_key_word("static", p);
-    M::print_block(&node.body, p);
+    M::print_block(node.span, &node.body, p);
     p.print_soft_line_if(place.in_list);
 }
 

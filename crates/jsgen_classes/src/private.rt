@@ -6,8 +6,8 @@ ghost use Rattle.jsgen_tree.specs.Rows.{private_identifier_row, private_field_ex
 ghost use Rattle.jsgen_model.specs.Spell.{spell};
 ghost use Rattle.jsgen_printer.specs.Steps.{Lays};
 
-use jsgen_inside::PrintInside;
-use jsgen_lists::print_name_link;
+use jsgen_inside::{Nested, PrintInside};
+use jsgen_lists::{print_linked, print_name_link};
 use jsgen_place::Place;
 use jsgen_printer::Printer;
 use jsgen_syntax::{BinaryOperator, Precedence};
@@ -27,7 +27,7 @@ pub fn print_private_field_expression<N, L: PrintInside<N>>(
 )
     ensures { Lays p.old p.new (spell (private_field_expression_row L.plain node.now) place) }
 {
-    L::print(node.object.get(), p, place.linked());
+    print_linked::<_, Nested<L>>(&node.object, p, place.linked());
     print_name_link(node.optional, p);
     print_private_identifier(&node.field, p, place.child(Precedence::Lowest));
 }

@@ -1,13 +1,15 @@
 // What the head of a loop, a label or a case is followed by.
 ghost use Rattle.std.specs.Prelude.{◌≡◌};
-ghost use Rattle.jsgen_model.specs.Items.{◌⊕◌, body_space};
-ghost use Rattle.jsgen_model.specs.Spell.{spell, shape, shape_of_type, body_items};
-ghost use Rattle.jsgen_place.specs.Place.{within_statement, among_statements};
+ghost use Rattle.jsgen_model.specs.Items.{◌⊕◌, body_space, link_mark};
+ghost use Rattle.jsgen_model.specs.Spell.{spell, shape, shape_of_type, body_items, span_if};
+ghost use Rattle.jsgen_tree.specs.Tree.{span_of};
+ghost use Rattle.jsgen_place.specs.Place.{within_statement, among_statements, is_at_link};
 ghost use Rattle.jsgen_printer.specs.Steps.{Lays};
 
 use crate::PrintInside;
 use jsgen_place::{Place, Shape};
 use jsgen_printer::Printer;
+use jsgen_syntax::Span;
 use jsgen_tree::NodeType;
 
 fn shape(node_type: NodeType) -> Shape
@@ -26,6 +28,22 @@ pub fn shape_of<N, L: PrintInside<N>>(statement: &N) -> Shape
     ensures { result ≡ shape (L.plain statement.now) }
 {
     shape(L::node_type(statement))
+}
+
+/// What stands at a row's own place, with the mark behind it where that is the place of the object of a link.
+pub fn print_at_link<N, L: PrintInside<N>>(node: &N, p: &mut Printer<'_>, place: Place)
+    ensures { Lays p.old p.new (spell (L.plain node.now) place ⊕ link_mark (span_if (is_at_link place) (span_of (L.plain node.now)))) }
+{
+    L::print(node, p, place);
+    print_link_if(place.is_at_link(), L::span(node), p);
+}
+
+fn print_link_if(test: bool, span: Span, p: &mut Printer<'_>)
+    ensures { Lays p.old p.new (link_mark (span_if test span)) }
+{
+    if test {
+        p.print_link_mark(span);
+    }
 }
 
 /// A statement as the body of another one: a block goes on with the line.

@@ -9,6 +9,7 @@ ghost use Rattle.jsgen_printer.specs.Steps.{Lays};
 
 use jsgen_place::Place;
 use jsgen_printer::Printer;
+use jsgen_syntax::Span;
 use jsgen_tree::{ExpressionNode, Function, PropertyKey, StatementNode};
 
 /// How the parts of members of classes are printed, functions among them, whose own rows ask `PrintInside`.
@@ -32,7 +33,7 @@ pub trait PrintInClass<N> {
     fn print_method(function: &Function<N>, p: &mut Printer<'_>, place: Place)
         ensures { Lays p.old p.new (spell_method (function_row plain function.now) place) };
 
-    /// Statements in braces.
-    fn print_block(statements: &[StatementNode<N>], p: &mut Printer<'_>)
-        ensures { Lays p.old p.new (braces (trees (map (in_statement plain) statements.now)) (spell_statements (trees (map (in_statement plain) statements.now)))) };
+    /// Statements in the braces of a span.
+    fn print_block(span: Span, statements: &[StatementNode<N>], p: &mut Printer<'_>)
+        ensures { Lays p.old p.new (braces span (trees (map (in_statement plain) statements.now)) (spell_statements (trees (map (in_statement plain) statements.now)))) };
 }

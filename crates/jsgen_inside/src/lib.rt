@@ -7,14 +7,15 @@ mod names;
 mod nested;
 
 ghost use Rattle.std.specs.Prelude.{◌≡◌};
-ghost use Rattle.jsgen_tree.specs.Tree.{Tree, type_of};
+ghost use Rattle.jsgen_tree.specs.Tree.{Tree, type_of, span_of};
 ghost use Rattle.jsgen_model.specs.Spell.{spell};
 ghost use Rattle.jsgen_printer.specs.Steps.{Lays};
 
-pub use bodies::{print_behind_one_space, print_body, shape_of};
+pub use bodies::{print_at_link, print_behind_one_space, print_body, shape_of};
 pub use in_class::PrintInClass;
 use jsgen_place::Place;
 use jsgen_printer::Printer;
+use jsgen_syntax::Span;
 use jsgen_tree::NodeType;
 pub use names::{print_binding_identifier, print_identifier_reference};
 pub use nested::Nested;
@@ -26,6 +27,9 @@ pub trait PrintInside<N> {
 
     fn node_type(node: &N) -> NodeType
         ensures { result ≡ type_of (plain node.now) };
+
+    fn span(node: &N) -> Span
+        ensures { result ≡ span_of (plain node.now) };
 
     fn print(node: &N, p: &mut Printer<'_>, place: Place)
         ensures { Lays p.old p.new (spell (plain node.now) place) };

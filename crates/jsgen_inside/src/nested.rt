@@ -2,9 +2,10 @@
 ghost use Rattle.jsgen_tree.specs.Rows.{in_expression, in_statement, in_binding_pattern, in_class_element};
 
 use crate::PrintInside;
-use jsgen_lists::PrintMember;
+use jsgen_lists::{PrintMember, PrintObject};
 use jsgen_place::Place;
 use jsgen_printer::Printer;
+use jsgen_syntax::Span;
 use jsgen_tree::{BindingPatternNode, ClassElementNode, ExpressionNode, StatementNode};
 
 /// What nests, printed as it is elsewhere.
@@ -16,6 +17,18 @@ impl<N, L: PrintInside<N>> PrintMember<ExpressionNode<N>> for Nested<L> {
     ghost plain = { in_expression L.plain };
 
     fn print_member(node: &ExpressionNode<N>, p: &mut Printer<'_>, place: Place) {
+        L::print(node.get(), p, place);
+    }
+}
+
+impl<N, L: PrintInside<N>> PrintObject<ExpressionNode<N>> for Nested<L> {
+    ghost plain = { in_expression L.plain };
+
+    fn span(node: &ExpressionNode<N>) -> Span {
+        L::span(node.get())
+    }
+
+    fn print_object(node: &ExpressionNode<N>, p: &mut Printer<'_>, place: Place) {
         L::print(node.get(), p, place);
     }
 }

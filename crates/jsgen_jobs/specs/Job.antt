@@ -44,10 +44,14 @@ abbrev pub Verdict : List ℕ → Result (Unit {0}) JobFault → Type 0
 Verdict bytes (Ok done) = IsSomeJob bytes
 Verdict bytes (Err fault) = IsFaulty bytes fault
 
--- the answer to an input
+-- the answer to an input where a text of its job is asked for
+abbrev pub AnswersBy : (JobData → List ℕ) → List ℕ → Result (String Global) JobFault → Type 0
+AnswersBy wanted bytes (Ok text) = (job : JobData) × IsJobOf job bytes × (string_bytes text ≡ wanted job)
+AnswersBy wanted bytes (Err fault) = IsFaulty bytes fault
+
+-- the text of its program
 abbrev pub Answers : List ℕ → Result (String Global) JobFault → Type 0
-Answers bytes (Ok text) = (job : JobData) × IsJobOf job bytes × (string_bytes text ≡ text_bytes job)
-Answers bytes (Err fault) = IsFaulty bytes fault
+Answers bytes answer = AnswersBy text_bytes bytes answer
 
 -- of the rules that a job breaks, the one that is told is this verdict's, whatever is asked
 abbrev pub Tells : {T : Type 0} → (JobData → Result (Unit {0}) TreeFault) → List ℕ → Result T JobFault → Type 0

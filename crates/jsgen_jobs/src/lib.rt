@@ -2,7 +2,8 @@
 #![tactic(auto)]
 
 ghost use Rattle.std.specs.Prelude.{Some};
-ghost use Rattle.jsgen_jobs.specs.Job.{Verdict, Answers, Tells};
+ghost use Rattle.jsgen_jobs.specs.Job.{Verdict, Answers, AnswersBy, Tells};
+ghost use Rattle.jsgen_jobs.specs.MapText.{map_bytes};
 ghost use Rattle.jsgen_jobs.specs.Texts.{job_fault_text};
 
 use jsgen_fields::InputFault;
@@ -49,6 +50,11 @@ pub trait PrintJobs {
     /// The text of a job.
     fn print_job(alloc: Global, bytes: &[u8]) -> Result<String, JobFault>
         ensures answer { Answers bytes.now result }
+        ensures rule { Tells judged bytes.now result };
+
+    /// The lines of a job's source map; nothing where no path is set for one.
+    fn map_job(alloc: Global, bytes: &[u8]) -> Result<String, JobFault>
+        ensures answer { AnswersBy map_bytes bytes.now result }
         ensures rule { Tells judged bytes.now result };
 
     /// Whether the bytes are a job that keeps the rules, or what is wrong.

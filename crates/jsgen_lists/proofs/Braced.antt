@@ -1,12 +1,13 @@
 -- Braces round statements.
 use Rattle.std.proofs.Common.{◌≡◌, ℕ, suc, List, [], ◌∷◌, map, length, true, false, ◌==◌, refl, subst, arith}
 use Rattle.std.proofs.lemmas.Bool.{both_ways, eqb-true}
+use Rattle.jsgen_syntax.specs.declared.span.Span.{Span}
 use Rattle.jsgen_tree.specs.Tree.{Tree, trees}
 use Rattle.jsgen_model.specs.Punctuator.{Brace, opening, closing}
-use Rattle.jsgen_model.specs.Items.{Items, nothing, ◌⊕◌, brackets, soft_line, indentation, drop_semicolon}
+use Rattle.jsgen_model.specs.Items.{Items, ◌⊕◌, soft_line, indentation, mark, end_mark}
 use Rattle.jsgen_model.specs.Lay.{lay}
 use Rattle.jsgen_model.specs.Layout.{Pen, written, other_end}
-use Rattle.jsgen_model.specs.Spell.{braces, filled_braces}
+use Rattle.jsgen_model.specs.Spell.{braces, filled_braces, empty_braces}
 use Rattle.jsgen_model.specs.Printing.{IsPrefix}
 use Rattle.jsgen_printer.specs.Printer.{pen_of, at_depth}
 use Rattle.jsgen_printer.proofs.Prefixes.{prefix_append, more_prefix, prefix_of_prefix}
@@ -17,23 +18,23 @@ use Rattle.jsgen_printer.proofs.Sequence.{goes_then, goes_laid, items_go}
 use Rattle.jsgen_lists.specs.Lists.{braces_opened, braces_closed}
 
 -- where there is no statement, braces are empty
-pub no_braces : {N : Type 0} (f : N → Tree) (xs : List N) (items : Items) → (length xs == 0) ≡ true → braces (trees (map f xs)) items ≡ brackets Brace nothing ⊕ drop_semicolon
-no_braces f [] items h = refl
-no_braces f (x ∷ xs) items h = absurd (omega (arith, eqb-true (suc (length xs)) 0 h))
+pub no_braces : {N : Type 0} (f : N → Tree) (s : Span) (xs : List N) (items : Items) → (length xs == 0) ≡ true → braces s (trees (map f xs)) items ≡ empty_braces s
+no_braces f s [] items h = refl
+no_braces f s (x ∷ xs) items h = absurd (omega (arith, eqb-true (suc (length xs)) 0 h))
 
 -- where there is a statement, braces aren't empty
-pub some_braces : {N : Type 0} (f : N → Tree) (xs : List N) (items : Items) → (length xs == 0) ≡ false → braces (trees (map f xs)) items ≡ filled_braces items
-some_braces f [] items h = absurd (both_ways true h refl)
-some_braces f (x ∷ xs) items h = refl
+pub some_braces : {N : Type 0} (f : N → Tree) (s : Span) (xs : List N) (items : Items) → (length xs == 0) ≡ false → braces s (trees (map f xs)) items ≡ filled_braces s items
+some_braces f s [] items h = absurd (both_ways true h refl)
+some_braces f s (x ∷ xs) items h = refl
 
-opened_appends : (pen : Pen) → IsPrefix pen.code (braces_opened pen).code
-opened_appends pen = layout_more soft_line (written (opening Brace) other_end pen) (prefix_append pen.code (opening Brace))
+pub opening_appends : (s : Span) (pen : Pen) → IsPrefix pen.code (lay soft_line (written (opening Brace) other_end (lay (mark s) pen))).code
+opening_appends s pen = layout_more soft_line (written (opening Brace) other_end (lay (mark s) pen)) (prefix_append pen.code (opening Brace))
 
-closed_appends : (depth : ℕ) (pen : Pen) → IsPrefix pen.code (braces_closed depth pen).code
-closed_appends depth pen = more_prefix (closing Brace) (layout_appends indentation (at_depth depth pen))
+closed_appends : (s : Span) (depth : ℕ) (pen : Pen) → IsPrefix pen.code (braces_closed s depth pen).code
+closed_appends s depth pen = more_prefix (closing Brace) (layout_appends (indentation ⊕ end_mark s) (at_depth depth pen))
 
 -- the level behind the braces is the one before them
-pub braces_laid : {a b c d : Printer} {i : Items} (depth : ℕ) → depth ≡ (pen_of a).depth → Goes a b braces_opened → Lays b c i → Goes c d (braces_closed depth) → Lays a d (filled_braces i)
-braces_laid {a} {b} {c} {d} {i} depth level h inside k =
-    let closed : Goes c d (braces_closed (pen_of a).depth) = subst (λ n. Goes c d (braces_closed n)) level k in
-    goes_laid (filled_braces i) refl (goes_then opened_appends (λ pen. prefix_of_prefix (layout_appends i pen) (closed_appends (pen_of a).depth (lay i pen))) h (goes_then (λ pen. layout_appends i pen) (closed_appends (pen_of a).depth) (items_go inside) closed))
+pub braces_laid : {a b c d : Printer} {i : Items} (s : Span) (depth : ℕ) → depth ≡ (pen_of a).depth → Goes a b (braces_opened s) → Lays b c i → Goes c d (braces_closed s depth) → Lays a d (filled_braces s i)
+braces_laid {a} {b} {c} {d} {i} s depth level h inside k =
+    let closed : Goes c d (braces_closed s (pen_of a).depth) = subst (λ n. Goes c d (braces_closed s n)) level k in
+    goes_laid (filled_braces s i) refl (goes_then (opening_appends s) (λ pen. prefix_of_prefix (layout_appends i pen) (closed_appends s (pen_of a).depth (lay i pen))) h (goes_then (λ pen. layout_appends i pen) (closed_appends s (pen_of a).depth) (items_go inside) closed))

@@ -1,8 +1,9 @@
 -- Members that may be left out, the parts of a loop, and the pen within braces.
 use Rattle.std.specs.Prelude.{ℕ, Bool, Option, Some, None}
+use Rattle.jsgen_syntax.specs.declared.span.Span.{Span}
 use Rattle.jsgen_tree.specs.Tree.{Tree, Trees}
 use Rattle.jsgen_model.specs.Punctuator.{Brace, opening, closing}
-use Rattle.jsgen_model.specs.Items.{Items, nothing, ◌⊕◌, soft_line, indentation, drop_semicolon}
+use Rattle.jsgen_model.specs.Items.{Items, nothing, ◌⊕◌, soft_line, indentation, drop_semicolon, mark, end_mark}
 use Rattle.jsgen_model.specs.Lay.{lay}
 use Rattle.jsgen_model.specs.Layout.{Pen, written, other_end}
 use Rattle.jsgen_model.specs.Spell.{spell, spell_elements, ends_in_hole, comma_if}
@@ -18,9 +19,9 @@ element_items (Some t) place = spell t place
 abbrev pub all_elements : Bool → Trees → Place → Items
 all_elements lines ts place = spell_elements lines ts place ⊕ comma_if (ends_in_hole ts)
 
--- the pen within braces, one level deeper, and behind them, at the level before
-abbrev pub braces_opened : Pen → Pen
-braces_opened pen = deepened (lay soft_line (written (opening Brace) other_end pen))
+-- the pen within the braces of a span, one level deeper, and behind them, at the level before
+abbrev pub braces_opened : Span → Pen → Pen
+braces_opened s pen = deepened (lay soft_line (written (opening Brace) other_end (lay (mark s) pen)))
 
-abbrev pub braces_closed : ℕ → Pen → Pen
-braces_closed depth pen = lay drop_semicolon (written (closing Brace) other_end (lay indentation (at_depth depth pen)))
+abbrev pub braces_closed : Span → ℕ → Pen → Pen
+braces_closed s depth pen = lay drop_semicolon (written (closing Brace) other_end (lay (end_mark s) (lay indentation (at_depth depth pen))))

@@ -2,7 +2,7 @@
 ghost use Rattle.std.specs.Prelude.{map};
 ghost use Rattle.jsgen_tree.specs.Tree.{trees};
 ghost use Rattle.jsgen_model.specs.Punctuator.{Round};
-ghost use Rattle.jsgen_model.specs.Items.{brackets};
+ghost use Rattle.jsgen_model.specs.Items.{◌⊕◌, brackets, end_mark};
 ghost use Rattle.jsgen_model.specs.Spell.{spell_arguments, spell_behind_first};
 ghost use Rattle.jsgen_printer.specs.Steps.{Lays};
 
@@ -10,6 +10,7 @@ use crate::maybe::print_comma_and_space;
 use crate::members::{PrintMember, print_more};
 use jsgen_place::Place;
 use jsgen_printer::{Bracket, Printer};
+use jsgen_syntax::Span;
 
 /// Which arguments are never in backticks, where they are strings.
 #[derive(Clone, Copy)]
@@ -30,17 +31,19 @@ impl PlainQuotes {
     };
 }
 
-/// The arguments, with commas between them, in parentheses.
+/// The arguments of a span, with commas between them, in parentheses.
 pub fn print_arguments<E, L: PrintMember<E>>(
+    span: Span,
     quotes: PlainQuotes,
     arguments: &[E],
     p: &mut Printer<'_>,
     place: Place,
 )
-    ensures { Lays p.old p.new (brackets Round (spell_arguments quotes.first quotes.second (trees (map L.plain arguments.now)) place)) }
+    ensures { Lays p.old p.new (brackets Round (spell_arguments quotes.first quotes.second (trees (map L.plain arguments.now)) place ⊕ end_mark span)) }
 {
     p.print_opening(Bracket::Round);
     print_first::<E, L>(quotes, arguments, p, place);
+    p.print_end_mark(span);
     p.print_closing(Bracket::Round);
 }
 

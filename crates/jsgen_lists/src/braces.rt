@@ -1,62 +1,65 @@
 // Braces round statements or cases.
 ghost use Rattle.std.specs.Prelude.{◌≡◌, map};
 ghost use Rattle.jsgen_tree.specs.Tree.{trees};
-ghost use Rattle.jsgen_model.specs.Punctuator.{Brace};
-ghost use Rattle.jsgen_model.specs.Items.{◌⊕◌, nothing, brackets, drop_semicolon};
-ghost use Rattle.jsgen_model.specs.Spell.{spell_statements, braces, filled_braces};
+ghost use Rattle.jsgen_model.specs.Spell.{spell_statements, braces, filled_braces, empty_braces};
 ghost use Rattle.jsgen_printer.specs.Printer.{pen_of};
 ghost use Rattle.jsgen_printer.specs.Steps.{Goes, Lays};
 ghost use Rattle.jsgen_lists.specs.Lists.{braces_opened, braces_closed};
 
 use crate::statements::{PrintStatement, print_statements};
 use jsgen_printer::{Bracket, Printer};
+use jsgen_syntax::Span;
 
-/// Braces round statements, each of which stands on a line of its own.
-pub fn print_braces<E, S: PrintStatement<E>>(statements: &[E], p: &mut Printer<'_>)
-    ensures { Lays p.old p.new (braces (trees (map S.plain statements.now))
+/// The braces of a span round statements, each of which stands on a line of its own.
+pub fn print_braces<E, S: PrintStatement<E>>(span: Span, statements: &[E], p: &mut Printer<'_>)
+    ensures { Lays p.old p.new (braces span (trees (map S.plain statements.now))
         (spell_statements (trees (map S.plain statements.now)))) }
 {
     if statements.is_empty() {
-        print_empty_braces(p);
+        print_empty_braces(span, p);
     } else {
-        print_filled_braces::<E, S>(statements, p);
+        print_filled_braces::<E, S>(span, statements, p);
     }
 }
 
 /// Braces in which nothing stands.
-pub fn print_empty_braces(p: &mut Printer<'_>)
-    ensures { Lays p.old p.new (brackets Brace nothing ⊕ drop_semicolon) }
+pub fn print_empty_braces(span: Span, p: &mut Printer<'_>)
+    ensures { Lays p.old p.new (empty_braces span) }
 {
+    p.print_mark(span);
     p.print_opening(Bracket::Brace);
+    p.print_end_mark(span);
     p.print_closing(Bracket::Brace);
     p.drop_semicolon();
 }
 
-fn print_filled_braces<E, S: PrintStatement<E>>(statements: &[E], p: &mut Printer<'_>)
-    ensures { Lays p.old p.new (filled_braces (spell_statements (trees (map S.plain statements.now)))) }
+fn print_filled_braces<E, S: PrintStatement<E>>(span: Span, statements: &[E], p: &mut Printer<'_>)
+    ensures { Lays p.old p.new (filled_braces span (spell_statements (trees (map S.plain statements.now)))) }
 {
-    let depth = open_braces(p);
+    let depth = open_braces(span, p);
     print_statements::<E, S>(statements, p);
-    close_braces(p, depth);
+    close_braces(span, p, depth);
 }
 
 /// The opening brace, behind which the code is one level deeper; gives the level before.
-pub fn open_braces(p: &mut Printer<'_>) -> u32
+pub fn open_braces(span: Span, p: &mut Printer<'_>) -> u32
     ensures level { result ≡ (pen_of p.old).depth }
-    ensures pen { Goes p.old p.new braces_opened }
+    ensures pen { Goes p.old p.new (braces_opened span) }
 {
     let depth = p.deepen();
+    p.print_mark(span);
     p.print_opening(Bracket::Brace);
     p.print_soft_line();
     depth
 }
 
 /// The closing brace, at the level before.
-pub fn close_braces(p: &mut Printer<'_>, depth: u32)
-    ensures { Goes p.old p.new (braces_closed depth) }
+pub fn close_braces(span: Span, p: &mut Printer<'_>, depth: u32)
+    ensures { Goes p.old p.new (braces_closed span depth) }
 {
     p.set_depth(depth);
     p.print_indentation();
+    p.print_end_mark(span);
     p.print_closing(Bracket::Brace);
     p.drop_semicolon();
 }

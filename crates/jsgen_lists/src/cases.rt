@@ -3,7 +3,7 @@ ghost use Rattle.std.specs.Prelude.{map, option_map};
 ghost use Rattle.jsgen_syntax.specs.declared.precedence.Precedence.TheVariants.{Lowest};
 ghost use Rattle.jsgen_tree.specs.Tree.{Tree, more, no_trees, trees, optional};
 ghost use Rattle.jsgen_model.specs.Punctuator.{colon};
-ghost use Rattle.jsgen_model.specs.Items.{◌⊕◌, punctuator, indentation};
+ghost use Rattle.jsgen_model.specs.Items.{◌⊕◌, punctuator, indentation, mark};
 ghost use Rattle.jsgen_place.specs.Place.{in_brackets};
 ghost use Rattle.jsgen_model.specs.Spell.{spell_statements, spell_only, spell_test, case_items};
 ghost use Rattle.jsgen_printer.specs.Steps.{Lays};
@@ -13,7 +13,7 @@ use crate::members::PrintMember;
 use crate::statements::{PrintStatement, print_deeper_statements};
 use jsgen_place::Place;
 use jsgen_printer::Printer;
-use jsgen_syntax::Precedence;
+use jsgen_syntax::{Precedence, Span};
 
 /// How the one statement of a case is printed, which goes on with the line where it is a block.
 pub trait PrintOnly<E> {
@@ -26,14 +26,16 @@ pub trait PrintOnly<E> {
 
 /// A case: its test or its word, and the statements that stand under it.
 pub fn print_case<E, F, L: PrintMember<E>, O: PrintOnly<F>, S: PrintStatement<F>>(
+    span: Span,
     test: &Option<E>,
     consequent: &[F],
     p: &mut Printer<'_>,
 )
-    ensures { Lays p.old p.new (indentation ⊕ (spell_test (optional (option_map L.plain test.now)) (in_brackets Lowest)
-        ⊕ (punctuator colon ⊕ case_items (trees (map S.plain consequent.now)) (spell_only (trees (map O.plain consequent.now))) (spell_statements (trees (map S.plain consequent.now)))))) }
+    ensures { Lays p.old p.new (indentation ⊕ (mark span ⊕ (spell_test (optional (option_map L.plain test.now)) (in_brackets Lowest)
+        ⊕ (punctuator colon ⊕ case_items (trees (map S.plain consequent.now)) (spell_only (trees (map O.plain consequent.now))) (spell_statements (trees (map S.plain consequent.now))))))) }
 {
     p.print_indentation();
+    p.print_mark(span);
     print_case_head::<E, L>(test, p);
     print_consequent::<F, O, S>(consequent, p);
 }

@@ -2,13 +2,14 @@
 ghost use Rattle.std.specs.Prelude.{◌≡◌, true, false, map, not, Option, is_some};
 ghost use Rattle.jsgen_tree.specs.Tree.{Tree, holed};
 ghost use Rattle.jsgen_model.specs.Punctuator.{Square, Brace};
-ghost use Rattle.jsgen_model.specs.Items.{◌⊕◌, brackets, soft_space};
+ghost use Rattle.jsgen_model.specs.Items.{◌⊕◌, brackets, soft_space, mark, end_mark};
 ghost use Rattle.jsgen_model.specs.Spell.{spell_elements, spell_more_elements, next_line, line_or_space, on_lines, object_inside, are_more, ends_in_hole, comma_if};
 ghost use Rattle.jsgen_printer.specs.Steps.{Lays};
 ghost use Rattle.jsgen_lists.specs.Lists.{element_items, all_elements};
 
 use jsgen_place::Place;
 use jsgen_printer::{Bracket, Printer};
+use jsgen_syntax::Span;
 
 /// How the members of a list in which some may be left out are printed.
 pub trait PrintElement<E> {
@@ -23,24 +24,38 @@ pub trait PrintElement<E> {
         ensures { Lays p.old p.new (element_items (plain element.now) place) };
 }
 
-/// An array: its elements in brackets, up to two on one line, and more on lines of their own.
-pub fn print_array<E, L: PrintElement<E>>(elements: &[E], p: &mut Printer<'_>, place: Place)
-    ensures { Lays p.old p.new (brackets Square (on_lines (are_more 2 (holed (map L.plain elements.now)))
-        (all_elements (are_more 2 (holed (map L.plain elements.now))) (holed (map L.plain elements.now)) place))) }
+/// An array of a span: its elements in brackets, up to two on one line, and more on lines of their own.
+pub fn print_array<E, L: PrintElement<E>>(
+    span: Span,
+    elements: &[E],
+    p: &mut Printer<'_>,
+    place: Place,
+)
+    ensures { Lays p.old p.new (mark span ⊕ brackets Square (on_lines (are_more 2 (holed (map L.plain elements.now)))
+        (all_elements (are_more 2 (holed (map L.plain elements.now))) (holed (map L.plain elements.now)) place) ⊕ end_mark span)) }
 {
+    p.print_mark(span);
     let lines = are_more::<E, L>(2, elements);
     p.print_opening(Bracket::Square);
     print_lines::<E, L>(lines, elements, p, place);
+    p.print_end_mark(span);
     p.print_closing(Bracket::Square);
 }
 
-/// An object: its properties in braces, a single one between spaces, and more on lines of their own.
-pub fn print_object<E, L: PrintElement<E>>(properties: &[E], p: &mut Printer<'_>, place: Place)
-    ensures { Lays p.old p.new (brackets Brace (object_inside (holed (map L.plain properties.now))
-        (all_elements (are_more 1 (holed (map L.plain properties.now))) (holed (map L.plain properties.now)) place))) }
+/// An object of a span: its properties in braces, a single one between spaces, and more on lines of their own.
+pub fn print_object<E, L: PrintElement<E>>(
+    span: Span,
+    properties: &[E],
+    p: &mut Printer<'_>,
+    place: Place,
+)
+    ensures { Lays p.old p.new (mark span ⊕ brackets Brace (object_inside (holed (map L.plain properties.now))
+        (all_elements (are_more 1 (holed (map L.plain properties.now))) (holed (map L.plain properties.now)) place) ⊕ end_mark span)) }
 {
+    p.print_mark(span);
     p.print_opening(Bracket::Brace);
     print_inside::<E, L>(properties, p, place);
+    p.print_end_mark(span);
     p.print_closing(Bracket::Brace);
 }
 

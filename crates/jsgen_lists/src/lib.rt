@@ -27,7 +27,9 @@ pub use maybe::{
     print_apart, print_behind_comma, print_behind_space, print_caught, print_comma_between,
     print_if_given, print_value,
 };
-pub use members::{PrintMember, print_in_brackets, print_list, print_more};
+pub use members::{
+    PrintMember, PrintObject, print_in_brackets, print_linked, print_list, print_more,
+};
 pub use patterns::{print_pattern_braces, print_pattern_brackets};
 pub use statements::{PrintStatement, print_body, print_deeper_body, print_statements};
 pub use templates::print_template;

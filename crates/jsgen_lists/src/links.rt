@@ -2,26 +2,26 @@
 ghost use Rattle.jsgen_tree.specs.Characters.{characters};
 ghost use Rattle.jsgen_tree.specs.Named.{as_written};
 ghost use Rattle.jsgen_model.specs.Items.{◌⊕◌, name};
-ghost use Rattle.jsgen_model.specs.Spell.{spell, name_link, bracket_link};
+ghost use Rattle.jsgen_model.specs.Spell.{spell, linked_items, name_link, bracket_link};
 ghost use Rattle.jsgen_printer.specs.Steps.{Lays};
 
-use crate::members::PrintMember;
+use crate::members::{PrintObject, print_linked};
 use jsgen_place::Place;
 use jsgen_printer::Printer;
 use jsgen_tree::IdentifierName;
 
 /// An object, and the name of one of its members behind a dot.
-pub fn print_named_member<E, L: PrintMember<E>>(
+pub fn print_named_member<E, L: PrintObject<E>>(
     object: &E,
     optional: bool,
     property: &IdentifierName,
     p: &mut Printer<'_>,
     place: Place,
 )
-    ensures { Lays p.old p.new (spell (L.plain object.now) place
+    ensures { Lays p.old p.new (linked_items (L.plain object.now) (spell (L.plain object.now) place)
         ⊕ (name_link optional ⊕ name property.now.span (as_written (characters property.now.name)))) }
 {
-    L::print_member(object, p, place);
+    print_linked::<E, L>(object, p, place);
     print_member_name(optional, property, p);
 }
 

@@ -1,14 +1,15 @@
 // Lists with commas.
-ghost use Rattle.std.specs.Prelude.{map};
-ghost use Rattle.jsgen_tree.specs.Tree.{Tree, trees};
+ghost use Rattle.std.specs.Prelude.{◌≡◌, map};
+ghost use Rattle.jsgen_tree.specs.Tree.{Tree, trees, span_of};
 ghost use Rattle.jsgen_model.specs.Items.{brackets};
-ghost use Rattle.jsgen_model.specs.Spell.{spell, spell_list, spell_more};
+ghost use Rattle.jsgen_model.specs.Spell.{spell, linked_items, spell_list, spell_more};
 ghost use Rattle.jsgen_printer.specs.Steps.{Lays};
 ghost use Rattle.jsgen_printer.specs.Printer.{bracket_of};
 
 use crate::maybe::print_comma_and_space;
 use jsgen_place::Place;
 use jsgen_printer::{Bracket, Printer};
+use jsgen_syntax::Span;
 
 /// How the members of a list with commas are printed.
 pub trait PrintMember<E> {
@@ -17,6 +18,26 @@ pub trait PrintMember<E> {
 
     fn print_member(member: &E, p: &mut Printer<'_>, place: Place)
         ensures { Lays p.old p.new (spell (plain member.now) place) };
+}
+
+/// How the object of a link is printed, or what else is printed at its level.
+pub trait PrintObject<E> {
+    // What an object stands for.
+    ghost plain: { E → Tree };
+
+    fn span(object: &E) -> Span
+        ensures { result ≡ span_of (plain object.now) };
+
+    fn print_object(object: &E, p: &mut Printer<'_>, place: Place)
+        ensures { Lays p.old p.new (spell (plain object.now) place) };
+}
+
+/// The object of a link, with the mark behind it.
+pub fn print_linked<E, L: PrintObject<E>>(object: &E, p: &mut Printer<'_>, place: Place)
+    ensures { Lays p.old p.new (linked_items (L.plain object.now) (spell (L.plain object.now) place)) }
+{
+    L::print_object(object, p, place);
+    p.print_link_mark(L::span(object));
 }
 
 /// The members, with commas between them, in brackets.

@@ -11,7 +11,7 @@ use Rattle.jsgen_map.specs.declared.position.Position.{Position}
 use Rattle.jsgen_map.specs.declared.source_map.Token.{Token}
 use Rattle.jsgen_map.specs.Count.{counted, counted_from}
 use Rattle.jsgen_map.specs.LineColumn.{line_column}
-use Rattle.jsgen_map.specs.Marks.{Mark, MapOf, Ordered, Parted, is_among, is_offset, last_from, names_from, number_of, one_more, token_at, token_of, with_name}
+use Rattle.jsgen_map.specs.Marks.{Mark, MapOf, Ordered, Parted, is_among, is_last, last_from, names_from, number_of, one_more, token_at, token_of, with_name}
 use Rattle.jsgen_map.proofs.Counts.{counted_append, counted_is}
 use Rattle.jsgen_map.proofs.NameList.{is_or_not, number_kept, same_bytes}
 
@@ -33,7 +33,7 @@ each_within : (least : ℕ) (ms : List Mark) (most : ℕ) → Ordered least ms m
 each_within least [] most o = All-nil (λ (m : Mark). m.bytes ≤ most)
 each_within least (m ∷ ms) most o = All-cons (λ (m : Mark). m.bytes ≤ most) m ms (ordered_ends m.bytes ms most o.1) (each_within m.bytes ms most o.1)
 
-parted_push : (last : Option ℕ) (ms : List Mark) (m : Mark) → is_offset (last_from last ms) m.offset ≡ false → Parted last ms → Parted last (ms ++ m ∷ [])
+parted_push : (last : Option ℕ) (ms : List Mark) (m : Mark) → is_last (last_from last ms) m.offset ≡ false → Parted last ms → Parted last (ms ++ m ∷ [])
 parted_push last [] m h p = (h, tt)
 parted_push last (k ∷ ms) m h p = (p.0, parted_push (Some k.offset) ms m h p.1)
 
@@ -157,7 +157,7 @@ map_on earlier output source ms names tokens h b =
     }
 
 -- with a mark at the output's end
-pub map_more : (earlier output source : List ℕ) (ms : List Mark) (names new : List (List ℕ)) (tokens more : List Token) (m : Mark) (place : Position) (number : Option ℕ) → MapOf earlier source ms names tokens → Begins output earlier → IsUtf8 output → m.bytes ≡ length output → is_offset (last_from None ms) m.offset ≡ false → new ≡ with_name names m.name → number_of new m.name ≡ number → place ≡ line_column output (length output) → more ≡ tokens ++ token_at place (line_column source m.offset) number ∷ [] → MapOf output source (ms ++ m ∷ []) new more
+pub map_more : (earlier output source : List ℕ) (ms : List Mark) (names new : List (List ℕ)) (tokens more : List Token) (m : Mark) (place : Position) (number : Option ℕ) → MapOf earlier source ms names tokens → Begins output earlier → IsUtf8 output → m.bytes ≡ length output → is_last (last_from None ms) m.offset ≡ false → new ≡ with_name names m.name → number_of new m.name ≡ number → place ≡ line_column output (length output) → more ≡ tokens ++ token_at place (line_column source m.offset) number ∷ [] → MapOf output source (ms ++ m ∷ []) new more
 map_more earlier output source ms names new tokens more m place number h b u s o n i p t =
     let w = each_within 0 ms (length earlier) h.ordered in
     let l : m.bytes ≤ length output = omega arith in
@@ -174,10 +174,10 @@ map_more earlier output source ms names new tokens more m place number h b u s o
       are = t ∙ (ap₂ (λ ts k. ts ++ k ∷ []) (h.are ∙ tokens_same names new earlier output source ms grows b w (all_named earlier source ms names tokens h)) token ∙ sym (map_push (token_of new output source) ms m));
     }
 
-pub one_more_not : (m : Mark) (ms : List Mark) → is_offset (last_from None ms) m.offset ≡ true → one_more m ms ≡ ms
+pub one_more_not : (m : Mark) (ms : List Mark) → is_last (last_from None ms) m.offset ≡ true → one_more m ms ≡ ms
 one_more_not m ms h = rw h refl
 
-pub one_more_does : (m : Mark) (ms : List Mark) → is_offset (last_from None ms) m.offset ≡ false → one_more m ms ≡ ms ++ m ∷ []
+pub one_more_does : (m : Mark) (ms : List Mark) → is_last (last_from None ms) m.offset ≡ false → one_more m ms ≡ ms ++ m ∷ []
 one_more_does m ms h = rw h refl
 
 pub last_of_more : (ms : List Mark) (m : Mark) → Some m.offset ≡ last_from None (ms ++ m ∷ [])

@@ -1,5 +1,5 @@
 -- Marks of an output, and what a source map says of them.
-use Rattle.std.specs.Prelude.{◌≡◌, ℕ, suc, ◌≤◌, List, [], ◌∷◌, ◌++◌, Bool, false, ◌==◌, ◌||◌, Option, None, Some, length, take, map, All, if◌then◌else◌}
+use Rattle.std.specs.Prelude.{◌≡◌, ℕ, suc, ◌≤◌, List, [], ◌∷◌, ◌++◌, Bool, true, false, ◌==◌, ◌||◌, Option, None, Some, length, take, map, All, if◌then◌else◌}
 use Rattle.std.specs.Str.{bytes_eq, IsUtf8}
 use Rattle.jsgen_map.specs.declared.position.Position.{Position}
 use Rattle.jsgen_map.specs.declared.source_map.Token.{Token}
@@ -17,13 +17,21 @@ abbrev pub last_from : Option ℕ → List Mark → Option ℕ
 last_from last [] = last
 last_from last (m ∷ ms) = last_from (Some m.offset) ms
 
-abbrev pub is_offset : Option ℕ → ℕ → Bool
-is_offset None offset = false
-is_offset (Some last) offset = last == offset
+-- the offset of the last mark
+abbrev pub last_offset : List Mark → Option ℕ
+last_offset ms = last_from None ms
+
+abbrev pub is_last : Option ℕ → ℕ → Bool
+is_last None offset = false
+is_last (Some last) offset = last == offset
+
+abbrev pub unless_last : Bool → Mark → List Mark → List Mark
+unless_last true m ms = ms
+unless_last false m ms = ms ++ (m ∷ [])
 
 -- one mark more, unless its offset is that of the last one
 abbrev pub one_more : Mark → List Mark → List Mark
-one_more m ms = if is_offset (last_from None ms) m.offset then ms else ms ++ m ∷ []
+one_more m ms = unless_last (is_last (last_offset ms) m.offset) m ms
 
 -- in the order of the output, none before so many bytes and none behind so many
 abbrev pub Ordered : ℕ → List Mark → ℕ → Type 0
@@ -33,7 +41,7 @@ Ordered least (m ∷ ms) most = (least ≤ m.bytes) × Ordered m.bytes ms most
 -- two neighbours have other offsets
 abbrev pub Parted : Option ℕ → List Mark → Type 0
 Parted last [] = Unit {0}
-Parted last (m ∷ ms) = (is_offset last m.offset ≡ false) × Parted (Some m.offset) ms
+Parted last (m ∷ ms) = (is_last last m.offset ≡ false) × Parted (Some m.offset) ms
 
 -- ---- names
 

@@ -1,7 +1,7 @@
 ghost use Rattle.std.specs.Prelude.{◌≡◌, ◌^◌, ◌<◌, ◌≤◌, [], ◌++◌, codes, length, take, IfOk, OnOk, OnErr, string_bytes};
 ghost use Rattle.std.specs.Option.{option_copied};
 ghost use Rattle.std.specs.Str.{bytes_eq, IsUtf8};
-ghost use Rattle.jsgen_map.specs.Marks.{is_offset, one_more, other_name};
+ghost use Rattle.jsgen_map.specs.Marks.{is_last, one_more, other_name};
 ghost use Rattle.jsgen_map.specs.Plain.{mark_at, mark_plain, source_text, with_name_mark, IsSpanOf};
 
 use crate::count::{Count, Seen, count_on};
@@ -76,7 +76,7 @@ impl<'a> SourcemapBuilder<'a> {
         ensures err { OnErr result (IsUnchanged self.old self.new) }
         ensures same { IsOfSameSource self.old self.new }
     {
-        if is_offset(self.last, mark.offset) {
+        if is_last(self.last, mark.offset) {
             return Ok(());
         }
         let source = self.tables.place_near(self.line, mark.offset);
@@ -210,8 +210,8 @@ fn is_private(text: &[u8], name: &[u8]) -> bool
     }
 }
 
-fn is_offset(last: Option<u32>, offset: u32) -> bool
-    ensures { result ≡ is_offset last offset }
+fn is_last(last: Option<u32>, offset: u32) -> bool
+    ensures { result ≡ is_last last offset }
 {
     match last {
         None => false,

@@ -3,3 +3,5 @@ pub mod Marks
 pub mod Steps
 pub mod Names
 pub mod Quiet
+pub mod Sources
+pub mod Maps

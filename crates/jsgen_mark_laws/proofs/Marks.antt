@@ -1,10 +1,9 @@
 -- Lists of marks.
 use Rattle.std.proofs.Common.{◌≡◌, ℕ, ◌≤◌, ◌<◌, nat_le, true, false, List, [], ◌∷◌, ◌++◌, Option, Some, None, unwrap_or, refl, ap, arith}
-use Rattle.std.proofs.lemmas.Bool.{both_ways, eqb-true, eqb-false}
+use Rattle.std.proofs.lemmas.Bool.{both_ways, eqb-true}
 use Rattle.std.proofs.lemmas.Bool.Decides.{nat_tests}
-use Rattle.jsgen_model.specs.Marks.{Mark, last_from, is_last}
+use Rattle.jsgen_map.specs.Marks.{Mark, Ordered, Parted, last_from, is_last}
 use Rattle.jsgen_mark_laws.specs.Names.{last_before, later_mark, if_before}
-use Rattle.jsgen_mark_laws.specs.Law.{Ordered, Parted, OtherThan}
 
 pub ordered_ends : (ms : List Mark) (a b : ℕ) → Ordered a ms b → a ≤ b
 ordered_ends [] a b h = h
@@ -29,10 +28,6 @@ last_append l (m ∷ ms) ns = last_append (Some m.offset) ms ns
 pub parted_append : (l : Option ℕ) (ms ns : List Mark) → Parted l ms → Parted (last_from l ms) ns → Parted l (ms ++ ns)
 parted_append l [] ns h k = k
 parted_append l (m ∷ ms) ns h k = (h.0, parted_append (Some m.offset) ms ns h.1 k)
-
-pub not_last : (l : Option ℕ) (o : ℕ) → is_last l o ≡ false → OtherThan l o
-not_last None o e = tt
-not_last (Some last) o e = eqb-false last o e
 
 some_same : (l o : ℕ) → l ≡ o → Some l ≡ Some o
 some_same l o e = ap Some e

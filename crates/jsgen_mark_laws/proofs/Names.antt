@@ -6,21 +6,23 @@ use Rattle.jsgen_syntax.specs.declared.span.Span.{Span}
 use Rattle.jsgen_tree.specs.Named.{printed_name}
 use Rattle.jsgen_model.specs.Punctuator.{Round, opening, closing}
 use Rattle.jsgen_model.specs.Items.{Items, ◌⊕◌, name, private_name, deeper, in_class, brackets, wrapped, wrapped_at_start, parentheses_unless_minified, unless_minified, where_same}
-use Rattle.jsgen_model.specs.Marks.{Mark, size, is_empty, last_from, last_offset, is_last, unless_last, has_start_mark, other_name_in}
+use Rattle.jsgen_map.specs.Marks.{Mark, Ordered, Parted, last_from, last_offset, is_last, unless_last}
+use Rattle.jsgen_model.specs.Marks.{size, has_start_mark, other_name_in}
 use Rattle.jsgen_model.specs.Layout as layouts
 use Rattle.jsgen_model.specs.Layout.{Pen, other_end, written, written_if, is_barred, deeper_level, entered, are_same}
 use Rattle.jsgen_model.specs.Lay.{lay, marked_if, name_mark, spaced}
 use Rattle.jsgen_model.specs.Private.{printed_private}
-use Rattle.jsgen_mark_laws.specs.Law.{Adds, Ordered, Parted, Right}
+use Rattle.jsgen_mark_laws.specs.Law.{Adds, ArePlaced, Right}
 use Rattle.jsgen_mark_laws.specs.Names.{Printed, names_of, printed_at, last_before, StandsAt, Stand}
 use Rattle.jsgen_mark_laws.proofs.Sizes.{size_append, size_some, longer}
 use Rattle.jsgen_mark_laws.proofs.Marks.{ordered_append, parted_append, was_last, before_longer, before_end, last_is}
-use Rattle.jsgen_mark_laws.proofs.Steps.{lay_steps, same, spaced_step, written_step, written_if_step}
+use Rattle.jsgen_mark_laws.proofs.Steps.{lay_steps, placed_append, placed_on, same, spaced_step, written_step, written_if_step}
 
 pub right_behind : {p q : Pen} → Adds p q → Right p → Right q
 right_behind {p} {q} s r = record {
   ordered = subst (λ ms. Ordered 0 ms (size q.code)) (sym s.marks) (ordered_append p.marks s.more 0 (size p.code) (size q.code) r.ordered s.ordered);
   parted = subst (λ ms. Parted None ms) (sym s.marks) (parted_append None p.marks s.more r.parted s.parted);
+  placed = subst (λ ms. ArePlaced q.code q.style.source ms) (sym s.marks) (placed_append q.code q.style.source p.marks s.more (placed_on s p.marks r.placed) s.placed);
 }
 
 pub marks_are_right : (items : Items) (p : Pen) → Right p → Right (lay items p)
@@ -74,13 +76,8 @@ marked_own o called p r = go (is_last (last_offset p.marks) o) refl
     go true e = last_own p.marks (size p.code) o r.ordered (was_last (last_offset p.marks) o e)
     go false e = (m, before_end (size p.code) p.marks m (omega arith), refl)
 
--- a name has a mark where the source is there and its span isn't empty
-has_mark : (source : Option (List ℕ)) (src : List ℕ) (span : Span) → source ≡ Some src → is_empty span ≡ false → true ≡ has_start_mark source span
-has_mark None src span e f = absurd (both_ways false refl (ap is_some e))
-has_mark (Some s) src span e f = ap (λ b. not b) (sym f)
-
-name_own : (src : List ℕ) (span : Span) (w : List ℕ) (p : Pen) → p.style.source ≡ Some src → is_empty span ≡ false → Right p → (m : Mark) × (last_before (size p.code) (name_mark span w p).marks ≡ Some m) × (m.offset ≡ span.start)
-name_own src span w p e f r = subst (λ b. (m : Mark) × (last_before (size p.code) (marked_if b span.start (other_name_in p.style.source span w) p).marks ≡ Some m) × (m.offset ≡ span.start)) (has_mark p.style.source src span e f) (marked_own span.start (other_name_in p.style.source span w) p r)
+name_own : (span : Span) (w : List ℕ) (p : Pen) → has_start_mark p.style.source span ≡ true → Right p → (m : Mark) × (last_before (size p.code) (name_mark span w p).marks ≡ Some m) × (m.offset ≡ span.start)
+name_own span w p f r = subst (λ b. (m : Mark) × (last_before (size p.code) (marked_if b span.start (other_name_in p.style.source span w) p).marks ≡ Some m) × (m.offset ≡ span.start)) (sym f) (marked_own span.start (other_name_in p.style.source span w) p r)
 
 -- ---- for all items
 
@@ -88,17 +85,17 @@ no_name : (items : Items) (p : Pen) → size p.code ≤ size (lay items p).code
 no_name items p = let s = lay_steps items p in longer p.code (lay items p).code s.text s.code
 
 -- a name behind the code of a pen, whose mark stands there
-stands : (span : Span) (w text : List ℕ) (p at q : Pen) (src : List ℕ) → size p.code ≤ size at.code → at.style.source ≡ Some src → Right at → q.code ≡ at.code ++ text → q.marks ≡ (name_mark span w at).marks → Stand q.code q.marks (size p.code) (printed_at (is_empty span) span text)
-stands span w text p at q src grown e r code marks = go (is_empty span) refl text refl
+stands : (span : Span) (w text : List ℕ) (p at q : Pen) → size p.code ≤ size at.code → Right at → q.code ≡ at.code ++ text → q.marks ≡ (name_mark span w at).marks → Stand q.code q.marks (size p.code) (printed_at (has_start_mark at.style.source span) span text)
+stands span w text p at q grown r code marks = go (has_start_mark at.style.source span) refl text refl
   where
     whole : size q.code ≡ size at.code + size text
     whole = ap size code ∙ size_append at.code text
 
-    go : (b : Bool) → is_empty span ≡ b → (v : List ℕ) → text ≡ v → Stand q.code q.marks (size p.code) (printed_at b span v)
-    go true f v g = omega (arith, grown, whole)
-    go false f [] g = omega (arith, grown, whole)
-    go false f (c ∷ cs) g =
-        let own = name_own src span w at e f r in (
+    go : (b : Bool) → has_start_mark at.style.source span ≡ b → (v : List ℕ) → text ≡ v → Stand q.code q.marks (size p.code) (printed_at b span v)
+    go false f v g = omega (arith, grown, whole)
+    go true f [] g = omega (arith, grown, whole)
+    go true f (c ∷ cs) g =
+        let own = name_own span w at f r in (
           record {
             before = at.code;
             rest = [];
@@ -116,7 +113,7 @@ either_stand : (t : Bool) (p a b : Pen) (ms ns : List Printed) → Stand a.code 
 either_stand true p a b ms ns h k = h
 either_stand false p a b ms ns h k = k
 
-source_behind : {p q : Pen} (src : List ℕ) → Adds p q → p.style.source ≡ Some src → q.style.source ≡ Some src
+pub source_behind : {p q : Pen} (src : List ℕ) → Adds p q → p.style.source ≡ Some src → q.style.source ≡ Some src
 source_behind src s e = ap (λ st. st.source) s.style ∙ e
 
 abbrev Stands : Items → Pen → Type 0
@@ -134,10 +131,10 @@ names_stand (a ⊕ b) p = λ src e r.
     stand_then (lay_steps b (lay a p)) (size p.code) (names_of a p) (names_of b (lay a p)) (names_stand a p src e r) (names_stand b (lay a p) src (source_behind src s e) (right_behind s r))
 names_stand (name span n) p = λ src e r.
     let w = printed_name p.style.tables n in
-    stands span w (name_text p.style.ascii w) p (spaced p) (lay (name span n) p) src (longer p.code (spaced p).code _ refl) e (right_behind (spaced_step p) r) refl refl
+    stands span w (name_text p.style.ascii w) p (spaced p) (lay (name span n) p) (longer p.code (spaced p).code _ refl) (right_behind (spaced_step p) r) refl refl
 names_stand (private_name span w) p = λ src e r.
     let own = printed_private p.style.tables p.classes w in
-    stands span (35 ∷ own) (35 ∷ name_text p.style.ascii own) p p (lay (private_name span w) p) src (omega arith) e r refl refl
+    stands span (35 ∷ own) (35 ∷ name_text p.style.ascii own) p p (lay (private_name span w) p) (omega arith) r refl refl
 names_stand (deeper items) p = λ src e r.
     let p1 : Pen = record p { depth = deeper_level p.style.minified p.depth } in
     let q : Pen = lay items p1 in

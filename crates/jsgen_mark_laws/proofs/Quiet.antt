@@ -3,11 +3,11 @@ use Rattle.std.proofs.Common.{◌≡◌, ℕ, ◌*◌, Bool, true, false, ◌||�
 use Rattle.jsgen_syntax.specs.Escapes.{name_text, has_escapes}
 use Rattle.jsgen_syntax.specs.Raw.{template_text}
 use Rattle.jsgen_tree.specs.Named.{printed_name}
-use Rattle.jsgen_model.specs.Punctuator.{Round, opening, closing}
-use Rattle.jsgen_model.specs.Items.{Items, TemplatePart, whole_part, head_part, middle_part, tail_part, ◌⊕◌, name, private_name, template_part, indentation, deeper, in_class, brackets, wrapped, wrapped_at_start, parentheses_unless_minified, unless_minified, where_same, statement_end, mark, end_mark, link_mark, marked_word}
-use Rattle.jsgen_model.specs.Marks.{Mark}
-use Rattle.jsgen_model.specs.Layout.{Pen, Ending, nowhere, other_end, written, written_if, text_if, space_if, is_apart, name_ending, is_barred, deeper_level, entered, indented, indent_or_space, at_indentation, end_statement, are_same, not, part_text, layout}
-use Rattle.jsgen_model.specs.Lay.{lay, span_mark, name_mark, piece_mark, spaced, part_opening, part_closing}
+use Rattle.jsgen_model.specs.Punctuator.{Round, opening, closing, punctuator_text}
+use Rattle.jsgen_model.specs.Items.{Items, TemplatePart, whole_part, head_part, middle_part, tail_part, ◌⊕◌, name, private_name, template_part, indentation, deeper, in_class, brackets, wrapped, wrapped_at_start, parentheses_unless_minified, unless_minified, where_same, statement_end, mark, end_mark, link_mark, marked_word, marked_operator, marked_number, marked_indentation}
+use Rattle.jsgen_map.specs.Marks.{Mark}
+use Rattle.jsgen_model.specs.Layout.{Pen, Ending, nowhere, other_end, operator_end, number_ending, joins, written, written_if, text_if, space_if, is_apart, name_ending, is_barred, deeper_level, entered, indented, indent_or_space, at_indentation, end_statement, are_same, not, part_text, layout}
+use Rattle.jsgen_model.specs.Lay.{lay, span_mark, name_mark, piece_mark, parted, spaced, part_opening, part_closing}
 use Rattle.jsgen_model.specs.Private.{printed_private}
 use Rattle.jsgen_mark_laws.specs.Law.{with_marks}
 
@@ -94,6 +94,15 @@ alike (link_mark span) ms q = record { marks = (lay (link_mark span) (with_marks
 alike (marked_word span w) ms q =
     let marks : List Mark = (span_mark span (spaced (with_marks ms q))).marks in
     record { marks = marks; same = in_steps (is_apart q.ending q.code) w other_end marks q }
+alike (marked_operator span p) ms q =
+    let marks : List Mark = (span_mark span (parted p (with_marks ms q))).marks in
+    record { marks = marks; same = in_steps (joins q.ending q.code p) (punctuator_text p) (operator_end p) marks q }
+alike (marked_number span dot_is_its_own w) ms q =
+    let marks : List Mark = (span_mark span (spaced (with_marks ms q))).marks in
+    record { marks = marks; same = in_steps (is_apart q.ending q.code) w (number_ending dot_is_its_own) marks q }
+alike (marked_indentation span) ms q =
+    let marks : List Mark = (lay (marked_indentation span) (with_marks ms q)).marks in
+    record { marks = marks; same = ap (λ p. with_marks marks p) (indentation_alike q.style.minified ms q) }
 alike indentation ms q = record { marks = ms; same = indentation_alike q.style.minified ms q }
 alike statement_end ms q = record { marks = ms; same = end_alike q.style.minified ms q }
 alike item ms q = record { marks = ms; same = refl }

@@ -1,28 +1,30 @@
 -- What is promised of the marks that items leave.
-use Rattle.std.specs.Prelude.{◌≡◌, ℕ, ◌≤◌, List, [], ◌∷◌, ◌++◌, Option, Some, None, ⊤}
+use Rattle.std.specs.Prelude.{◌≡◌, ℕ, ◌≤◌, List, [], ◌∷◌, ◌++◌, length, Option, Some, None, ⊤}
 use Rattle.jsgen_model.specs.Items.{Items}
-use Rattle.jsgen_model.specs.Marks.{Mark, size, last_offset}
+use Rattle.jsgen_map.specs.Marks.{Mark, Ordered, Parted, last_offset}
+use Rattle.jsgen_model.specs.Marks.{size}
 use Rattle.jsgen_model.specs.Layout.{Pen, layout}
 use Rattle.jsgen_model.specs.Lay.{lay}
 use Rattle.jsgen_mark_laws.specs.Names.{names_of, Stand}
 
--- ---- lists of marks
-
--- marks in the order of the code, none before the first number of bytes and none behind the last
-abbrev pub Ordered : ℕ → List Mark → ℕ → Type 0
-Ordered least [] most = least ≤ most
-Ordered least (m ∷ ms) most = (least ≤ m.bytes) × Ordered m.bytes ms most
-
-abbrev pub OtherThan : Option ℕ → ℕ → Type 0
-OtherThan None offset = ⊤
-OtherThan (Some last) offset = last ≡ offset → ⊥
-
--- two neighbours have other offsets
-abbrev pub Parted : Option ℕ → List Mark → Type 0
-Parted last [] = ⊤
-Parted last (m ∷ ms) = OtherThan last m.offset × Parted (Some m.offset) ms
-
 -- ---- what items add
+
+-- an offset lies in the source, or at its end
+abbrev pub LeadsInto : Option (List ℕ) → ℕ → Type 0
+LeadsInto None offset = ⊤
+LeadsInto (Some source) offset = offset ≤ length source
+
+-- the mark stands at the end of a first part of the code, and leads into the source where it is there
+pub record IsPlaced (code : List ℕ) (source : Option (List ℕ)) (m : Mark) : Type 0 where
+  pub before : List ℕ
+  pub rest : List ℕ
+  pub is : code ≡ before ++ rest
+  pub bytes : m.bytes ≡ size before
+  pub leads : LeadsInto source m.offset
+
+abbrev pub ArePlaced : List ℕ → Option (List ℕ) → List Mark → Type 0
+ArePlaced code source [] = ⊤
+ArePlaced code source (m ∷ ms) = IsPlaced code source m × ArePlaced code source ms
 
 -- text behind the code, and marks that lead to its end or behind it
 pub record Adds (old new : Pen) : Type 0 where
@@ -33,16 +35,18 @@ pub record Adds (old new : Pen) : Type 0 where
   pub marks : new.marks ≡ old.marks ++ more
   pub ordered : Ordered (size old.code) more (size new.code)
   pub parted : Parted (last_offset old.marks) more
+  pub placed : ArePlaced new.code new.style.source more
 
 abbrev pub ItemsAdd : Type 0
 ItemsAdd = (items : Items) (pen : Pen) → Adds pen (lay items pen)
 
 -- ---- the laws
 
--- a pen's marks rise, none lies behind the code's end, and neighbours have other offsets
+-- a pen's marks rise, none lies behind the code's end, neighbours have other offsets, and each has its place
 pub record Right (pen : Pen) : Type 0 where
   pub ordered : Ordered 0 pen.marks (size pen.code)
   pub parted : Parted None pen.marks
+  pub placed : ArePlaced pen.code pen.style.source pen.marks
 
 abbrev pub MarksAreRight : Type 0
 MarksAreRight = (items : Items) (pen : Pen) → Right pen → Right (lay items pen)
@@ -58,3 +62,11 @@ with_marks marks pen = record pen { marks = marks }
 -- with marks or without, the text and all that matters to what follows is the same
 abbrev pub QuietIsQuiet : Type 0
 QuietIsQuiet = (items : Items) (pen : Pen) → lay items pen ≡ with_marks (lay items pen).marks (layout items pen)
+
+-- the same pen but for the source
+abbrev pub with_source : Option (List ℕ) → Pen → Pen
+with_source source pen = record pen { style = record pen.style { source = source } }
+
+-- with a source or without, the text is the same
+abbrev pub SourcesAreAlike : Type 0
+SourcesAreAlike = (items : Items) (pen : Pen) (source : Option (List ℕ)) → (lay items (with_source source pen)).code ≡ (lay items pen).code

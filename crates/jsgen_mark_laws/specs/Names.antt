@@ -4,8 +4,9 @@ use Rattle.jsgen_syntax.specs.Escapes.{name_text}
 use Rattle.jsgen_syntax.specs.declared.span.Span.{Span}
 use Rattle.jsgen_tree.specs.Named.{printed_name}
 use Rattle.jsgen_model.specs.Punctuator.{Round, opening}
-use Rattle.jsgen_model.specs.Items.{Items, nothing, ◌⊕◌, word, name, private_name, number, literal, regular_expression, template_part, string, first_string, directive, punctuator, operator, member_dot, soft_space, soft_line, hard_space, indentation, body_space, deeper, in_class, brackets, wrapped, wrapped_at_start, parentheses_unless_minified, unless_minified, where_same, statement_end, due_semicolon, drop_semicolon, statement_begins, arrow_body_begins, default_export_begins, mark, end_mark, link_mark, marked_word, comments, orphans, annotation}
-use Rattle.jsgen_model.specs.Marks.{Mark, size, is_empty}
+use Rattle.jsgen_model.specs.Items.{Items, nothing, ◌⊕◌, word, name, private_name, number, literal, regular_expression, template_part, string, first_string, directive, punctuator, operator, member_dot, soft_space, soft_line, hard_space, indentation, body_space, deeper, in_class, brackets, wrapped, wrapped_at_start, parentheses_unless_minified, unless_minified, where_same, statement_end, due_semicolon, drop_semicolon, statement_begins, arrow_body_begins, default_export_begins, mark, end_mark, link_mark, marked_word, marked_operator, marked_number, marked_indentation, apart, comments, orphans, annotation}
+use Rattle.jsgen_map.specs.Marks.{Mark}
+use Rattle.jsgen_model.specs.Marks.{size, has_start_mark}
 use Rattle.jsgen_model.specs.Layout.{Pen, other_end, written, written_if, is_barred, deeper_level, entered, are_same, not}
 use Rattle.jsgen_model.specs.Lay.{lay}
 use Rattle.jsgen_model.specs.Private.{printed_private}
@@ -15,19 +16,19 @@ pub record Printed : Type 0 where
   pub start : ℕ
   pub text : List ℕ
 
--- a name whose span is empty is nowhere in the source, and one without text nowhere in the code
+-- a name whose span is empty, or begins behind the source, is nowhere in it, and one without text nowhere in the code
 abbrev pub printed_at : Bool → Span → List ℕ → List Printed
-printed_at true span text = []
-printed_at false span [] = []
-printed_at false span (c ∷ cs) = record { start = span.start; text = c ∷ cs } ∷ []
+printed_at false span text = []
+printed_at true span [] = []
+printed_at true span (c ∷ cs) = record { start = span.start; text = c ∷ cs } ∷ []
 
 -- the names that items print from a pen, in order
 abbrev pub names_of : Items → Pen → List Printed
 names_of nothing pen = []
 names_of (a ⊕ b) pen = names_of a pen ++ names_of b (lay a pen)
 names_of (word w) pen = []
-names_of (name span n) pen = printed_at (is_empty span) span (name_text pen.style.ascii (printed_name pen.style.tables n))
-names_of (private_name span w) pen = printed_at (is_empty span) span (35 ∷ name_text pen.style.ascii (printed_private pen.style.tables pen.classes w))
+names_of (name span n) pen = printed_at (has_start_mark pen.style.source span) span (name_text pen.style.ascii (printed_name pen.style.tables n))
+names_of (private_name span w) pen = printed_at (has_start_mark pen.style.source span) span (35 ∷ name_text pen.style.ascii (printed_private pen.style.tables pen.classes w))
 names_of (number dot_is_its_own w) pen = []
 names_of (literal w) pen = []
 names_of (regular_expression pattern flags) pen = []
@@ -61,6 +62,10 @@ names_of (mark span) pen = []
 names_of (end_mark span) pen = []
 names_of (link_mark span) pen = []
 names_of (marked_word span w) pen = []
+names_of (marked_operator span p) pen = []
+names_of (marked_number span dot_is_its_own w) pen = []
+names_of (marked_indentation span) pen = []
+names_of apart pen = []
 names_of (comments manner offset) pen = []
 names_of (orphans offset) pen = []
 names_of (annotation test kind offset) pen = []

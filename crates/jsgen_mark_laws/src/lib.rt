@@ -1,7 +1,7 @@
 //! Laws on marks of a source map, over all items of the layout. Nothing here runs, and no printer is mentioned.
 #![tactic(auto)]
 
-ghost use Rattle.jsgen_mark_laws.specs.Law.{ItemsAdd, MarksAreRight, NamesStand, QuietIsQuiet};
+ghost use Rattle.jsgen_mark_laws.specs.Law.{ItemsAdd, MarksAreRight, NamesStand, QuietIsQuiet, SourcesAreAlike};
 
 /// Items add text behind the code, and marks that lead to its end or behind it.
 pub fn items_add()
@@ -21,4 +21,9 @@ pub fn names_stand()
 /// Marks change nothing of the text.
 pub fn quiet_is_quiet()
     ensures { QuietIsQuiet }
+{}
+
+/// With a source or without, the text is the same.
+pub fn sources_are_alike()
+    ensures { SourcesAreAlike }
 {}

@@ -83,8 +83,14 @@ pub data Items : Type 0 where
   mark : Span → Items
   end_mark : Span → Items
   link_mark : Span → Items
-  -- a keyword, apart from a word before it, with the mark of the span that it begins
+  -- a keyword, apart from a word before it, with the mark of the span that it begins; the same of an operator's sign and of a number
   marked_word : Span → List ℕ → Items
+  marked_operator : Span → Punctuator → Items
+  marked_number : Span → Bool → List ℕ → Items
+  -- indentation, and where there may be any the mark of a span behind it
+  marked_indentation : Span → Items
+  -- the space before a word, where a mark stands between them
+  apart : Items
   -- the comments that belong to an offset, and those that belong to smaller ones and stand nowhere else
   comments : Manner → ℕ → Items
   orphans : ℕ → Items

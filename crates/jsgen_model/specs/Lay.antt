@@ -1,13 +1,13 @@
 -- The text and the marks that items give, from a pen: `layout` has the text alone.
-use Rattle.std.specs.Prelude.{ℕ, List, ◌∷◌, ◌++◌, ◌-◌, Bool, false, Option, None, ◌||◌, codes, if◌then◌else◌}
+use Rattle.std.specs.Prelude.{ℕ, List, ◌∷◌, ◌++◌, ◌-◌, nat_lt, Bool, false, Option, None, ◌&&◌, ◌||◌, codes, if◌then◌else◌}
 use Rattle.jsgen_syntax.specs.Escapes.{name_text, has_escapes}
 use Rattle.jsgen_syntax.specs.Raw.{template_text}
 use Rattle.jsgen_syntax.specs.declared.span.Span.{Span}
 use Rattle.jsgen_tree.specs.Named.{printed_name}
-use Rattle.jsgen_model.specs.Punctuator.{Round, opening, closing}
-use Rattle.jsgen_model.specs.Items.{Items, TemplatePart, whole_part, head_part, middle_part, tail_part, ◌⊕◌, name, private_name, template_part, deeper, in_class, brackets, wrapped, wrapped_at_start, parentheses_unless_minified, unless_minified, where_same, mark, end_mark, link_mark, marked_word}
+use Rattle.jsgen_model.specs.Punctuator.{Punctuator, Round, opening, closing, punctuator_text}
+use Rattle.jsgen_model.specs.Items.{Items, TemplatePart, whole_part, head_part, middle_part, tail_part, ◌⊕◌, name, private_name, template_part, deeper, in_class, brackets, wrapped, wrapped_at_start, parentheses_unless_minified, unless_minified, where_same, mark, end_mark, link_mark, marked_word, marked_operator, marked_number, marked_indentation, indentation}
 use Rattle.jsgen_model.specs.Marks.{one_more_if, size, other_name_in, has_start_mark, has_end_mark, has_link_mark}
-use Rattle.jsgen_model.specs.Layout.{Pen, other_end, written, written_if, is_apart, name_ending, is_barred, deeper_level, entered, with_private_name, are_same, not, layout}
+use Rattle.jsgen_model.specs.Layout.{Pen, other_end, operator_end, written, written_if, is_apart, joins, number_ending, name_ending, is_barred, deeper_level, entered, with_private_name, are_same, not, layout}
 use Rattle.jsgen_model.specs.Private.{printed_private}
 
 -- ---- marks
@@ -40,13 +40,24 @@ has_piece_mark tail_part source span = has_start_mark source span
 abbrev pub piece_mark : TemplatePart → Span → Pen → Pen
 piece_mark part span pen = marked_if (has_piece_mark part pen.style.source span) span.start None pen
 
+-- the mark behind indentation: where the text is pretty, and the level is above 0 or one space stands in its place
+abbrev pub may_be_indented : Pen → Bool
+may_be_indented pen = not pen.style.minified && (pen.pending_space || nat_lt 0 pen.depth)
+
+abbrev pub mark_behind : Bool → Span → Pen → Pen
+mark_behind test span pen = marked_if (test && has_start_mark pen.style.source span) span.start None pen
+
 -- ---- what stands round a mark
 
 -- the space before a word and a name
 abbrev pub spaced : Pen → Pen
 spaced pen = written_if (is_apart pen.ending pen.code) (codes " ") pen
 
--- a name behind it
+-- and before a sign that another one would join
+abbrev pub parted : Punctuator → Pen → Pen
+parted p pen = written_if (joins pen.ending pen.code p) (codes " ") pen
+
+-- a name behind a space
 abbrev pub name_written : List ℕ → Pen → Pen
 name_written w pen = written (name_text pen.style.ascii w) (name_ending (has_escapes pen.style.ascii w)) pen
 
@@ -83,5 +94,8 @@ lay (mark span) pen = span_mark span pen
 lay (end_mark span) pen = span_end_mark span pen
 lay (link_mark span) pen = link_end_mark span pen
 lay (marked_word span w) pen = written w other_end (span_mark span (spaced pen))
+lay (marked_operator span p) pen = written (punctuator_text p) (operator_end p) (span_mark span (parted p pen))
+lay (marked_number span dot_is_its_own w) pen = written w (number_ending dot_is_its_own) (span_mark span (spaced pen))
+lay (marked_indentation span) pen = mark_behind (may_be_indented pen) span (layout indentation pen)
 -- what has no mark is as in the text
 lay item pen = layout item pen

@@ -14,8 +14,8 @@ use Rattle.jsgen_tree.specs.Options.{Options}
 use Rattle.jsgen_tree.specs.Job.{Tables}
 use Rattle.jsgen_tree.specs.Named.{Named, printed_name}
 use Rattle.jsgen_model.specs.Punctuator.{Punctuator, plus, plus_plus, minus, minus_minus, bang, equal_equal, equal_equal_equal, punctuator_text, Round, opening, closing}
-use Rattle.jsgen_model.specs.Items.{Items, TemplatePart, whole_part, head_part, middle_part, tail_part, nothing, ◌⊕◌, word, name, private_name, number, literal, regular_expression, template_part, string, first_string, directive, punctuator, operator, member_dot, soft_space, soft_line, hard_space, indentation, body_space, deeper, in_class, brackets, wrapped, wrapped_at_start, Opener, a_brace, a_declaration, parentheses_unless_minified, where_same, statement_end, due_semicolon, drop_semicolon, statement_begins, arrow_body_begins, default_export_begins, mark, end_mark, link_mark, marked_word, comments, orphans, annotation, unless_minified}
-use Rattle.jsgen_model.specs.Marks.{Mark}
+use Rattle.jsgen_model.specs.Items.{Items, TemplatePart, whole_part, head_part, middle_part, tail_part, nothing, ◌⊕◌, word, name, private_name, number, literal, regular_expression, template_part, string, first_string, directive, punctuator, operator, member_dot, soft_space, soft_line, hard_space, indentation, body_space, deeper, in_class, brackets, wrapped, wrapped_at_start, Opener, a_brace, a_declaration, parentheses_unless_minified, where_same, statement_end, due_semicolon, drop_semicolon, statement_begins, arrow_body_begins, default_export_begins, mark, end_mark, link_mark, marked_word, comments, orphans, annotation, unless_minified, marked_operator, marked_number, marked_indentation, apart}
+use Rattle.jsgen_map.specs.Marks.{Mark}
 use Rattle.jsgen_model.specs.Private.{classes_within, printed_private}
 
 -- what never changes: whether the text is minified and whether it is ASCII, the quote of pretty text and of directives, what a level of indentation is made of, the tables by which names are printed, and the bytes of the source, where a source map is wanted
@@ -276,6 +276,10 @@ layout arrow_body_begins pen = record pen { start = arrow_body }
 layout default_export_begins pen = record pen { start = default_export }
 -- none of the text are marks, which `lay` has, and comments and annotations, which aren't printed yet
 layout (marked_word span w) pen = written (space_if (is_apart pen.ending pen.code) ++ w) other_end pen
+layout (marked_operator span p) pen = written (space_if (joins pen.ending pen.code p) ++ punctuator_text p) (operator_end p) pen
+layout (marked_number span dot_is_its_own w) pen = written (space_if (is_apart pen.ending pen.code) ++ w) (number_ending dot_is_its_own) pen
+layout (marked_indentation span) pen = at_indentation pen.style.minified pen
+layout apart pen = written_if (is_apart pen.ending pen.code) (codes " ") pen
 layout (mark span) pen = pen
 layout (end_mark span) pen = pen
 layout (link_mark span) pen = pen

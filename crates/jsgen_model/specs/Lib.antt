@@ -9,6 +9,7 @@ pub mod Printing
 pub mod Quotes
 pub mod Spell
 pub mod Valid
+pub mod Mapped
 pub mod Numbers
 pub mod RegularExpressions
 pub mod Templates

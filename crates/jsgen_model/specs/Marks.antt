@@ -1,16 +1,12 @@
 -- The marks of a source map, while a text is laid out.
-use Rattle.std.specs.Prelude.{ℕ, List, [], ◌∷◌, ◌++◌, Bool, true, false, Option, Some, None, ◌&&◌, ◌||◌, ◌==◌, nat_lt, nat_le, length, not, if◌then◌else◌}
+use Rattle.std.specs.Prelude.{ℕ, List, Bool, true, false, Option, Some, None, ◌&&◌, ◌||◌, ◌==◌, nat_lt, nat_le, length, not, if◌then◌else◌}
 use Rattle.std.specs.List.{last_or}
 use Rattle.std.specs.Option.{option_map_or}
-use Rattle.std.specs.Str.{bytes_eq, encode_utf8_all}
+use Rattle.std.specs.Str.{encode_utf8_all}
 use Rattle.jsgen_syntax.specs.declared.span.Span.{Span}
-use Rattle.jsgen_model.specs.Spans.{spans_characters, text_at}
-
--- the text so far, of so many bytes, ends where what has this offset in the source begins; and the name that stands there, where it is printed as another
-pub record Mark : Type 0 where
-  pub bytes : ℕ
-  pub offset : ℕ
-  pub name : Option (List ℕ)
+use Rattle.jsgen_map.specs.Marks.{Mark, one_more, other_name}
+use Rattle.jsgen_map.specs.Plain.{source_text}
+use Rattle.jsgen_model.specs.Spans.{spans_characters}
 
 -- how many bytes a text takes in UTF-8
 abbrev pub size : List ℕ → ℕ
@@ -18,54 +14,35 @@ size text = length (encode_utf8_all text)
 
 -- ---- lists of marks
 
-abbrev pub last_from : Option ℕ → List Mark → Option ℕ
-last_from last [] = last
-last_from last (m ∷ ms) = last_from (Some m.offset) ms
-
--- the offset of the last mark
-abbrev pub last_offset : List Mark → Option ℕ
-last_offset ms = last_from None ms
-
-abbrev pub is_last : Option ℕ → ℕ → Bool
-is_last None offset = false
-is_last (Some last) offset = last == offset
-
--- one more mark, which is left out where the last one has its offset
-abbrev pub unless_last : Bool → Mark → List Mark → List Mark
-unless_last true m ms = ms
-unless_last false m ms = ms ++ (m ∷ [])
-
-abbrev pub one_more : Mark → List Mark → List Mark
-one_more m ms = unless_last (is_last (last_offset ms) m.offset) m ms
-
--- the same where the test holds
+-- one more mark where the test holds
 abbrev pub one_more_if : Bool → Mark → List Mark → List Mark
 one_more_if true m ms = one_more m ms
 one_more_if false m ms = ms
 
 -- ---- what the source has
 
--- the characters of a span of the source; none where it doesn't begin and end at characters of it
-abbrev pub source_text : List ℕ → Span → Option (List ℕ)
-source_text source span = if nat_le span.start span.end && spans_characters source span then Some (text_at source span) else None
+-- the bytes of a span of the source; none where it doesn't begin and end at characters of it
+abbrev pub name_text_at : List ℕ → Span → Option (List ℕ)
+name_text_at source span = if nat_le span.start span.end && spans_characters source span then Some (source_text source span) else None
 
 -- what stood there, where it is another text than what is printed
-abbrev pub other_name : Option (List ℕ) → List ℕ → Option (List ℕ)
-other_name None printed = None
-other_name (Some was) printed = if bytes_eq was printed then None else Some was
+abbrev pub other_than : Option (List ℕ) → List ℕ → Option (List ℕ)
+other_than None printed = None
+other_than (Some was) printed = other_name was (encode_utf8_all printed)
 
 abbrev pub other_name_in : Option (List ℕ) → Span → List ℕ → Option (List ℕ)
 other_name_in None span printed = None
-other_name_in (Some source) span printed = other_name (source_text source span) printed
+other_name_in (Some source) span printed = other_than (name_text_at source span) printed
 
 -- ---- which spans have marks, where the source is handed in
 
 abbrev pub is_empty : Span → Bool
 is_empty span = span.start == span.end
 
+-- the span begins in the source, or at its end
 abbrev pub has_start_mark : Option (List ℕ) → Span → Bool
 has_start_mark None span = false
-has_start_mark (Some source) span = not (is_empty span)
+has_start_mark (Some source) span = not (is_empty span) && nat_le span.start (length source)
 
 -- the last byte of the span lies in the source
 abbrev pub has_end_mark : Option (List ℕ) → Span → Bool

@@ -11,7 +11,8 @@ use Rattle.jsgen_syntax.specs.declared.operator.UpdateOperator.TheVariants as up
 use Rattle.jsgen_syntax.specs.declared.operator.AssignmentOperator.{AssignmentOperator}
 use Rattle.jsgen_syntax.specs.declared.operator.AssignmentOperator.TheVariants as assignment_operators
 use Rattle.jsgen_model.specs.Punctuator.{equal, plus, minus, star, slash, percent, star_star, equal_equal, not_equal, equal_equal_equal, not_equal_equal, less, less_equal, greater, greater_equal, shift_left, shift_right, shift_right_zero, bit_and, bit_or, bit_xor, and_and, or_or, nullish, bang, tilde, plus_plus, minus_minus, plus_equal, minus_equal, star_equal, slash_equal, percent_equal, star_star_equal, shift_left_equal, shift_right_equal, shift_right_zero_equal, bit_or_equal, bit_xor_equal, bit_and_equal, or_or_equal, and_and_equal, nullish_equal}
-use Rattle.jsgen_model.specs.Items.{Items, nothing, word, punctuator, operator, soft_space}
+use Rattle.jsgen_syntax.specs.declared.span.Span.{Span}
+use Rattle.jsgen_model.specs.Items.{Items, ◌⊕◌, nothing, word, punctuator, operator, soft_space, mark, marked_word, marked_operator}
 
 -- a word operator stands apart from words; a sign stands apart from a sign that it would join
 abbrev pub operator_item : BinaryOperator → Items
@@ -53,6 +54,12 @@ unary_sign unary_operators.BitwiseNot = operator tilde
 unary_sign unary_operators.Typeof = word (codes "typeof")
 unary_sign unary_operators.Void = word (codes "void")
 unary_sign unary_operators.Delete = word (codes "delete")
+
+-- an operator with the mark of the span that it begins, behind the space before it
+abbrev pub marked : Span → Items → Items
+marked s (word w) = marked_word s w
+marked s (operator p) = marked_operator s p
+marked s items = mark s ⊕ items
 
 -- what stands between it and the operand
 abbrev pub behind_unary : UnaryOperator → Items

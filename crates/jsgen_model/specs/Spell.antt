@@ -9,7 +9,7 @@ use Rattle.jsgen_syntax.specs.declared.precedence.Precedence.TheVariants.{Lowest
 use Rattle.jsgen_place.specs.declared.place.Place.{Place}
 use Rattle.jsgen_place.specs.declared.shape.Shape.{Shape}
 use Rattle.jsgen_place.specs.declared.shape.Shape.TheVariants as shapes
-use Rattle.jsgen_place.specs.Place.{child, left_operand, in_brackets, loop_head, among_statements, within_statement, member, behind_private, with_calls, quoted_plainly, linked, called, tag, tagged, constructed, within, wraps, binary_wraps, logical_wraps, call_wraps, chain_wraps, chain_place, arrow_wraps, update_level, plainly}
+use Rattle.jsgen_place.specs.Place.{child, left_operand, in_brackets, loop_head, among_statements, within_statement, member, behind_private, with_calls, quoted_plainly, linked, is_at_link, called, tag, tagged, constructed, within, wraps, binary_wraps, logical_wraps, call_wraps, chain_wraps, chain_place, arrow_wraps, update_level, plainly}
 use Rattle.jsgen_syntax.specs.declared.operator.BinaryOperator.{BinaryOperator}
 use Rattle.jsgen_syntax.specs.declared.operator.BinaryOperator.TheVariants as operators
 use Rattle.jsgen_syntax.specs.declared.operator.LogicalOperator.{LogicalOperator}
@@ -35,16 +35,20 @@ use Rattle.jsgen_tree.specs.Nodes as tree
 use Rattle.jsgen_model.specs.Numbers.{takes_no_dot}
 use Rattle.jsgen_model.specs.Punctuator.{ellipsis, comma, semicolon, equal, minus, Round, Square, Brace, colon, question, question_dot, arrow, star}
 use Rattle.jsgen_model.specs.Quotes.{is_require_call, is_definition_call, is_key_of_exports, is_export_mark}
-use Rattle.jsgen_model.specs.Items.{Items, TemplatePart, whole_part, head_part, middle_part, tail_part, nothing, ◌⊕◌, word, name, private_name, number, template_part, with_key_annotation, string, first_string, directive, punctuator, operator, member_dot, brackets, soft_space, soft_line, hard_space, body_space, deeper, in_class, indentation, wrapped, wrapped_at_start, a_brace, a_declaration, parentheses_unless_minified, where_same, statement_end, due_semicolon, drop_semicolon, statement_begins, arrow_body_begins, unless_minified, literal, default_export_begins}
+use Rattle.jsgen_model.specs.Items.{Items, TemplatePart, whole_part, head_part, middle_part, tail_part, nothing, ◌⊕◌, word, name, private_name, number, template_part, with_key_annotation, string, marked_number, first_string, directive, punctuator, operator, member_dot, brackets, soft_space, soft_line, hard_space, body_space, deeper, in_class, indentation, wrapped, wrapped_at_start, a_brace, a_declaration, parentheses_unless_minified, where_same, statement_end, due_semicolon, drop_semicolon, statement_begins, arrow_body_begins, unless_minified, literal, default_export_begins, end_mark, link_mark, marked_operator, marked_indentation}
 use Rattle.jsgen_tree.specs.Nodes as tree
 use Rattle.jsgen_model.specs.Lay.{lay}
 use Rattle.jsgen_model.specs.Layout.{empty_pen, style_of}
-use Rattle.jsgen_model.specs.Operators.{operator_item, logical_item, unary_sign, behind_unary, update_item, assignment_item}
+use Rattle.jsgen_model.specs.Operators.{operator_item, logical_item, unary_sign, behind_unary, update_item, assignment_item, marked}
 -- generated from tools/nodes/table.txt: names
 use Rattle.jsgen_tree.specs.Values.{reg_exp_literal_pattern, reg_exp_literal_flags, yield_expression_delegate}
-use Rattle.jsgen_model.specs.Items.{marked_word, comments, all_of_them, mark, regular_expression}
+use Rattle.jsgen_model.specs.Items.{marked_word, apart, comments, all_of_them, mark, regular_expression}
 
 -- end of what is generated: names
+
+-- the empty span, which has no mark
+abbrev pub unmarked : Span
+unmarked = record { start = 0; end = 0 }
 
 -- what a loop gives its values: a declaration, or what is given a value, where nothing is forbidden
 abbrev pub left_place : NodeType → Place
@@ -53,9 +57,9 @@ left_place type = in_brackets Comma
 
 -- ---- operations
 
-abbrev pub update_items : Bool → Items → Items → Items → Items
-update_items true item first last = item ⊕ last
-update_items false item first last = first ⊕ item
+abbrev pub update_items : Span → Bool → Items → Items → Items → Items
+update_items s true item first last = marked s item ⊕ last
+update_items s false item first last = mark s ⊕ (first ⊕ item)
 
 -- operands and the operator between them, in parentheses where the test holds
 abbrev pub operation : Bool → Items → Items → Items → Items
@@ -103,14 +107,23 @@ abbrev pub bracket_link : Bool → Items
 bracket_link true = punctuator question_dot
 bracket_link false = nothing
 
+-- the object of a link, what is called and what else is printed at the level of a link, with the mark behind it
+abbrev pub linked_items : Tree → Items → Items
+linked_items t items = items ⊕ link_mark (span_of t)
+
+-- a span, or the empty one
+abbrev pub span_if : Bool → Span → Span
+span_if true s = s
+span_if false s = unmarked
+
 abbrev pub any_given : Trees → Bool
 any_given no_trees = false
 any_given ts = true
 
 -- `new` may go without its parentheses in minified text, where it has no arguments and no link stands behind it (ECMA-262, 13.3.5)
-abbrev pub new_arguments : Bool → Items → Items
-new_arguments true items = brackets Round items
-new_arguments false items = parentheses_unless_minified items
+abbrev pub new_arguments : Bool → Span → Items → Items
+new_arguments true s items = brackets Round (items ⊕ end_mark s)
+new_arguments false s items = parentheses_unless_minified (items ⊕ unless_minified (end_mark s))
 
 abbrev pub items_if : Bool → Items → Items
 items_if true items = items
@@ -131,23 +144,31 @@ abbrev pub string_statement : Tree → Option (List ℕ)
 string_statement (tree.expression_statement a expression) = string_in (without_parentheses expression)
 string_statement t = None
 
-abbrev pub unless_string : Option (List ℕ) → Items → Items
-unless_string (Some units) items = indentation ⊕ (first_string units ⊕ statement_end)
-unless_string None items = items
+abbrev pub unless_string : Span → Span → Option (List ℕ) → Items → Items
+unless_string line own (Some units) items = marked_indentation line ⊕ (mark own ⊕ (first_string units ⊕ statement_end))
+unless_string line own None items = items
+
+-- where the string stands
+abbrev pub span_inside : Tree → Span
+span_inside (tree.expression_statement a expression) = span_of (without_parentheses expression)
+span_inside t = span_of t
 
 -- a string alone, which would be read as a directive, is spelled otherwise than elsewhere (ECMA-262, 11.2.1)
 abbrev pub first_statement : Tree → Items → Items
-first_statement t items = unless_string (string_statement t) items
+first_statement t items = unless_string (span_of t) (span_inside t) (string_statement t) items
 
 -- ---- blocks and bodies
 
--- braces round statements, one level deeper; in empty ones stands nothing. A semicolon that is left is dropped
-abbrev pub filled_braces : Items → Items
-filled_braces items = brackets Brace (soft_line ⊕ (deeper items ⊕ indentation)) ⊕ drop_semicolon
+-- braces of a span round statements, one level deeper; in empty ones stands nothing. A semicolon that is left is dropped
+abbrev pub filled_braces : Span → Items → Items
+filled_braces s items = mark s ⊕ (brackets Brace (soft_line ⊕ (deeper items ⊕ (indentation ⊕ end_mark s))) ⊕ drop_semicolon)
 
-abbrev pub braces : Trees → Items → Items
-braces no_trees items = brackets Brace nothing ⊕ drop_semicolon
-braces ts items = filled_braces items
+abbrev pub empty_braces : Span → Items
+empty_braces s = mark s ⊕ (brackets Brace (end_mark s) ⊕ drop_semicolon)
+
+abbrev pub braces : Span → Trees → Items → Items
+braces s no_trees items = empty_braces s
+braces s ts items = filled_braces s items
 
 -- among statements a block is a line of its own
 abbrev pub block_items : Bool → Items → Items
@@ -172,13 +193,13 @@ abbrev pub body_end : Bool → Items
 body_end true = indentation
 body_end false = nothing
 
--- What `if` is followed by: within what is around it, or as it stands among statements. Where it ends in an `if` without
--- `else`, it stands in braces
-abbrev pub consequent_items : Shape → Bool → Items → Items → Bool → Items
-consequent_items shapes.Block false inner whole else_follows = soft_space ⊕ (inner ⊕ braces_end else_follows)
-consequent_items shapes.Empty false inner whole else_follows = punctuator semicolon ⊕ (soft_line ⊕ body_end else_follows)
-consequent_items s false inner whole else_follows = body_space ⊕ (whole ⊕ body_end else_follows)
-consequent_items s true inner whole else_follows = soft_space ⊕ (filled_braces whole ⊕ braces_end else_follows)
+-- What `if` is followed by, which has a span: within what is around it, or as it stands among statements. Where it ends in an `if`
+-- without `else`, it stands in braces
+abbrev pub consequent_items : Span → Shape → Bool → Items → Items → Bool → Items
+consequent_items own shapes.Block false inner whole else_follows = soft_space ⊕ (inner ⊕ braces_end else_follows)
+consequent_items own shapes.Empty false inner whole else_follows = punctuator semicolon ⊕ (soft_line ⊕ body_end else_follows)
+consequent_items own s false inner whole else_follows = body_space ⊕ (whole ⊕ body_end else_follows)
+consequent_items own s true inner whole else_follows = soft_space ⊕ (filled_braces own whole ⊕ braces_end else_follows)
 
 -- what the head of a loop, a label or a case is followed by: a block goes on with the line, and any other statement stands behind one space
 abbrev pub body_items : Shape → Items → Items → Items
@@ -191,11 +212,11 @@ abbrev pub alternate_items : Shape → Items → Items → Items
 alternate_items shapes.If inner whole = hard_space ⊕ inner
 alternate_items s inner whole = body_items s inner whole
 
--- what stands between `do` and `while`: a statement that is no block stands on a line of its own, with its semicolon
-abbrev pub do_items : Shape → Items → Items → Items
-do_items shapes.Block inner whole = soft_space ⊕ (inner ⊕ soft_space)
-do_items shapes.Empty inner whole = punctuator semicolon ⊕ (soft_line ⊕ indentation)
-do_items s inner whole = soft_line ⊕ (deeper (whole ⊕ due_semicolon) ⊕ indentation)
+-- what stands between `do` and `while`, which has a span: a statement that is no block stands on a line of its own, with its semicolon
+abbrev pub do_items : Span → Shape → Items → Items → Items
+do_items own shapes.Block inner whole = soft_space ⊕ (inner ⊕ soft_space)
+do_items own shapes.Empty inner whole = mark own ⊕ (punctuator semicolon ⊕ (soft_line ⊕ indentation))
+do_items own s inner whole = soft_line ⊕ (deeper (whole ⊕ due_semicolon) ⊕ indentation)
 
 -- what stands behind the colon of a case: one statement as a body, or any other number on lines of their own
 abbrev pub case_items : Trees → Items → Items → Items
@@ -267,7 +288,7 @@ object_inside ts items = on_lines true items
 
 -- a string that is a key is never in backticks
 abbrev pub key_text : Tree → Items → Items
-key_text (tree.string_literal a) items = string false (string_literal_value a)
+key_text (tree.string_literal a) items = mark a.span ⊕ string false (string_literal_value a)
 key_text key items = items
 
 -- a key stands in brackets where it is computed, and where it is a negative number, which is no key by itself (ECMA-262, 13.2.5)
@@ -349,13 +370,13 @@ number_items Raw a place = signed (not (takes_no_dot (numeric_literal_text a))) 
 abbrev pub big_text : List ℕ → List ℕ
 big_text digits = digits ++ codes "n"
 
-abbrev pub big_integer_items : List ℕ → Option (List ℕ) → Place → Items
-big_integer_items value (Some digits) place = negative false (big_text digits) place
-big_integer_items value None place = number false (big_text value)
+abbrev pub big_integer_items : Span → List ℕ → Option (List ℕ) → Place → Items
+big_integer_items s value (Some digits) place = items_if (wraps Prefix place) (mark s) ⊕ wrapped (wraps Prefix place) (marked_operator s minus ⊕ number false (big_text digits))
+big_integer_items s value None place = marked_number s false (big_text value)
 
 -- ---- functions
 
--- a word before a key, or before the parameters of an arrow function
+-- a word before a key
 abbrev pub key_word : List ℕ → Items
 key_word w = word w ⊕ soft_space
 
@@ -374,9 +395,15 @@ function_items function_kinds.Declaration pife place items = block_items place.i
 -- an expression stands in parentheses where it is marked so, and where a statement or a default export begins with it
 function_items function_kinds.Expression pife place items = wrapped_at_start pife a_declaration items
 
--- the words before a function's name (ECMA-262, 15.2, 15.5, 15.6 and 15.8); the tests tell that it is `async`, and a generator
-abbrev pub function_words : Bool → Bool → Items
-function_words is_async generator = items_if is_async (word (codes "async") ⊕ hard_space) ⊕ (word (codes "function") ⊕ items_if generator (punctuator star ⊕ soft_space))
+-- the words before a function's name (ECMA-262, 15.2, 15.5, 15.6 and 15.8); the tests tell that it is `async`, and a generator. Of two
+-- marks of one span, one behind the other, the second is left out
+abbrev pub function_words : Span → Bool → Bool → Items
+function_words s is_async generator = items_if is_async (marked_word s (codes "async") ⊕ hard_space) ⊕ (marked_word s (codes "function") ⊕ items_if generator (punctuator star ⊕ soft_space))
+
+-- a function is the value of a property
+abbrev pub is_function : NodeType → Bool
+is_function types.Function = true
+is_function type = false
 
 -- what stands before the key of a method, by its function (ECMA-262, 15.4 to 15.8)
 abbrev pub method_words : Tree → Items
@@ -384,9 +411,9 @@ method_words (tree.function a id params body) = items_if (function_is_async a) (
 method_words t = nothing
 
 -- the braces of a function's body, in which an empty one has nothing
-abbrev pub body_braces : Trees → Trees → Items → Items
-body_braces no_trees no_trees items = brackets Brace nothing ⊕ drop_semicolon
-body_braces directives statements items = filled_braces items
+abbrev pub body_braces : Span → Trees → Trees → Items → Items
+body_braces s no_trees no_trees items = empty_braces s
+body_braces s directives statements items = filled_braces s items
 
 -- where an arrow function's body is an expression, it begins behind the arrow
 abbrev pub body_begins : NodeType → Items
@@ -422,10 +449,6 @@ method_kind_word method_kinds.Set = key_word (codes "set")
 method_kind_word kind = nothing
 
 -- ---- targets
-
--- a name without a mark has an empty span
-abbrev pub unmarked : Span
-unmarked = record { start = 0; end = 0 }
 
 -- a name's own text, and behind a colon what it is printed as
 abbrev pub renamed_items : Named → Items
@@ -573,13 +596,13 @@ default_items false declaration expression = default_export_begins ⊕ (expressi
 abbrev mutual
   pub spell : Tree → Place → Items
   spell (tree.program a _ hashbang directives body) place = spell_if_given hashbang place ⊕ (spell_directives directives ⊕ (spell_body body ⊕ due_semicolon))
-  spell (tree.directive a) place = indentation ⊕ (directive (as_text (directive_directive a)) ⊕ (punctuator semicolon ⊕ soft_line))
+  spell (tree.directive a) place = indentation ⊕ (mark a.span ⊕ (directive (as_text (directive_directive a)) ⊕ (punctuator semicolon ⊕ soft_line)))
   spell (tree.binding_identifier a) place = name a.span (binding_named a)
   spell (tree.identifier_reference a) place = name a.span (reference_named a)
-  spell (tree.boolean_literal a) place = word (truth_word (boolean_literal_value a))
-  spell (tree.numeric_literal a) place = number_items (numeric_literal_kind a) a place
-  spell (tree.big_int_literal a) place = big_integer_items (big_int_literal_value a) (behind_minus (big_int_literal_value a)) place
-  spell (tree.string_literal a) place = string (not place.plain_quotes) (string_literal_value a)
+  spell (tree.boolean_literal a) place = mark a.span ⊕ word (truth_word (boolean_literal_value a))
+  spell (tree.numeric_literal a) place = mark a.span ⊕ number_items (numeric_literal_kind a) a place
+  spell (tree.big_int_literal a) place = big_integer_items a.span (big_int_literal_value a) (behind_minus (big_int_literal_value a)) place
+  spell (tree.string_literal a) place = mark a.span ⊕ string (not place.plain_quotes) (string_literal_value a)
   spell (tree.binary a left right) place =
       operation (binary_wraps (binary_expression_operator a) place) (operator_item (binary_expression_operator a))
       (spell left (quoted_plainly (is_export_mark (binary_expression_operator a) left) (left_operand (left_level (binary_expression_operator a) left) (within (binary_wraps (binary_expression_operator a) place) place))))
@@ -588,60 +611,61 @@ abbrev mutual
       operation (logical_wraps (logical_expression_operator a) place) (logical_item (logical_expression_operator a))
       (spell left (left_operand (unmixed (logical_expression_operator a) left (logical_lower_level (logical_expression_operator a))) (within (logical_wraps (logical_expression_operator a) place) place)))
       (spell right (child (unmixed (logical_expression_operator a) right (logical_level (logical_expression_operator a))) (within (logical_wraps (logical_expression_operator a) place) place)))
-  spell (tree.block a body) place = block_items place.in_list (braces body (spell_statements body))
+  spell (tree.block a body) place = block_items place.in_list (braces a.span body (spell_statements body))
   spell (tree.if_statement a test consequent alternate) place =
-      items_if place.in_list indentation ⊕ (word (codes "if") ⊕ (soft_space ⊕ (brackets Round (spell test (in_brackets Lowest))
-      ⊕ (consequent_items (shape consequent) (ends_open consequent) (spell consequent within_statement) (spell consequent among_statements) (is_given alternate)
+      items_if place.in_list indentation ⊕ (marked_word a.span (codes "if") ⊕ (soft_space ⊕ (brackets Round (spell test (in_brackets Lowest))
+      ⊕ (consequent_items (span_of consequent) (shape consequent) (ends_open consequent) (spell consequent within_statement) (spell consequent among_statements) (is_given alternate)
       ⊕ spell_alternate alternate))))
   spell (tree.for_statement a init test update body) place =
-      indentation ⊕ (word (codes "for") ⊕ (soft_space ⊕ (brackets Round (spell_if_given init loop_head
+      indentation ⊕ (marked_word a.span (codes "for") ⊕ (soft_space ⊕ (brackets Round (spell_if_given init loop_head
       ⊕ (punctuator semicolon ⊕ (spell_apart test (in_brackets Lowest) ⊕ (punctuator semicolon ⊕ spell_apart update (in_brackets Lowest)))))
       ⊕ body_items (shape body) (spell body within_statement) (spell body among_statements))))
   spell (tree.for_in_statement a left right body) place =
-      indentation ⊕ (word (codes "for") ⊕ (soft_space ⊕ (brackets Round (spell left (left_place (type_of left))
+      indentation ⊕ (marked_word a.span (codes "for") ⊕ (soft_space ⊕ (brackets Round (spell left (left_place (type_of left))
       ⊕ (soft_space ⊕ (word (codes "in") ⊕ (soft_space ⊕ spell right (in_brackets Lowest)))))
       ⊕ body_items (shape body) (spell body within_statement) (spell body among_statements))))
   spell (tree.for_of_statement a left right body) place =
-      indentation ⊕ (word (codes "for") ⊕ (items_if (for_of_statement_is_await a) (hard_space ⊕ word (codes "await")) ⊕ (soft_space
+      indentation ⊕ (marked_word a.span (codes "for") ⊕ (items_if (for_of_statement_is_await a) (hard_space ⊕ word (codes "await")) ⊕ (soft_space
       ⊕ (brackets Round (before_of (for_of_statement_is_await a) (looked_up_in left) (spell left (left_place (type_of left)))
       ⊕ (soft_space ⊕ (word (codes "of") ⊕ (soft_space ⊕ spell right (in_brackets Comma)))))
       ⊕ body_items (shape body) (spell body within_statement) (spell body among_statements)))))
   spell (tree.do_while_statement a body test) place =
-      indentation ⊕ (word (codes "do") ⊕ (do_items (shape body) (spell body within_statement) (spell body among_statements)
+      indentation ⊕ (marked_word a.span (codes "do") ⊕ (do_items (span_of body) (shape body) (spell body within_statement) (spell body among_statements)
       ⊕ (word (codes "while") ⊕ (soft_space ⊕ (brackets Round (spell test (in_brackets Lowest)) ⊕ statement_end)))))
   spell (tree.switch_statement a discriminant cases) place =
-      indentation ⊕ (word (codes "switch") ⊕ (soft_space ⊕ (brackets Round (spell discriminant (in_brackets Lowest))
-      ⊕ (soft_space ⊕ (braces cases (spell_statements cases) ⊕ soft_line)))))
+      indentation ⊕ (marked_word a.span (codes "switch") ⊕ (soft_space ⊕ (brackets Round (spell discriminant (in_brackets Lowest))
+      ⊕ (soft_space ⊕ (braces a.span cases (spell_statements cases) ⊕ soft_line)))))
   spell (tree.switch_case a test consequent) place =
-      indentation ⊕ (spell_test test (in_brackets Lowest) ⊕ (punctuator colon ⊕ case_items consequent (spell_only consequent) (spell_statements consequent)))
+      indentation ⊕ (mark a.span ⊕ (spell_test test (in_brackets Lowest) ⊕ (punctuator colon ⊕ case_items consequent (spell_only consequent) (spell_statements consequent))))
   spell (tree.try_statement a block handler finalizer) place =
-      indentation ⊕ (word (codes "try") ⊕ (soft_space ⊕ (spell block within_statement ⊕ (spell_if_given handler within_statement ⊕ (spell_finalizer finalizer ⊕ soft_line)))))
+      indentation ⊕ (marked_word a.span (codes "try") ⊕ (soft_space ⊕ (spell block within_statement ⊕ (spell_if_given handler within_statement ⊕ (spell_finalizer finalizer ⊕ soft_line)))))
   spell (tree.catch_clause a param body) place = soft_space ⊕ (word (codes "catch") ⊕ (spell_caught param (child Lowest place) ⊕ (soft_space ⊕ spell body within_statement)))
-  spell (tree.static_member a object property) place = spell object (linked place) ⊕ (name_link (static_member_expression_optional a) ⊕ spell property (child Lowest place))
-  spell (tree.computed_member a object expression) place = spell object (linked place) ⊕ (bracket_link (computed_member_expression_optional a) ⊕ brackets Square (spell expression (quoted_plainly place.plain_quotes (in_brackets Lowest))))
+  spell (tree.static_member a object property) place = linked_items object (spell object (linked place)) ⊕ (name_link (static_member_expression_optional a) ⊕ spell property (child Lowest place))
+  spell (tree.computed_member a object expression) place = linked_items object (spell object (linked place)) ⊕ (bracket_link (computed_member_expression_optional a) ⊕ brackets Square (spell expression (quoted_plainly place.plain_quotes (in_brackets Lowest))))
   spell (tree.call a callee arguments) place =
-      wrapped (call_wraps place) (spell callee (called (within (call_wraps place) place)) ⊕ (bracket_link (call_expression_optional a) ⊕ brackets Round (spell_arguments (is_require_call callee arguments) (is_definition_call callee arguments) arguments (in_brackets Comma))))
+      wrapped (call_wraps place) (linked_items callee (spell callee (called (within (call_wraps place) place))) ⊕ (bracket_link (call_expression_optional a)
+      ⊕ brackets Round (spell_arguments (is_require_call callee arguments) (is_definition_call callee arguments) arguments (in_brackets Comma) ⊕ end_mark a.span)))
   spell (tree.chain a element) place = wrapped (chain_wraps place) (spell element (chain_place (chain_wraps place) place))
   -- up to two elements stand on one line
-  spell (tree.array a elements) place = brackets Square (on_lines (are_more 2 elements) (spell_elements (are_more 2 elements) elements (in_brackets Comma) ⊕ comma_if (ends_in_hole elements)))
+  spell (tree.array a elements) place = mark a.span ⊕ brackets Square (on_lines (are_more 2 elements) (spell_elements (are_more 2 elements) elements (in_brackets Comma) ⊕ comma_if (ends_in_hole elements)) ⊕ end_mark a.span)
   spell (tree.update a argument) place =
-      wrapped (wraps (update_level (update_expression_prefix a)) place) (update_items (update_expression_prefix a) (update_item (update_expression_operator a))
-      (spell argument (child Postfix (within (wraps (update_level (update_expression_prefix a)) place) place)))
+      wrapped (wraps (update_level (update_expression_prefix a)) place) (update_items a.span (update_expression_prefix a) (update_item (update_expression_operator a))
+      (linked_items argument (spell argument (child Postfix (within (wraps (update_level (update_expression_prefix a)) place) place))))
       (spell argument (child Prefix (within (wraps (update_level (update_expression_prefix a)) place) place))))
   spell (tree.new_expression a callee arguments) place =
-      wrapped (wraps New place) (word (codes "new") ⊕ (soft_space ⊕ (spell callee (constructed (within (wraps New place) place))
-      ⊕ new_arguments (any_given arguments || wraps Postfix place) (spell_list arguments (in_brackets Comma)))))
+      wrapped (wraps New place) (marked_word a.span (codes "new") ⊕ (soft_space ⊕ (spell callee (constructed (within (wraps New place) place))
+      ⊕ new_arguments (any_given arguments || wraps Postfix place) a.span (spell_list arguments (in_brackets Comma)))))
   -- up to one property stands on one line; as in an array, a comma would stand behind a last one that is left out, but none is
-  spell (tree.object_expression a properties) place = wrapped_at_start false a_brace (brackets Brace (object_inside properties (spell_elements (are_more 1 properties) properties (in_brackets Comma) ⊕ comma_if (ends_in_hole properties))))
+  spell (tree.object_expression a properties) place = wrapped_at_start false a_brace (mark a.span ⊕ brackets Brace (object_inside properties (spell_elements (are_more 1 properties) properties (in_brackets Comma) ⊕ comma_if (ends_in_hole properties)) ⊕ end_mark a.span))
   spell (tree.object_property a key value) place =
-      method_or_property (is_method (object_property_kind a) (object_property_method a))
+      items_if (is_function (type_of value)) (mark a.span) ⊕ method_or_property (is_method (object_property_kind a) (object_property_method a))
       (accessor_word (object_property_kind a) ⊕ (method_words value ⊕ (key_items (needs_brackets (object_property_computed a) key) key (spell key (in_brackets Comma)) ⊕ spell_method value place)))
       (before_value (object_property_shorthand a) (written_name_in key) (looked_up_in (without_parentheses value)) (key_items (needs_brackets (object_property_computed a) key) key (spell key (in_brackets Comma)))
       ⊕ spell value (in_brackets Comma))
   -- an assignment binds to the right, and hands on what is forbidden
   spell (tree.assignment a left right) place =
-      assignment_items (type_of left) (wraps Assign place) (spell left (quoted_plainly (is_key_of_exports left) (in_brackets Comma)) ⊕ (soft_space
-      ⊕ (assignment_item (assignment_expression_operator a) ⊕ (soft_space ⊕ spell right (child Comma place)))))
+      assignment_items (type_of left) (wraps Assign place) (mark a.span ⊕ (spell left (quoted_plainly (is_key_of_exports left) (in_brackets Comma)) ⊕ (soft_space
+      ⊕ (assignment_item (assignment_expression_operator a) ⊕ (soft_space ⊕ spell right (child Comma place))))))
   spell (tree.array_target a elements rest) place =
       mark a.span ⊕ brackets Square (spell_elements false elements (in_brackets Comma) ⊕ behind_elements elements rest (spell_if_given rest (in_brackets Comma)))
   spell (tree.object_target a properties rest) place =
@@ -653,14 +677,14 @@ abbrev mutual
   spell (tree.formal_parameters a items rest) place = spell_list items place ⊕ (comma_between items rest ⊕ spell_if_given rest place)
   -- no line end stands before the arrow (ECMA-262, 15.3)
   spell (tree.arrow_function a params body) place =
-      wrapped (arrow_wraps (arrow_function_expression_pife a) place) (items_if (arrow_function_expression_is_async a) (key_word (codes "async"))
+      wrapped (arrow_wraps (arrow_function_expression_pife a) place) (items_if (arrow_function_expression_is_async a) (marked_word a.span (codes "async") ⊕ soft_space)
       ⊕ (parameter_items (is_name_alone params) (spell params (child Comma (within true place)))
       ⊕ (soft_space ⊕ (punctuator arrow ⊕ (soft_space ⊕ (body_begins (type_of body) ⊕ spell body (child Comma (within (arrow_wraps (arrow_function_expression_pife a) place) place))))))))
   spell (tree.function a id params body) place =
-      function_items (function_kind a) (function_pife a) place (function_words (function_is_async a) (function_generator a) ⊕ (spell_if_given id (child Lowest place)
+      function_items (function_kind a) (function_pife a) place (function_words a.span (function_is_async a) (function_generator a) ⊕ (spell_if_given id (child Lowest place)
       ⊕ (brackets Round (spell params (with_calls (child Comma place))) ⊕ spell_apart body within_statement)))
   spell (tree.function_body a directives statements) place =
-      body_braces directives statements (spell_directives directives ⊕ spell_body statements)
+      body_braces a.span directives statements (spell_directives directives ⊕ spell_body statements)
   spell (tree.object_pattern a properties rest) place =
       mark a.span ⊕ pattern_braces properties rest (spell_list properties (child Lowest place) ⊕ (comma_between properties rest ⊕ spell_if_given rest (child Lowest place)))
   spell (tree.binding_property a key value) place =
@@ -669,16 +693,16 @@ abbrev mutual
   spell (tree.array_pattern a elements rest) place =
       mark a.span ⊕ brackets Square (spell_elements false elements (child Lowest place) ⊕ behind_elements elements rest (spell_if_given rest (child Lowest place)))
   spell (tree.private_identifier a) place = private_name a.span (private_identifier_name a)
-  spell (tree.private_member a object field) place = spell object (linked place) ⊕ (name_link (private_field_expression_optional a) ⊕ spell field (child Lowest place))
+  spell (tree.private_member a object field) place = linked_items object (spell object (linked place)) ⊕ (name_link (private_field_expression_optional a) ⊕ spell field (child Lowest place))
   spell (tree.private_in a left right) place =
       wrapped (binary_wraps operators.In place) (mark a.span ⊕ (spell left (child Lowest place) ⊕ (hard_space ⊕ (word (codes "in") ⊕ (hard_space ⊕ spell right behind_private)))))
   spell (tree.class a id heritage body) place =
       class_items (class_kind a) place a.span.start (marked_word a.span (codes "class") ⊕ (spell_behind_word id (child Lowest place)
       ⊕ (spell_heritage heritage ⊕ (soft_space ⊕ spell body (with_calls (child Lowest place))))))
   -- what a class is made of has its private names; what it extends hasn't (ECMA-262, 15.7)
-  spell (tree.class_body a body) place = mark a.span ⊕ in_class (braces body (spell_elements_of_class body (member place)))
+  spell (tree.class_body a body) place = in_class (braces a.span body (spell_elements_of_class body (member place)))
   spell (tree.static_block a body) place =
-      element_items place.in_list a.span.start (mark a.span ⊕ (key_word (codes "static") ⊕ braces body (spell_statements body))) soft_line
+      element_items place.in_list a.span.start (mark a.span ⊕ (key_word (codes "static") ⊕ braces a.span body (spell_statements body))) soft_line
   spell (tree.method_definition a key value) place =
       element_items place.in_list a.span.start (mark a.span ⊕ (items_if (method_definition_is_static a) (key_word (codes "static")) ⊕ (method_kind_word (method_definition_kind a)
       ⊕ (method_words value ⊕ (key_items (method_definition_computed a) key (spell key (in_brackets Comma)) ⊕ spell_method value place))))) soft_line
@@ -688,7 +712,7 @@ abbrev mutual
   spell (tree.template_literal a quasis expressions) place =
       items_if (is_one quasis) (comments with_key_annotation a.span.start) ⊕ (mark a.span
       ⊕ (first_piece place.context.is_tagged opening_part quasis ⊕ spell_substitutions place.context.is_tagged expressions (other_pieces quasis)))
-  spell (tree.tagged_template a callee quasi) place = mark a.span ⊕ (spell callee (tag place) ⊕ spell quasi (tagged place))
+  spell (tree.tagged_template a callee quasi) place = mark a.span ⊕ (linked_items callee (spell callee (tag place)) ⊕ spell quasi (tagged place))
   spell (tree.import_call a source options) place =
       wrapped (call_wraps place) (marked_word a.span (codes "import") ⊕ brackets Round (spell source (in_brackets Comma) ⊕ spell_behind_comma options (in_brackets Comma)))
   -- the line end stays in minified text (ECMA-262, 12.5)
@@ -722,16 +746,16 @@ abbrev mutual
       ⊕ spell_list declarations (child Lowest place))))
   spell (tree.variable_declarator a id init) place = spell id (child Lowest place) ⊕ spell_value init (child Comma place)
   spell (tree.expression_statement a expression) place =
-      comments all_of_them a.span.start ⊕ (indentation ⊕ (statement_begins ⊕ (spell expression (in_brackets Lowest) ⊕ statement_end)))
+      comments all_of_them a.span.start ⊕ (marked_indentation a.span ⊕ (statement_begins ⊕ (spell expression (in_brackets Lowest) ⊕ statement_end)))
   spell (tree.empty_statement a) place = comments all_of_them a.span.start ⊕ (indentation ⊕ (mark a.span ⊕ (punctuator semicolon ⊕ soft_line)))
   spell (tree.this_expression a) place = marked_word a.span (codes "this")
   spell (tree.null_literal a) place = marked_word a.span (codes "null")
   spell (tree.reg_exp_literal a) place = mark a.span ⊕ regular_expression (reg_exp_literal_pattern a) (reg_exp_literal_flags a)
-  spell (tree.parenthesized a expression) place = spell expression place
+  spell (tree.parenthesized a expression) place = (spell expression place ⊕ link_mark (span_if (is_at_link place) (span_of expression)))
   spell (tree.identifier_name a) place = name a.span (as_written (identifier_name_name a))
   spell (tree.spread a argument) place = mark a.span ⊕ (punctuator ellipsis ⊕ spell argument (in_brackets Comma))
   spell (tree.unary a argument) place =
-      wrapped (wraps Prefix place) (unary_sign (unary_expression_operator a) ⊕ (behind_unary (unary_expression_operator a)
+      wrapped (wraps Prefix place) (marked a.span (unary_sign (unary_expression_operator a)) ⊕ (behind_unary (unary_expression_operator a)
       ⊕ spell argument (child Exponentiation (within (wraps Prefix place) place))))
   spell (tree.new_target a) place = marked_word a.span (codes "new") ⊕ (member_dot ⊕ word (codes "target"))
   spell (tree.super a) place = marked_word a.span (codes "super")
@@ -755,8 +779,8 @@ abbrev mutual
       ⊕ (brackets Round (spell test (in_brackets Lowest)) ⊕ body_items (shape body) (spell body within_statement) (spell body among_statements)))))
   spell (tree.label_identifier a) place = name a.span (as_written (label_identifier_name a))
   spell (tree.labeled_statement a label body) place =
-      comments all_of_them a.span.start ⊕ (indentation ⊕ (spell label (child Lowest place) ⊕ (punctuator colon
-      ⊕ body_items (shape body) (spell body within_statement) (spell body among_statements))))
+      comments all_of_them a.span.start ⊕ (indentation ⊕ (apart ⊕ (mark a.span ⊕ (spell label (child Lowest place) ⊕ (punctuator colon
+      ⊕ body_items (shape body) (spell body within_statement) (spell body among_statements))))))
   spell (tree.continue_statement a label) place =
       comments all_of_them a.span.start ⊕ (indentation ⊕ (marked_word a.span (codes "continue") ⊕ (spell_apart label (child Lowest place)
       ⊕ statement_end)))
@@ -823,7 +847,7 @@ abbrev mutual
   -- what a class extends
   pub spell_heritage : Maybe → Items
   spell_heritage absent = nothing
-  spell_heritage (given t) = soft_space ⊕ (word (codes "extends") ⊕ (hard_space ⊕ spell t (in_brackets Postfix)))
+  spell_heritage (given t) = soft_space ⊕ (word (codes "extends") ⊕ (hard_space ⊕ linked_items t (spell t (in_brackets Postfix))))
 
   -- behind a space that minified text keeps
   pub spell_behind_word : Maybe → Place → Items

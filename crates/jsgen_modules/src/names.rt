@@ -22,6 +22,7 @@ use jsgen_tree::{BindingIdentifier, ModuleExportName, StringLiteral};
 pub fn print_plain_string(node: &StringLiteral, p: &mut Printer<'_>)
     ensures { Lays p.old p.new (spell (string_literal_row node.now) plainly) }
 {
+    p.print_mark(node.span);
     p.print_string(&node.value, false);
 }
 

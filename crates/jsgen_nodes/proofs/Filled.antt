@@ -2,21 +2,21 @@
 use Rattle.std.proofs.Common.{◌≡◌, List, [], ◌∷◌, map, length, suc, Bool, true, false, ◌&&◌, refl, arith}
 use Rattle.std.specs.Bool.{◌==◌}
 use Rattle.std.proofs.lemmas.Bool.{both_ways, eqb-true}
+use Rattle.jsgen_syntax.specs.declared.span.Span.{Span}
 use Rattle.jsgen_tree.specs.Tree.{Tree, trees}
-use Rattle.jsgen_model.specs.Punctuator.{Brace}
-use Rattle.jsgen_model.specs.Items.{Items, ◌⊕◌, nothing, brackets, drop_semicolon}
-use Rattle.jsgen_model.specs.Spell.{filled_braces, body_braces}
+use Rattle.jsgen_model.specs.Items.{Items}
+use Rattle.jsgen_model.specs.Spell.{filled_braces, empty_braces, body_braces}
 
 first_holds : (a b : Bool) → (a && b) ≡ true → a ≡ true
 first_holds true b h = refl
 first_holds false b h = h
 
-pub empty_body : {A B : Type 0} (f : A → Tree) (g : B → Tree) (xs : List A) (ys : List B) (items : Items) → ((length xs == 0) && (length ys == 0)) ≡ true → brackets Brace nothing ⊕ drop_semicolon ≡ body_braces (trees (map f xs)) (trees (map g ys)) items
-empty_body f g [] [] items h = refl
-empty_body f g [] (y ∷ ys) items h = absurd (omega (arith, eqb-true (suc (length ys)) 0 h))
-empty_body f g (x ∷ xs) ys items h = absurd (omega (arith, eqb-true (suc (length xs)) 0 (first_holds (suc (length xs) == 0) (length ys == 0) h)))
+pub empty_body : {A B : Type 0} (f : A → Tree) (g : B → Tree) (xs : List A) (ys : List B) (s : Span) (items : Items) → ((length xs == 0) && (length ys == 0)) ≡ true → empty_braces s ≡ body_braces s (trees (map f xs)) (trees (map g ys)) items
+empty_body f g [] [] s items h = refl
+empty_body f g [] (y ∷ ys) s items h = absurd (omega (arith, eqb-true (suc (length ys)) 0 h))
+empty_body f g (x ∷ xs) ys s items h = absurd (omega (arith, eqb-true (suc (length xs)) 0 (first_holds (suc (length xs) == 0) (length ys == 0) h)))
 
-pub filled_body : {A B : Type 0} (f : A → Tree) (g : B → Tree) (xs : List A) (ys : List B) (items : Items) → ((length xs == 0) && (length ys == 0)) ≡ false → filled_braces items ≡ body_braces (trees (map f xs)) (trees (map g ys)) items
-filled_body f g [] [] items h = absurd (both_ways true h refl)
-filled_body f g [] (y ∷ ys) items h = refl
-filled_body f g (x ∷ xs) ys items h = refl
+pub filled_body : {A B : Type 0} (f : A → Tree) (g : B → Tree) (xs : List A) (ys : List B) (s : Span) (items : Items) → ((length xs == 0) && (length ys == 0)) ≡ false → filled_braces s items ≡ body_braces s (trees (map f xs)) (trees (map g ys)) items
+filled_body f g [] [] s items h = absurd (both_ways true h refl)
+filled_body f g [] (y ∷ ys) s items h = refl
+filled_body f g (x ∷ xs) ys s items h = refl

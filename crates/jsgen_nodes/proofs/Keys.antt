@@ -2,12 +2,12 @@
 use Rattle.std.proofs.Common.{◌≡◌, ℕ, Bool, true, false, ◌&&◌, Option, Some, None, List, [], ◌∷◌, map, refl, sym, ap, ◌∙◌, if◌then◌else◌}
 use Rattle.std.specs.Option.{option_map_or}
 use Rattle.std.proofs.lemmas.Bool.{both_ways}
-use Rattle.jsgen_tree.specs.Tree.{Tree, more, holed, trees, type_of}
+use Rattle.jsgen_tree.specs.Tree.{Tree, more, holed, trees, type_of, span_of}
 use Rattle.jsgen_tree.specs.Nodes as tree
 use Rattle.jsgen_tree.specs.Named.{Named, as_written}
 use Rattle.jsgen_tree.specs.Inside.{without_parentheses, is_proto, is_negative_number}
 use Rattle.jsgen_model.specs.Punctuator.{colon}
-use Rattle.jsgen_model.specs.Items.{Items, nothing, ◌⊕◌, string, punctuator, soft_space, unless_minified}
+use Rattle.jsgen_model.specs.Items.{Items, nothing, ◌⊕◌, mark, string, punctuator, soft_space, unless_minified}
 use Rattle.jsgen_model.specs.Spell.{string_in, key_text, items_unless, unless_said, before_value, before_bound, before_target}
 use Rattle.jsgen_printer.specs.Printer.{pen_of}
 use Rattle.jsgen_printer.specs.Steps.{Lays}
@@ -23,8 +23,8 @@ pub no_string : (t : Tree) → is_string (type_of t) ≡ false → string_in t �
 no_string (tree.string_literal a) h = absurd (both_ways true h refl)
 no_string t h = refl
 
--- the text of a key, by the string that it is
-pub key_by_string : (t : Tree) (items : Items) → option_map_or (λ v. string false v) (string_in t) items ≡ key_text t items
+-- the text of a key, by the string that it is and where it stands
+pub key_by_string : (t : Tree) (items : Items) → option_map_or (λ v. mark (span_of t) ⊕ string false v) (string_in t) items ≡ key_text t items
 key_by_string (tree.string_literal a) items = refl
 key_by_string t items = refl
 

@@ -10,3 +10,4 @@ pub mod Keys
 mod OnePiece
 pub mod Parts
 pub mod Said
+pub mod Targeted

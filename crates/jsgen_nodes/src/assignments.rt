@@ -3,7 +3,7 @@ ghost use Rattle.std.specs.Prelude.{◌≡◌, ◌||◌};
 ghost use Rattle.jsgen_syntax.specs.declared.precedence.Precedence.TheVariants.{Assign, Comma};
 ghost use Rattle.jsgen_place.specs.Place.{child, in_brackets, quoted_plainly, wraps};
 ghost use Rattle.jsgen_tree.specs.Rows.{assignment_expression_row, in_assignment_target, in_expression};
-ghost use Rattle.jsgen_model.specs.Items.{◌⊕◌, a_brace, soft_space};
+ghost use Rattle.jsgen_model.specs.Items.{◌⊕◌, a_brace, soft_space, mark};
 ghost use Rattle.jsgen_model.specs.Layout.{is_barred};
 ghost use Rattle.jsgen_model.specs.Operators.{assignment_item};
 ghost use Rattle.jsgen_model.specs.Quotes.{is_key_of_exports};
@@ -53,11 +53,12 @@ fn print_from_target<N: PrintNode>(
     p: &mut Printer<'_>,
     place: Place,
 )
-    ensures { Lays p.old p.new (spell (in_assignment_target N.plain node.now.left) (quoted_plainly (is_key_of_exports (in_assignment_target N.plain node.now.left)) (in_brackets Comma))
-        ⊕ (soft_space ⊕ (assignment_item node.now.operator ⊕ (soft_space ⊕ spell (in_expression N.plain node.now.right) (child Comma place))))) }
+    ensures { Lays p.old p.new (mark node.now.span ⊕ (spell (in_assignment_target N.plain node.now.left) (quoted_plainly (is_key_of_exports (in_assignment_target N.plain node.now.left)) (in_brackets Comma))
+        ⊕ (soft_space ⊕ (assignment_item node.now.operator ⊕ (soft_space ⊕ spell (in_expression N.plain node.now.right) (child Comma place)))))) }
 {
     let target = Place::in_brackets(Precedence::Comma);
     let plain = node.left.get().is_key_of_exports();
+    p.print_mark(node.span);
     node.left.get().print(p, target.quoted_plainly(plain));
     p.print_soft_space();
     p.print_assignment_sign(node.operator);

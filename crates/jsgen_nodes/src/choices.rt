@@ -29,7 +29,7 @@ pub fn print_switch_statement<N: PrintNode>(
 {
     let _ = place;
     p.print_indentation();
-    p.print_word("switch");
+    p.print_marked_word(node.span, "switch");
     p.print_soft_space();
     p.print_opening(Bracket::Round);
     node.discriminant
@@ -37,7 +37,7 @@ pub fn print_switch_statement<N: PrintNode>(
         .print(p, Place::in_brackets(Precedence::Lowest));
     p.print_closing(Bracket::Round);
     p.print_soft_space();
-    print_braces::<_, Cases>(&node.cases, p);
+    print_braces::<_, Cases>(node.span, &node.cases, p);
     p.print_soft_line();
 }
 
@@ -60,7 +60,12 @@ pub fn print_switch_case<N: PrintNode>(node: &SwitchCase<N>, p: &mut Printer<'_>
     ensures { Lays p.old p.new (spell (switch_case_row N.plain node.now) place) }
 {
     let _ = place;
-    print_case::<_, _, Nested<Inside>, Only, Statements>(&node.test, &node.consequent, p);
+    print_case::<_, _, Nested<Inside>, Only, Statements>(
+        node.span,
+        &node.test,
+        &node.consequent,
+        p,
+    );
 }
 
 /// A statement that is the only one of its case.
@@ -80,7 +85,7 @@ pub fn print_try_statement<N: PrintNode>(node: &TryStatement<N>, p: &mut Printer
     let _ = place;
     let within = Place::within_statement();
     p.print_indentation();
-    p.print_word("try");
+    p.print_marked_word(node.span, "try");
     p.print_soft_space();
     print_block_statement(&node.block, p, within);
     print_if_given::<_, Clauses>(&node.handler, p, within);

@@ -8,8 +8,8 @@ ghost use Rattle.jsgen_tree.specs.Inside.{without_parentheses, looked_up_in, wri
 ghost use Rattle.jsgen_tree.specs.Rows.{array_expression_row, in_array_expression_element, object_property_row, object_expression_row, in_object_property_kind, in_property_key, in_expression};
 ghost use Rattle.jsgen_place.specs.Place.{in_brackets};
 ghost use Rattle.jsgen_model.specs.Punctuator.{Square, Brace, colon};
-ghost use Rattle.jsgen_model.specs.Items.{◌⊕◌, brackets, punctuator, soft_space};
-ghost use Rattle.jsgen_model.specs.Spell.{spell, method_words, spell_method, are_more, object_inside, spell_elements, ends_in_hole, comma_if, key_text, key_items, accessor_word, before_value, string_in};
+ghost use Rattle.jsgen_model.specs.Items.{◌⊕◌, brackets, punctuator, soft_space, mark, end_mark};
+ghost use Rattle.jsgen_model.specs.Spell.{spell, method_words, spell_method, are_more, object_inside, spell_elements, ends_in_hole, comma_if, key_text, key_items, accessor_word, before_value, string_in, is_function};
 ghost use Rattle.jsgen_printer.specs.Printer.{pen_of};
 ghost use Rattle.jsgen_printer.specs.Steps.{Lays};
 ghost use Rattle.jsgen_nodes.specs.Keys.{is_string, is_number, is_said, is_value_alone, key_of};
@@ -22,7 +22,7 @@ use jsgen_place::Place;
 use jsgen_printer::{Bracket, Printer};
 use jsgen_questions::{is_alone, needs_brackets};
 use jsgen_spelled::{print_identifier_name, print_spread_element};
-use jsgen_syntax::{JsStr, Precedence};
+use jsgen_syntax::{JsStr, Precedence, Span};
 use jsgen_tree::{
     ArrayExpression, ArrayExpressionElement, ExpressionNode, NodeType, ObjectExpression,
     ObjectProperty, ObjectPropertyKind, PropertyKey,
@@ -36,7 +36,8 @@ pub fn print_array_expression<N: PrintNode>(
     ensures { Lays p.old p.new (spell (array_expression_row N.plain node.now) place) }
 {
     let _ = place;
-    print_array::<_, Elements>(&node.elements, p, Place::in_brackets(Precedence::Comma));
+    let within = Place::in_brackets(Precedence::Comma);
+    print_array::<_, Elements>(node.span, &node.elements, p, within);
 }
 
 /// The elements of an array; one that is left out has nothing in its place.
@@ -86,17 +87,21 @@ pub fn print_object_expression<N: PrintNode>(
     let _ = place;
     let wrap = p.bars_brace();
     p.print_opening_if(wrap);
-    print_properties(&node.properties, p);
+    print_properties(node.span, &node.properties, p);
     p.print_closing_if(wrap);
 }
 
 // The braces and what is in them.
-fn print_properties<N: PrintNode>(properties: &[ObjectPropertyKind<N>], p: &mut Printer<'_>)
-    ensures { Lays p.old p.new (brackets Brace (object_inside (trees (map (in_object_property_kind N.plain) properties.now))
+fn print_properties<N: PrintNode>(
+    span: Span,
+    properties: &[ObjectPropertyKind<N>],
+    p: &mut Printer<'_>,
+)
+    ensures { Lays p.old p.new (mark span ⊕ brackets Brace (object_inside (trees (map (in_object_property_kind N.plain) properties.now))
         (spell_elements (are_more 1 (trees (map (in_object_property_kind N.plain) properties.now))) (trees (map (in_object_property_kind N.plain) properties.now)) (in_brackets Comma)
-        ⊕ comma_if (ends_in_hole (trees (map (in_object_property_kind N.plain) properties.now)))))) }
+        ⊕ comma_if (ends_in_hole (trees (map (in_object_property_kind N.plain) properties.now)))) ⊕ end_mark span)) }
 {
-    print_object::<_, Properties>(properties, p, Place::in_brackets(Precedence::Comma));
+    print_object::<_, Properties>(span, properties, p, Place::in_brackets(Precedence::Comma));
 }
 
 /// The properties of an object, of which none is left out.
@@ -127,11 +132,18 @@ pub fn print_object_property<N: PrintNode>(
 )
     ensures { Lays p.old p.new (spell (object_property_row N.plain node.now) place) }
 {
+    p.print_mark_if(is_function(node.value.get().node_type()), node.span);
     if node.is_method() {
         print_method_property(node, p, place);
     } else {
         print_valued_property(node, p);
     }
+}
+
+fn is_function(node_type: NodeType) -> bool
+    ensures { result ≡ is_function node_type }
+{
+    matches!(node_type, NodeType::Function)
 }
 
 // A method or an accessor, whose function follows its key.
@@ -263,7 +275,10 @@ fn print_key_expression<N: PrintNode>(key: &ExpressionNode<N>, p: &mut Printer<'
     ensures { Lays p.old p.new (key_text (in_expression N.plain key.now) (spell (in_expression N.plain key.now) place)) }
 {
     match key_string(key.get()) {
-        Some(value) => p.print_string(value, false),
+        Some(value) => {
+            p.print_mark(key.get().span());
+            p.print_string(value, false);
+        }
         None => key.get().print(p, place),
     }
 }

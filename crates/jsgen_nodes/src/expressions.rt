@@ -1,7 +1,10 @@
 // Expressions (ECMA-262, clause 13), one function for each row.
 ghost use Rattle.std.specs.Prelude.{true, decimal};
 ghost use Rattle.jsgen_tree.specs.Rows.{boolean_literal_row, numeric_literal_row, big_int_literal_row, string_literal_row, binary_expression_row, logical_expression_row, static_member_expression_row, computed_member_expression_row, call_expression_row, chain_expression_row, in_argument, in_chain_element};
-ghost use Rattle.jsgen_model.specs.Spell.{spell, signed};
+ghost use Rattle.jsgen_tree.specs.Tree.{atoms_of};
+ghost use Rattle.jsgen_tree.specs.Values.{numeric_literal_kind};
+ghost use Rattle.jsgen_model.specs.Items.{word};
+ghost use Rattle.jsgen_model.specs.Spell.{spell, truth_word, number_items, signed};
 ghost use Rattle.jsgen_printer.specs.Steps.{Lays};
 ghost use Rattle.jsgen_nodes.specs.Calls.{from_callee};
 
@@ -10,7 +13,9 @@ use crate::inside::Inside;
 use crate::quotes::{is_mark, plain_quotes};
 use jsgen_classes::print_private_field_expression;
 use jsgen_inside::Nested;
-use jsgen_lists::{PrintMember, print_arguments, print_bracket_link, print_named_member};
+use jsgen_lists::{
+    PrintMember, print_arguments, print_bracket_link, print_linked, print_named_member,
+};
 use jsgen_place::Place;
 use jsgen_printer::{Bracket, Printer};
 use jsgen_questions::{left_level, right_level, takes_no_dot, unmixed};
@@ -26,11 +31,26 @@ pub fn print_boolean_literal(node: &BooleanLiteral, p: &mut Printer<'_>, place: 
     ensures { Lays p.old p.new (spell (boolean_literal_row node.now) place) }
 {
     let _ = place;
-    p.print_word(if node.value { "true" } else { "false" });
+    p.print_mark(node.span);
+    print_truth(node.value, p);
+}
+
+fn print_truth(value: bool, p: &mut Printer<'_>)
+    ensures { Lays p.old p.new (word (truth_word value)) }
+{
+    p.print_word(if value { "true" } else { "false" });
 }
 
 pub fn print_numeric_literal(node: &NumericLiteral, p: &mut Printer<'_>, place: Place)
     ensures { Lays p.old p.new (spell (numeric_literal_row node.now) place) }
+{
+    p.print_mark(node.span);
+    print_number(node, p, place);
+}
+
+// The number itself.
+fn print_number(node: &NumericLiteral, p: &mut Printer<'_>, place: Place)
+    ensures { Lays p.old p.new (number_items (numeric_literal_kind (atoms_of (numeric_literal_row node.now))) (atoms_of (numeric_literal_row node.now)) place) }
 {
     match &node.value {
         NumericValue::Whole { negative, digits } => print_whole(*negative, *digits, p, place),
@@ -53,14 +73,19 @@ pub fn print_big_int_literal(node: &BigIntLiteral, p: &mut Printer<'_>, place: P
 {
     let value = node.value.as_str();
     match behind_minus(value) {
-        Some(digits) => p.print_negative_big_integer(place.wraps(Precedence::Prefix), digits),
-        None => p.print_big_integer(value),
+        Some(digits) => p.print_negative_big_integer(
+            node.span,
+            place.wraps(Precedence::Prefix),
+            digits,
+        ),
+        None => p.print_marked_big_integer(node.span, value),
     }
 }
 
 pub fn print_string_literal(node: &StringLiteral, p: &mut Printer<'_>, place: Place)
     ensures { Lays p.old p.new (spell (string_literal_row node.now) place) }
 {
+    p.print_mark(node.span);
     p.print_string(&node.value, !place.plain_quotes);
 }
 
@@ -137,7 +162,7 @@ pub fn print_computed_member_expression<N: PrintNode>(
     ensures { Lays p.old p.new (spell (computed_member_expression_row N.plain node.now) place) }
 {
     let within = Place::in_brackets(Precedence::Lowest);
-    node.object.get().print(p, place.linked());
+    print_linked::<_, Nested<Inside>>(&node.object, p, place.linked());
     print_bracket_link(node.optional, p);
     p.print_opening(Bracket::Square);
     node.expression
@@ -163,11 +188,11 @@ pub fn print_call_expression<N: PrintNode>(
 pub fn print_from_callee<N: PrintNode>(node: &CallExpression<N>, p: &mut Printer<'_>, place: Place)
     ensures { Lays p.old p.new (from_callee (call_expression_row N.plain node.now) place) }
 {
-    node.callee.get().print(p, place.called());
+    print_linked::<_, Nested<Inside>>(&node.callee, p, place.called());
     print_bracket_link(node.optional, p);
     let within = Place::in_brackets(Precedence::Comma);
     let quotes = plain_quotes(node);
-    print_arguments::<_, Arguments>(quotes, &node.arguments, p, within);
+    print_arguments::<_, Arguments>(node.span, quotes, &node.arguments, p, within);
 }
 
 pub fn print_chain_expression<N: PrintNode>(

@@ -5,7 +5,7 @@ ghost use Rattle.jsgen_tree.specs.Tree.{type_of, trees};
 ghost use Rattle.jsgen_tree.specs.Rows.{formal_parameters_row, formal_parameter_row, formal_parameter_rest_row, arrow_function_expression_row, in_arrow_function_body, function_row, function_body_row, binding_identifier_row, directive_row, in_statement};
 ghost use Rattle.jsgen_place.specs.Place.{child, within};
 ghost use Rattle.jsgen_model.specs.Punctuator.{Round, star};
-ghost use Rattle.jsgen_model.specs.Items.{word, punctuator, brackets, soft_space, hard_space, parentheses_unless_minified, ◌⊕◌, a_declaration};
+ghost use Rattle.jsgen_model.specs.Items.{marked_word, punctuator, brackets, soft_space, hard_space, parentheses_unless_minified, ◌⊕◌, a_declaration};
 ghost use Rattle.jsgen_model.specs.Spell.{spell, items_if, key_word, function_words, method_words, is_name_alone, parameter_items, body_begins, spell_method, spell_directives, spell_body, filled_braces};
 ghost use Rattle.jsgen_printer.specs.Steps.{Lays};
 ghost use Rattle.jsgen_questions.specs.Names.{is_name_parameter};
@@ -24,7 +24,7 @@ use jsgen_lists::{
 use jsgen_place::Place;
 use jsgen_printer::{Bracket, Printer};
 use jsgen_spelled::{print_formal_parameter, print_formal_parameter_rest};
-use jsgen_syntax::Precedence;
+use jsgen_syntax::{Precedence, Span};
 use jsgen_tree::{
     ArrowFunctionBody, ArrowFunctionExpression, BindingIdentifier, Directive, FormalParameter,
     FormalParameterRest, FormalParameters, Function, FunctionBody, FunctionKind, NodeType,
@@ -79,7 +79,7 @@ pub fn print_arrow_function_expression<N: PrintNode>(
     let wrap = place.wraps_arrow(node.pife);
     p.print_opening_if(wrap);
     let within = place.within(wrap);
-    print_async_if(node.is_async, p);
+    print_marked_async_if(node.is_async, node.span, p);
     print_arrow_parameters(&node.params, p, place);
     p.print_soft_space();
     p.print_arrow();
@@ -89,7 +89,17 @@ pub fn print_arrow_function_expression<N: PrintNode>(
     p.print_closing_if(wrap);
 }
 
-// The word before what is `async`.
+// The word that begins what is `async`, with its mark.
+fn print_marked_async_if(test: bool, span: Span, p: &mut Printer<'_>)
+    ensures { Lays p.old p.new (items_if test (marked_word span (codes "async") ⊕ soft_space)) }
+{
+    if test {
+        p.print_marked_word(span, "async");
+        p.print_soft_space();
+    }
+}
+
+// The word before the key of what is `async`.
 fn print_async_if(test: bool, p: &mut Printer<'_>)
     ensures { Lays p.old p.new (items_if test (key_word (codes "async"))) }
 {
@@ -221,25 +231,25 @@ fn is_in_parentheses(pife: bool, p: &Printer<'_>) -> bool
 fn print_from_word<N: PrintNode>(node: &Function<N>, p: &mut Printer<'_>, place: Place)
     ensures { Lays p.old p.new (from_word (function_row N.plain node.now) place) }
 {
-    print_function_words(node.is_async, node.generator, p);
+    print_function_words(node.span, node.is_async, node.generator, p);
     print_if_given::<_, Names>(&node.id, p, place.child(Precedence::Lowest));
     print_behind_name(node, p, place);
 }
 
 // The words before the name, of what is `async` and of a generator too.
-fn print_function_words(is_async: bool, generator: bool, p: &mut Printer<'_>)
-    ensures { Lays p.old p.new (function_words is_async generator) }
+fn print_function_words(span: Span, is_async: bool, generator: bool, p: &mut Printer<'_>)
+    ensures { Lays p.old p.new (function_words span is_async generator) }
 {
-    print_async_apart_if(is_async, p);
-    p.print_word("function");
+    print_async_apart_if(is_async, span, p);
+    p.print_marked_word(span, "function");
     print_star_apart_if(generator, p);
 }
 
-fn print_async_apart_if(test: bool, p: &mut Printer<'_>)
-    ensures { Lays p.old p.new (items_if test (word (codes "async") ⊕ hard_space)) }
+fn print_async_apart_if(test: bool, span: Span, p: &mut Printer<'_>)
+    ensures { Lays p.old p.new (items_if test (marked_word span (codes "async") ⊕ hard_space)) }
 {
     if test {
-        p.print_word("async");
+        p.print_marked_word(span, "async");
         p.print_hard_space();
     }
 }
@@ -300,7 +310,7 @@ pub fn print_function_body<N: PrintNode>(node: &FunctionBody<N>, p: &mut Printer
 {
     let _ = place;
     if are_empty(&node.directives, &node.statements) {
-        print_empty_braces(p);
+        print_empty_braces(node.span, p);
     } else {
         print_filled_body(node, p);
     }
@@ -313,11 +323,11 @@ fn are_empty<N>(directives: &[Directive], statements: &[StatementNode<N>]) -> bo
 }
 
 fn print_filled_body<N: PrintNode>(node: &FunctionBody<N>, p: &mut Printer<'_>)
-    ensures { Lays p.old p.new (filled_braces (spell_directives (trees (map directive_row node.now.directives.items))
+    ensures { Lays p.old p.new (filled_braces node.now.span (spell_directives (trees (map directive_row node.now.directives.items))
         ⊕ spell_body (trees (map (in_statement N.plain) node.now.statements.items)))) }
 {
-    let depth = open_braces(p);
+    let depth = open_braces(node.span, p);
     print_directives(&node.directives, p);
     print_body::<_, Statements>(&node.statements, p);
-    close_braces(p, depth);
+    close_braces(node.span, p, depth);
 }

@@ -9,6 +9,7 @@ use jsgen_inside::{Nested, PrintInClass, PrintInside};
 use jsgen_lists::{print_braces, print_value};
 use jsgen_place::Place;
 use jsgen_printer::Printer;
+use jsgen_syntax::Span;
 use jsgen_tree::{ExpressionNode, Function, NodeType, PropertyKey, StatementNode};
 
 /// By this crate's own functions.
@@ -19,6 +20,10 @@ impl<N: PrintNode> PrintInside<N> for Inside {
 
     fn node_type(node: &N) -> NodeType {
         node.node_type()
+    }
+
+    fn span(node: &N) -> Span {
+        node.span()
     }
 
     fn print(node: &N, p: &mut Printer<'_>, place: Place) {
@@ -48,7 +53,7 @@ impl<N: PrintNode> PrintInClass<N> for InClass {
         print_behind_name(function, p, place);
     }
 
-    fn print_block(statements: &[StatementNode<N>], p: &mut Printer<'_>) {
-        print_braces::<_, Statements>(statements, p);
+    fn print_block(span: Span, statements: &[StatementNode<N>], p: &mut Printer<'_>) {
+        print_braces::<_, Statements>(span, statements, p);
     }
 }

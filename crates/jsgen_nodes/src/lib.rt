@@ -21,11 +21,11 @@ pub mod templates;
 ghost use Rattle.std.specs.Prelude.{◌≡◌, option_map};
 ghost use Rattle.std.specs.Str.{chars};
 ghost use Rattle.jsgen_syntax.specs.Units.{js_units};
-ghost use Rattle.jsgen_tree.specs.Tree.{Tree, type_of};
+ghost use Rattle.jsgen_tree.specs.Tree.{Tree, type_of, span_of};
 ghost use Rattle.jsgen_tree.specs.Inside.{without_parentheses, ends_open, looked_up_in, named_by, bound_in, bound_by, written_name_in, is_negative};
 ghost use Rattle.jsgen_tree.specs.Plain.{node_plain};
 ghost use Rattle.jsgen_model.specs.Quotes.{is_member_of, is_named, is_key_of_exports};
-ghost use Rattle.jsgen_model.specs.Spell.{spell, method_words, spell_method, string_in, string_statement, target_named, is_declared};
+ghost use Rattle.jsgen_model.specs.Spell.{spell, method_words, spell_method, string_in, string_statement, span_inside, target_named, is_declared};
 ghost use Rattle.jsgen_printer.specs.Steps.{Lays};
 ghost use Rattle.jsgen_questions.specs.Names.{is_binding_name};
 ghost use Rattle.jsgen_questions.specs.Operands.{operand_of};
@@ -35,12 +35,13 @@ pub use inside::{InClass, Inside};
 use jsgen_place::Place;
 use jsgen_printer::Printer;
 use jsgen_questions::{
-    Operand, bare_looked_up, ends_open, is_binding_name, is_member, is_named, operand_of, string,
-    string_statement,
+    Operand, bare_looked_up, ends_open, inside_span, is_binding_name, is_member, is_named,
+    operand_of, string, string_statement,
 };
-use jsgen_syntax::JsStr;
+use jsgen_syntax::{JsStr, Span};
 use jsgen_tree::{
-    BindingIdentifier, Declaration, Expression, IdentifierReference, Node, NodeType, Statement,
+    BindingIdentifier, Declaration, Expression, GetSpan, IdentifierReference, Node, NodeType,
+    Statement,
 };
 use modules::{is_declared_class, is_declared_function};
 use quotes::{is_key_of_exports, member_is_key_of_exports};
@@ -55,6 +56,13 @@ pub trait PrintNode {
 
     fn node_type(&self) -> NodeType
         ensures { result ≡ type_of (plain self.now) };
+
+    fn span(&self) -> Span
+        ensures { result ≡ span_of (plain self.now) };
+
+    /// Where what an expression statement says stands, without the parentheses that it may have round it.
+    fn inside_span(&self) -> Span
+        ensures { result ≡ span_inside (plain self.now) };
 
     fn print(&self, p: &mut Printer<'_>, place: Place)
         ensures { Lays p.old p.new (spell (plain self.now) place) };
@@ -131,6 +139,14 @@ impl PrintNode for Node {
 
     fn node_type(&self) -> NodeType {
         self.node_type()
+    }
+
+    fn span(&self) -> Span {
+        GetSpan::span(self)
+    }
+
+    fn inside_span(&self) -> Span {
+        inside_span(self)
     }
 
     #[cycle(node)]

@@ -4,7 +4,7 @@ ghost use Rattle.jsgen_place.specs.Place.{within_statement, among_statements};
 ghost use Rattle.jsgen_model.specs.Spell.{spell, shape, do_items, left_place, items_if, before_of, apart_from_of};
 ghost use Rattle.jsgen_printer.specs.Steps.{Lays};
 ghost use Rattle.std.specs.Prelude.{◌≡◌, codes};
-ghost use Rattle.jsgen_tree.specs.Tree.{type_of};
+ghost use Rattle.jsgen_tree.specs.Tree.{type_of, span_of};
 ghost use Rattle.jsgen_tree.specs.Inside.{looked_up_in};
 ghost use Rattle.jsgen_model.specs.Punctuator.{Round};
 ghost use Rattle.jsgen_model.specs.Items.{◌⊕◌, word, hard_space, brackets};
@@ -34,7 +34,7 @@ pub fn print_for_statement<N: PrintNode>(node: &ForStatement<N>, p: &mut Printer
     let first = Place::loop_head();
     let within = Place::in_brackets(Precedence::Lowest);
     p.print_indentation();
-    p.print_word("for");
+    p.print_marked_word(node.span, "for");
     p.print_soft_space();
     p.print_opening(Bracket::Round);
     print_if_given::<_, Inits>(&node.init, p, first);
@@ -71,7 +71,7 @@ pub fn print_do_while_statement<N: PrintNode>(
 {
     let _ = place;
     p.print_indentation();
-    p.print_word("do");
+    p.print_marked_word(node.span, "do");
     print_do_body(&node.body, p);
     p.print_word("while");
     p.print_soft_space();
@@ -85,7 +85,7 @@ pub fn print_do_while_statement<N: PrintNode>(
 
 // What stands between `do` and `while`: a statement that is no block is a line of its own, with its semicolon.
 fn print_do_body<N: PrintNode>(body: &StatementNode<N>, p: &mut Printer<'_>)
-    ensures { Lays p.old p.new (do_items (shape (in_statement N.plain body.now)) (spell (in_statement N.plain body.now) within_statement) (spell (in_statement N.plain body.now) among_statements)) }
+    ensures { Lays p.old p.new (do_items (span_of (in_statement N.plain body.now)) (shape (in_statement N.plain body.now)) (spell (in_statement N.plain body.now) within_statement) (spell (in_statement N.plain body.now) among_statements)) }
 {
     let statement = body.get();
     match shape_of::<_, Inside>(statement) {
@@ -95,6 +95,7 @@ fn print_do_body<N: PrintNode>(body: &StatementNode<N>, p: &mut Printer<'_>)
             p.print_soft_space();
         }
         Shape::Empty => {
+            p.print_mark(statement.span());
             p.print_semicolon();
             p.print_soft_line();
             p.print_indentation();
@@ -113,7 +114,7 @@ pub fn print_for_in_statement<N: PrintNode>(
 {
     let _ = place;
     p.print_indentation();
-    p.print_word("for");
+    p.print_marked_word(node.span, "for");
     p.print_soft_space();
     p.print_opening(Bracket::Round);
     print_left(&node.left, p);
@@ -136,7 +137,7 @@ pub fn print_for_of_statement<N: PrintNode>(
 {
     let _ = place;
     p.print_indentation();
-    p.print_word("for");
+    p.print_marked_word(node.span, "for");
     print_await_if(node.is_await, p);
     p.print_soft_space();
     p.print_opening(Bracket::Round);

@@ -4,18 +4,19 @@ ghost use Rattle.jsgen_syntax.specs.declared.precedence.Precedence.TheVariants.{
 ghost use Rattle.jsgen_tree.specs.Tree.{trees};
 ghost use Rattle.jsgen_tree.specs.Rows.{update_expression_row, in_simple_assignment_target, new_expression_row, in_argument};
 ghost use Rattle.jsgen_place.specs.Place.{in_brackets, wraps};
-ghost use Rattle.jsgen_model.specs.Items.{parentheses_unless_minified};
+ghost use Rattle.jsgen_model.specs.Items.{◌⊕◌, brackets, end_mark, parentheses_unless_minified, unless_minified};
+ghost use Rattle.jsgen_model.specs.Punctuator.{Round};
 ghost use Rattle.jsgen_model.specs.Spell.{spell, spell_list, any_given, new_arguments};
 ghost use Rattle.jsgen_printer.specs.Steps.{Lays};
 
 use crate::PrintNode;
 use crate::expressions::Arguments;
 use crate::sets::print_simple_assignment_target;
-use jsgen_lists::{PrintMember, print_in_brackets, print_list, print_update};
+use jsgen_lists::{PrintObject, print_list, print_update};
 use jsgen_place::{Place, update_level};
 use jsgen_printer::{Bracket, Printer};
-use jsgen_syntax::Precedence;
-use jsgen_tree::{Argument, NewExpression, SimpleAssignmentTarget, UpdateExpression};
+use jsgen_syntax::{Precedence, Span};
+use jsgen_tree::{Argument, GetSpan, NewExpression, SimpleAssignmentTarget, UpdateExpression};
 
 pub fn print_update_expression<N: PrintNode>(
     node: &UpdateExpression<N>,
@@ -28,6 +29,7 @@ pub fn print_update_expression<N: PrintNode>(
     let wrap = place.wraps(level);
     p.print_opening_if(wrap);
     print_update::<SimpleAssignmentTarget<N>, Targets>(
+        node.span,
         node.prefix,
         node.operator,
         &node.argument,
@@ -40,11 +42,15 @@ pub fn print_update_expression<N: PrintNode>(
 /// What `++` and `--` change.
 pub struct Targets;
 
-impl<N: PrintNode> PrintMember<SimpleAssignmentTarget<N>> for Targets {
+impl<N: PrintNode> PrintObject<SimpleAssignmentTarget<N>> for Targets {
     ghost plain = { in_simple_assignment_target N.plain };
 
-    fn print_member(member: &SimpleAssignmentTarget<N>, p: &mut Printer<'_>, place: Place) {
-        print_simple_assignment_target(member, p, place);
+    fn span(target: &SimpleAssignmentTarget<N>) -> Span {
+        target.span()
+    }
+
+    fn print_object(target: &SimpleAssignmentTarget<N>, p: &mut Printer<'_>, place: Place) {
+        print_simple_assignment_target(target, p, place);
     }
 }
 
@@ -58,23 +64,28 @@ pub fn print_new_expression<N: PrintNode>(
     let wrap = place.wraps(Precedence::New);
     p.print_opening_if(wrap);
     let within = place.within(wrap);
-    p.print_word("new");
+    p.print_marked_word(node.span, "new");
     p.print_soft_space();
     node.callee.get().print(p, within.constructed());
-    print_new_arguments(&node.arguments, p, place);
+    print_new_arguments(node.span, &node.arguments, p, place);
     p.print_closing_if(wrap);
 }
 
 // What a constructor is given: in minified text nothing may stand for nothing.
-fn print_new_arguments<N: PrintNode>(arguments: &[Argument<N>], p: &mut Printer<'_>, place: Place)
-    ensures { Lays p.old p.new (new_arguments (any_given (trees (map (in_argument N.plain) arguments.now)) || wraps Postfix place)
+fn print_new_arguments<N: PrintNode>(
+    span: Span,
+    arguments: &[Argument<N>],
+    p: &mut Printer<'_>,
+    place: Place,
+)
+    ensures { Lays p.old p.new (new_arguments (any_given (trees (map (in_argument N.plain) arguments.now)) || wraps Postfix place) span
         (spell_list (trees (map (in_argument N.plain) arguments.now)) (in_brackets Comma))) }
 {
     let within = Place::in_brackets(Precedence::Comma);
     if needs_arguments(arguments, place) {
-        print_in_brackets::<_, Arguments>(Bracket::Round, arguments, p, within);
+        print_in_parentheses(span, arguments, p, within);
     } else {
-        print_unless_minified(arguments, p, within);
+        print_unless_minified(span, arguments, p, within);
     }
 }
 
@@ -90,11 +101,39 @@ fn is_given<N: PrintNode>(arguments: &[Argument<N>]) -> bool
     !arguments.is_empty()
 }
 
-fn print_unless_minified<N: PrintNode>(arguments: &[Argument<N>], p: &mut Printer<'_>, place: Place)
-    ensures { Lays p.old p.new (parentheses_unless_minified (spell_list (trees (map (in_argument N.plain) arguments.now)) place)) }
+fn print_in_parentheses<N: PrintNode>(
+    span: Span,
+    arguments: &[Argument<N>],
+    p: &mut Printer<'_>,
+    place: Place,
+)
+    ensures { Lays p.old p.new (brackets Round (spell_list (trees (map (in_argument N.plain) arguments.now)) place ⊕ end_mark span)) }
+{
+    p.print_opening(Bracket::Round);
+    print_list::<_, Arguments>(arguments, p, place);
+    p.print_end_mark(span);
+    p.print_closing(Bracket::Round);
+}
+
+fn print_unless_minified<N: PrintNode>(
+    span: Span,
+    arguments: &[Argument<N>],
+    p: &mut Printer<'_>,
+    place: Place,
+)
+    ensures { Lays p.old p.new (parentheses_unless_minified (spell_list (trees (map (in_argument N.plain) arguments.now)) place ⊕ unless_minified (end_mark span))) }
 {
     let wrap = !p.is_minified();
     p.print_opening_if(wrap);
     print_list::<_, Arguments>(arguments, p, place);
+    print_end_mark_unless_minified(span, p);
     p.print_closing_if(wrap);
+}
+
+fn print_end_mark_unless_minified(span: Span, p: &mut Printer<'_>)
+    ensures { Lays p.old p.new (unless_minified (end_mark span)) }
+{
+    if !p.is_minified() {
+        p.print_end_mark(span);
+    }
 }

@@ -2,7 +2,7 @@
 ghost use Rattle.std.specs.Prelude.{◌≡◌, true, false, ◌&&◌, map, option_map};
 ghost use Rattle.jsgen_syntax.specs.Units.{js_units};
 ghost use Rattle.jsgen_syntax.specs.declared.precedence.Precedence.TheVariants.{Comma, Lowest};
-ghost use Rattle.jsgen_tree.specs.Tree.{trees};
+ghost use Rattle.jsgen_tree.specs.Tree.{trees, span_of};
 ghost use Rattle.jsgen_tree.specs.Inside.{without_parentheses};
 ghost use Rattle.jsgen_tree.specs.Rows.{in_argument, in_expression, assignment_target_plain, expression_plain, computed_member_expression_row, call_expression_row};
 ghost use Rattle.jsgen_tree.specs.Plain.{node_plain};
@@ -21,8 +21,10 @@ use crate::sets::print_assignment_target;
 use jsgen_lists::PlainQuotes;
 use jsgen_place::{Context, Place};
 use jsgen_printer::Printer;
-use jsgen_questions::{inner_string, is_definition_call, is_export_mark, is_require_call};
-use jsgen_syntax::{BinaryOperator, JsStr, Precedence};
+use jsgen_questions::{
+    inner_span, inner_string, is_definition_call, is_export_mark, is_require_call,
+};
+use jsgen_syntax::{BinaryOperator, JsStr, Precedence, Span};
 use jsgen_tree::{
     Argument, AssignmentTarget, CallExpression, ComputedMemberExpression, Expression,
 };
@@ -208,27 +210,31 @@ pub fn try_print_equality_string(
 ) -> bool
     ensures applies { result ≡ ((pen_of p.old).style.minified && is_export_mark operator (expression_plain node_plain operand.now)) }
     ensures text { Lays p.old p.new (where_it_holds ((pen_of p.old).style.minified && is_export_mark operator (expression_plain node_plain operand.now))
-        (plain_string (string_in (without_parentheses (expression_plain node_plain operand.now))))) }
+        (plain_string (span_of (without_parentheses (expression_plain node_plain operand.now))) (string_in (without_parentheses (expression_plain node_plain operand.now))))) }
 {
-    let string = inner_string(operand.without_parentheses());
+    let inner = operand.without_parentheses();
+    let string = inner_string(inner);
     let applies = p.is_minified() && is_export_mark(operator, string);
-    print_string_if(applies, string, p);
+    print_string_if(applies, inner_span(inner), string, p);
     applies
 }
 
-fn print_string_if(test: bool, string: Option<&JsStr>, p: &mut Printer<'_>)
-    ensures { Lays p.old p.new (where_it_holds test (plain_string (option_map (λ v. js_units v.now) string.entry))) }
+fn print_string_if(test: bool, span: Span, string: Option<&JsStr>, p: &mut Printer<'_>)
+    ensures { Lays p.old p.new (where_it_holds test (plain_string span (option_map (λ v. js_units v.now) string.entry))) }
 {
     if test {
-        print_plain_string(string, p);
+        print_plain_string(span, string, p);
     }
 }
 
-fn print_plain_string(string: Option<&JsStr>, p: &mut Printer<'_>)
-    ensures { Lays p.old p.new (plain_string (option_map (λ v. js_units v.now) string.entry)) }
+fn print_plain_string(span: Span, string: Option<&JsStr>, p: &mut Printer<'_>)
+    ensures { Lays p.old p.new (plain_string span (option_map (λ v. js_units v.now) string.entry)) }
 {
     match string {
-        Some(value) => p.print_string(value, false),
+        Some(value) => {
+            p.print_mark(span);
+            p.print_string(value, false);
+        }
         None => {}
     }
 }

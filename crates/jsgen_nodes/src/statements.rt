@@ -1,6 +1,6 @@
 // Programs and directives (ECMA-262, 11.2.1 and clause 16), one function for each row.
 ghost use Rattle.std.specs.Prelude.{map, ◌≡◌, false, option_map};
-ghost use Rattle.jsgen_tree.specs.Tree.{trees, optional};
+ghost use Rattle.jsgen_tree.specs.Tree.{trees, optional, span_of};
 ghost use Rattle.jsgen_tree.specs.Rows.{program_row, hashbang_row, directive_row, in_statement, block_statement_row, if_statement_row};
 ghost use Rattle.jsgen_model.specs.Spell.{spell, spell_directives, first_statement, spell_alternate, shape, consequent_items, alternate_items, filled_braces, braces_end, body_end, is_given};
 ghost use Rattle.jsgen_printer.specs.Steps.{Lays};
@@ -54,6 +54,7 @@ pub fn print_directive(node: &Directive, p: &mut Printer<'_>, place: Place)
 {
     let _ = place;
     p.print_indentation();
+    p.print_mark(node.span);
     p.print_directive(node.directive.as_str());
     p.print_semicolon();
     p.print_soft_line();
@@ -64,7 +65,8 @@ fn print_first_statement<N: PrintNode>(statement: &N, p: &mut Printer<'_>, place
 {
     match statement.string_statement() {
         Some(value) => {
-            p.print_indentation();
+            p.print_marked_indentation(statement.span());
+            p.print_mark(statement.inside_span());
             p.print_first_string(value);
             p.print_statement_end();
         }
@@ -96,7 +98,7 @@ pub fn print_block_statement<N: PrintNode>(
     ensures { Lays p.old p.new (spell (block_statement_row N.plain node.now) place) }
 {
     p.print_indentation_if(place.in_list);
-    print_braces::<_, Statements>(&node.body, p);
+    print_braces::<_, Statements>(node.span, &node.body, p);
     p.print_soft_line_if(place.in_list);
 }
 
@@ -104,7 +106,7 @@ pub fn print_if_statement<N: PrintNode>(node: &IfStatement<N>, p: &mut Printer<'
     ensures { Lays p.old p.new (spell (if_statement_row N.plain node.now) place) }
 {
     p.print_indentation_if(place.in_list);
-    p.print_word("if");
+    p.print_marked_word(node.span, "if");
     p.print_soft_space();
     p.print_opening(Bracket::Round);
     node.test
@@ -123,7 +125,7 @@ fn has_alternate<N: PrintNode>(node: &IfStatement<N>) -> bool
 
 // What follows the test. An `else` must not go with an `if` within.
 fn print_consequent<N: PrintNode>(consequent: &N, p: &mut Printer<'_>, else_follows: bool)
-    ensures { Lays p.old p.new (consequent_items (shape (N.plain consequent.now)) (ends_open (N.plain consequent.now))
+    ensures { Lays p.old p.new (consequent_items (span_of (N.plain consequent.now)) (shape (N.plain consequent.now)) (ends_open (N.plain consequent.now))
         (spell (N.plain consequent.now) within_statement) (spell (N.plain consequent.now) among_statements) else_follows) }
 {
     if consequent.ends_open() {
@@ -134,7 +136,7 @@ fn print_consequent<N: PrintNode>(consequent: &N, p: &mut Printer<'_>, else_foll
 }
 
 fn print_closed_consequent<N: PrintNode>(consequent: &N, p: &mut Printer<'_>, else_follows: bool)
-    ensures { Lays p.old p.new (consequent_items (shape (N.plain consequent.now)) false
+    ensures { Lays p.old p.new (consequent_items (span_of (N.plain consequent.now)) (shape (N.plain consequent.now)) false
         (spell (N.plain consequent.now) within_statement) (spell (N.plain consequent.now) among_statements) else_follows) }
 {
     match shape_of::<_, Inside>(consequent) {
@@ -164,12 +166,12 @@ fn print_line_consequent<N: PrintNode>(consequent: &N, p: &mut Printer<'_>, else
 
 // A consequent in braces of its own.
 fn print_braced<N: PrintNode>(consequent: &N, p: &mut Printer<'_>, else_follows: bool)
-    ensures { Lays p.old p.new (soft_space ⊕ (filled_braces (spell (N.plain consequent.now) among_statements) ⊕ braces_end else_follows)) }
+    ensures { Lays p.old p.new (soft_space ⊕ (filled_braces (span_of (N.plain consequent.now)) (spell (N.plain consequent.now) among_statements) ⊕ braces_end else_follows)) }
 {
     p.print_soft_space();
-    let depth = open_braces(p);
+    let depth = open_braces(consequent.span(), p);
     consequent.print(p, Place::among_statements());
-    close_braces(p, depth);
+    close_braces(consequent.span(), p, depth);
     print_braces_end(p, else_follows);
 }
 

@@ -12,7 +12,7 @@ ghost use Rattle.jsgen_printer.specs.Steps.{Lays};
 use crate::PrintNode;
 use crate::inside::Inside;
 use jsgen_inside::Nested;
-use jsgen_lists::{print_behind_comma, print_template};
+use jsgen_lists::{print_behind_comma, print_linked, print_template};
 use jsgen_place::Place;
 use jsgen_printer::{Bracket, Printer};
 use jsgen_syntax::{Precedence, Span};
@@ -58,7 +58,7 @@ pub fn print_tagged_template_expression<N: PrintNode>(
     ensures { Lays p.old p.new (spell (tagged_template_expression_row N.plain node.now) place) }
 {
     p.print_mark(node.span);
-    node.tag.get().print(p, place.tag());
+    print_linked::<_, Nested<Inside>>(&node.tag, p, place.tag());
     print_template_literal(&node.quasi, p, place.tagged());
 }
 

@@ -63,6 +63,10 @@ quoted_plainly test place = record place { plain_quotes = test }
 abbrev pub linked : Place → Place
 linked place = child Postfix place
 
+-- at the level of the object of a member, behind which a source map may have a mark
+abbrev pub is_at_link : Place → Bool
+is_at_link place = rank place.level == rank Postfix
+
 -- what is called: calls may stand in it
 abbrev pub called : Place → Place
 called place = with_calls (child Postfix place)

@@ -1,6 +1,6 @@
 // Where a node is printed.
 ghost use Rattle.std.specs.Prelude.{◌≡◌};
-ghost use Rattle.jsgen_place.specs.Place.{free, at_level, child, left_operand, in_brackets, among_statements, within_statement, loop_head, member, behind_private, with_calls, quoted_plainly, linked, called, tag, tagged, constructed, within, wraps, update_level, is_forbidden, binary_wraps, continues_chain, logical_wraps, call_wraps, chain_wraps, chain_place, arrow_wraps, plainly};
+ghost use Rattle.jsgen_place.specs.Place.{free, at_level, child, left_operand, in_brackets, among_statements, within_statement, loop_head, member, behind_private, with_calls, quoted_plainly, linked, is_at_link, called, tag, tagged, constructed, within, wraps, update_level, is_forbidden, binary_wraps, continues_chain, logical_wraps, call_wraps, chain_wraps, chain_place, arrow_wraps, plainly};
 
 use jsgen_syntax::{BinaryOperator, GetPrecedence, LogicalOperator, Precedence};
 
@@ -151,6 +151,13 @@ impl Place {
         ensures { result ≡ linked self }
     {
         self.child(Precedence::Postfix)
+    }
+
+    /// Whether it is at the level of the object of a member.
+    pub fn is_at_link(self) -> bool
+        ensures { result ≡ is_at_link self }
+    {
+        self.level == Precedence::Postfix
     }
 
     /// The place of what is called: calls may stand in it.

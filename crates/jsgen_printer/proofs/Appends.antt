@@ -1,7 +1,7 @@
 -- What a step adds stands behind the code before.
 use Rattle.std.proofs.Common.{ℕ, Bool, true, false, ◌||◌, List, [], ◌∷◌, if◌then◌else◌}
-use Rattle.jsgen_model.specs.Punctuator.{Round, opening, closing}
-use Rattle.jsgen_model.specs.Items.{Items, ◌⊕◌, name, marked_word, template_part, indentation, deeper, brackets, wrapped, wrapped_at_start, parentheses_unless_minified, where_same, statement_end, in_class, unless_minified}
+use Rattle.jsgen_model.specs.Punctuator.{Round, opening, closing, punctuator_text}
+use Rattle.jsgen_model.specs.Items.{Items, ◌⊕◌, name, marked_word, marked_operator, marked_number, marked_indentation, template_part, indentation, deeper, brackets, wrapped, wrapped_at_start, parentheses_unless_minified, where_same, statement_end, in_class, unless_minified}
 use Rattle.jsgen_model.specs.Lay.{lay, part_opening}
 use Rattle.jsgen_model.specs.Layout.{Pen, written, written_if, text_if, other_end, indented, indent_or_space, at_indentation, end_statement, deeper_level, entered, are_same, is_barred, not}
 use Rattle.jsgen_model.specs.Printing.{IsPrefix}
@@ -42,6 +42,9 @@ layout_appends (unless_minified a) pen = either_appends pen.style.minified pen.c
 layout_appends (where_same m n a b) pen = either_appends (are_same pen.style.tables m n) pen.code (lay a pen) (lay b pen) (layout_appends a pen) (layout_appends b pen)
 layout_appends (name span n) pen = more_prefix _ (prefix_append pen.code _)
 layout_appends (marked_word span w) pen = more_prefix w (prefix_append pen.code _)
+layout_appends (marked_operator span p) pen = more_prefix (punctuator_text p) (prefix_append pen.code _)
+layout_appends (marked_number span dot_is_its_own w) pen = more_prefix w (prefix_append pen.code _)
+layout_appends (marked_indentation span) pen = indentation_appends pen.style.minified pen
 layout_appends (template_part part tagged span raw) pen = more_prefix _ (prefix_append pen.code (part_opening part))
 layout_appends indentation pen = indentation_appends pen.style.minified pen
 layout_appends statement_end pen = end_appends pen.style.minified pen

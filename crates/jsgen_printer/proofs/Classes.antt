@@ -13,7 +13,7 @@ use Rattle.std.proofs.lemmas.Str.{IsUtf8-string_bytes}
 use Rattle.jsgen_syntax.specs.Escapes.{name_text, has_escapes}
 use Rattle.jsgen_tree.specs.Characters.{characters}
 use Rattle.jsgen_tree.proofs.Texts.{same_characters}
-use Rattle.jsgen_model.specs.Items.{Items, ◌⊕◌, indentation, deeper, in_class, brackets, wrapped, wrapped_at_start, parentheses_unless_minified, unless_minified, where_same, statement_end}
+use Rattle.jsgen_model.specs.Items.{Items, ◌⊕◌, indentation, marked_indentation, deeper, in_class, brackets, wrapped, wrapped_at_start, parentheses_unless_minified, unless_minified, where_same, statement_end}
 use Rattle.jsgen_model.specs.Punctuator.{Round, opening}
 use Rattle.jsgen_model.specs.Lay.{lay}
 use Rattle.jsgen_model.specs.Layout.{Pen, nowhere, written, written_if, other_end, name_ending, with_private_name, entered, indented, indent_or_space, at_indentation, end_statement, deeper_level, are_same, is_barred, not}
@@ -75,6 +75,7 @@ keeps_classes (parentheses_unless_minified a) pen = keeps_classes a (written_if 
 keeps_classes (where_same m n a b) pen = either_keeps (are_same pen.style.tables m n) pen.classes (lay a pen) (lay b pen) (keeps_classes a pen) (keeps_classes b pen)
 keeps_classes (unless_minified a) pen = either_keeps pen.style.minified pen.classes pen (lay a pen) refl (keeps_classes a pen)
 keeps_classes indentation pen = indentation_keeps pen.style.minified pen
+keeps_classes (marked_indentation span) pen = indentation_keeps pen.style.minified pen
 keeps_classes statement_end pen = end_keeps pen.style.minified pen
 keeps_classes item pen = refl
 

@@ -1,16 +1,21 @@
 -- Which spans have marks, and what becomes of a step where there is none.
-use Rattle.std.proofs.Common.{◌≡◌, ℕ, ◌≤◌, true, false, List, Option, Some, None, is_some, length, ◌-◌, refl, sym, subst, arith}
+use Rattle.std.proofs.Common.{◌≡◌, ℕ, ◌≤◌, Bool, true, false, List, Option, Some, None, is_some, length, ◌-◌, codes, refl, ap, sym, subst, arith}
 use Rattle.std.specs.List.{slice_get}
 use Rattle.std.specs.Option.{option_map_or}
 use Rattle.std.specs.Str.{chars, IsUtf8}
 use Rattle.jsgen_syntax.proofs.Last.{last_passes}
 use Rattle.jsgen_syntax.specs.declared.span.Span.{Span}
-use Rattle.jsgen_model.specs.Layout.{Pen}
+use Rattle.jsgen_model.specs.Items.{mark}
+use Rattle.jsgen_model.specs.Lay.{span_mark}
+use Rattle.jsgen_model.specs.Layout.{Pen, Ending, written, written_if}
 use Rattle.jsgen_model.specs.Marks.{has_start_mark, has_end_mark, has_link_mark, closes_link, ends_in_link}
 use Rattle.jsgen_printer.specs.Printer.{pen_of}
-use Rattle.jsgen_printer.specs.Steps.{Ends, Goes}
+use Rattle.jsgen_printer.specs.Steps.{Ends, Goes, Lays}
 use Rattle.jsgen_printer.specs.declared.printer.Printer.{Printer}
 use Rattle.jsgen_printer.proofs.Patterns.{map_or, no_sign}
+use Rattle.jsgen_printer.proofs.Prefixes.{prefix_append, whole_prefix}
+use Rattle.jsgen_printer.proofs.Sequence.{goes_as, goes_then, items_go}
+use Rattle.jsgen_printer.proofs.Texts.{ascii_chars}
 
 -- a mark stands only where a map is wanted
 pub mapped_start : (source : Option (List ℕ)) (span : Span) → has_start_mark source span ≡ true → is_some source ≡ true
@@ -28,6 +33,13 @@ mapped_link (Some s) span code h = refl
 -- no step, where the pen is to stay as it is
 pub no_step : (p : Printer) (f : Pen → Pen) → f (pen_of p) ≡ pen_of p → Goes p p f
 no_step p f e = record { stays = λ h. (h, refl); goes = λ going. subst (λ failed. Ends failed (pen_of p) (pen_of p) (f (pen_of p))) (sym going) (sym e) }
+
+-- a space where the test holds, a mark, and a text
+pub behind_mark : {a b c d : Printer} (span : Span) (test : Bool) (text : List ℕ) (e : Ending) → Goes a b (written_if test (chars (codes " "))) → Lays b c (mark span) → Goes c d (written text e) → Goes a d (λ pen. written text e (span_mark span (written_if test (codes " ") pen)))
+behind_mark {a} {b} {c} {d} span test text e h k l =
+    goes_as (λ pen. written text e (span_mark span (written_if test (codes " ") pen)))
+    (ap (λ t. written text e (span_mark span (written_if test t (pen_of a)))) (ascii_chars (codes " ") refl))
+    (goes_then (λ p. prefix_append p.code _) (λ p. prefix_append p.code text) (goes_then (λ p. prefix_append p.code _) (λ p. whole_prefix p.code) h (items_go k)) l)
 
 -- ---- the last byte
 

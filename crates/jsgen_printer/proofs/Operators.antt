@@ -1,5 +1,5 @@
 -- Operators as items of the layout.
-use Rattle.std.proofs.Common.{◌≡◌, ◌++◌, true, refl}
+use Rattle.std.proofs.Common.{◌≡◌, ◌++◌, codes, true, refl}
 use Rattle.std.specs.Str.{chars}
 use Rattle.jsgen_syntax.specs.Operator.{binary_text, unary_text, update_text}
 use Rattle.jsgen_syntax.specs.declared.operator.BinaryOperator.{BinaryOperator}
@@ -8,9 +8,10 @@ use Rattle.jsgen_syntax.specs.declared.operator.UnaryOperator.{UnaryOperator}
 use Rattle.jsgen_syntax.specs.declared.operator.UnaryOperator.TheVariants as unary_operators
 use Rattle.jsgen_syntax.specs.declared.operator.UpdateOperator.{UpdateOperator}
 use Rattle.jsgen_syntax.specs.declared.operator.UpdateOperator.TheVariants as update_operators
-use Rattle.jsgen_model.specs.Lay.{lay}
-use Rattle.jsgen_model.specs.Layout.{Pen, written, space_if}
-use Rattle.jsgen_model.specs.Operators.{operator_item, unary_sign, update_item}
+use Rattle.jsgen_syntax.specs.declared.span.Span.{Span}
+use Rattle.jsgen_model.specs.Lay.{lay, span_mark}
+use Rattle.jsgen_model.specs.Layout.{Pen, written, written_if, space_if}
+use Rattle.jsgen_model.specs.Operators.{operator_item, unary_sign, update_item, marked}
 use Rattle.jsgen_printer.specs.Printer.{stands_apart, end_of, is_ascii}
 use Rattle.jsgen_printer.proofs.Texts.{ascii_chars}
 
@@ -34,6 +35,11 @@ pub unary_written : (o : UnaryOperator) (pen : Pen) → lay (unary_sign o) pen �
 unary_written unary_operators.Typeof pen = refl
 unary_written o pen = refl
 
+-- and with a mark behind the space
+pub unary_marked : (o : UnaryOperator) (span : Span) (pen : Pen) → lay (marked span (unary_sign o)) pen ≡ written (unary_text o) (end_of (unary_sign o)) (span_mark span (written_if (stands_apart (unary_sign o) pen) (codes " ") pen))
+unary_marked unary_operators.Typeof span pen = refl
+unary_marked o span pen = refl
+
 pub unary_chars : (o : UnaryOperator) → chars (unary_text o) ≡ unary_text o
 unary_chars o = ascii_chars (unary_text o) (unary_ascii o)
 
@@ -44,6 +50,10 @@ update_ascii update_operators.Decrement = refl
 pub update_written : (o : UpdateOperator) (pen : Pen) → lay (update_item o) pen ≡ written (space_if (stands_apart (update_item o) pen) ++ update_text o) (end_of (update_item o)) pen
 update_written update_operators.Increment pen = refl
 update_written update_operators.Decrement pen = refl
+
+pub update_marked : (o : UpdateOperator) (span : Span) (pen : Pen) → lay (marked span (update_item o)) pen ≡ written (update_text o) (end_of (update_item o)) (span_mark span (written_if (stands_apart (update_item o) pen) (codes " ") pen))
+update_marked update_operators.Increment span pen = refl
+update_marked update_operators.Decrement span pen = refl
 
 pub update_chars : (o : UpdateOperator) → chars (update_text o) ≡ update_text o
 update_chars o = ascii_chars (update_text o) (update_ascii o)

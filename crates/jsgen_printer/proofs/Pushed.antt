@@ -4,12 +4,13 @@ use Rattle.std.specs.Str.{chars}
 use Rattle.std.proofs.lemmas.Str.{encodes-chars}
 use Rattle.jsgen_syntax.specs.Buffer.{buffer_bytes}
 use Rattle.jsgen_syntax.specs.declared.buffer.CodeBuffer.{CodeBuffer}
-use Rattle.jsgen_model.specs.Marks as marks
-use Rattle.jsgen_model.specs.Marks.{last_from, last_offset, is_last, one_more, unless_last, size}
+use Rattle.jsgen_map.specs.Marks as marks
+use Rattle.jsgen_map.specs.Marks.{last_from, last_offset, is_last, one_more, unless_last}
+use Rattle.jsgen_map.specs.Plain.{mark_plain}
+use Rattle.jsgen_map.specs.declared.source_map.Mark.{Mark}
+use Rattle.jsgen_model.specs.Marks.{size}
 use Rattle.jsgen_model.specs.Lay.{marked_if}
 use Rattle.jsgen_model.specs.Layout.{Pen}
-use Rattle.jsgen_printer.specs.Marks.{mark_plain}
-use Rattle.jsgen_printer.specs.declared.marks.Mark.{Mark}
 use Rattle.jsgen_printer.proofs.Texts.{code_is_text}
 
 pub last_pushed : (l : Option ℕ) (ms : List marks.Mark) (m : marks.Mark) → last_from l (ms ++ (m ∷ [])) ≡ Some m.offset

@@ -1,4 +1,3 @@
 pub mod Context
-pub mod Marks
 pub mod Printer
 pub mod Steps

@@ -12,8 +12,8 @@ use Rattle.jsgen_model.specs.Layout.{Pen, is_apart, joins, deeper_level}
 use Rattle.jsgen_model.specs.Items as items
 use Rattle.jsgen_model.specs.Items.{Items, word, operator}
 use Rattle.jsgen_model.specs.Operators.{operator_item, unary_sign, update_item}
-use Rattle.jsgen_model.specs.Marks as marks
-use Rattle.jsgen_printer.specs.Marks.{mark_plain}
+use Rattle.jsgen_map.specs.Marks as marks
+use Rattle.jsgen_map.specs.Plain.{mark_plain}
 use Rattle.jsgen_printer.specs.declared.marks.Marks.{Marks}
 use Rattle.jsgen_printer.specs.declared.printer.Printer.{Printer}
 use Rattle.jsgen_printer.specs.declared.printer.Bracket.{Bracket}

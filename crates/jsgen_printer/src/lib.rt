@@ -11,6 +11,6 @@ mod same;
 
 pub use context::Context;
 pub use laws::a_flag_that_is_unset_leaves_the_others;
-pub use marks::{Mark, Marks};
+pub use marks::Marks;
 pub use operator::Operator;
 pub use printer::{Bracket, Ending, Printer, Start, TemplatePart};

@@ -1,22 +1,16 @@
 // The marks of a source map, while a text is printed.
-ghost use Rattle.std.specs.Prelude.{◌≡◌, [], ◌∷◌, None, OnOk, OnErr, map, option_map};
+ghost use Rattle.std.specs.Prelude.{◌≡◌, [], ◌∷◌, None, OnOk, OnErr, map};
 ghost use Rattle.std.specs.Str.{chars};
-ghost use Rattle.jsgen_model.specs.Marks.{last_from, is_last, unless_last, source_text, other_name};
+ghost use Rattle.std.specs.Option.{option_copied};
+ghost use Rattle.jsgen_map.specs.Marks.{last_from, is_last, unless_last};
+ghost use Rattle.jsgen_map.specs.Plain.{mark_plain};
+ghost use Rattle.jsgen_model.specs.Marks.{name_text_at, other_than};
 ghost use Rattle.jsgen_model.specs.Spans.{is_offset, spans_characters};
-ghost use Rattle.jsgen_printer.specs.Marks.{mark_plain};
 
 use crate::same::{is_behind_hash, is_same};
+use jsgen_map::Mark;
 use jsgen_syntax::{Memory, Span};
 use std::alloc::Global;
-
-/// The text so far, of so many bytes, ends where what has this offset in the source begins; and the name that stands there, where it
-/// is printed as another.
-#[derive(Clone, Copy)]
-pub struct Mark<'a> {
-    pub bytes: usize,
-    pub offset: u32,
-    pub name: Option<&'a str>,
-}
 
 /// The marks so far, none of which has the offset of the one before, and the source that they lead to.
 #[derive(Drop)]
@@ -89,8 +83,8 @@ fn spans_characters(source: &str, span: Span) -> bool
 }
 
 // What the source has at a span that begins and ends at characters of it.
-fn source_text(source: &str, span: Span) -> Option<&str>
-    ensures { option_map (λ s. chars s.now) result ≡ source_text source.now span }
+fn name_text_at(source: &str, span: Span) -> Option<&str>
+    ensures { option_copied result ≡ name_text_at source.now span }
 {
     if span.start <= span.end && spans_characters(source, span) {
         source.get(span.start as usize..span.end as usize)
@@ -101,9 +95,9 @@ fn source_text(source: &str, span: Span) -> Option<&str>
 
 /// What the source has at the span of a name, where it is another name than is printed there.
 pub fn other_name<'a>(source: &'a str, span: Span, printed: &str) -> Option<&'a str>
-    ensures { option_map (λ s. chars s.now) result ≡ other_name (source_text source.now span) (chars printed.now) }
+    ensures { option_copied result ≡ other_than (name_text_at source.now span) (chars printed.now) }
 {
-    match source_text(source, span) {
+    match name_text_at(source, span) {
         Some(was) => if is_same(was, printed) {
             None
         } else {
@@ -115,9 +109,9 @@ pub fn other_name<'a>(source: &'a str, span: Span, printed: &str) -> Option<&'a 
 
 /// The same of a private name, which is printed behind `#`.
 pub fn other_private_name<'a>(source: &'a str, span: Span, printed: &str) -> Option<&'a str>
-    ensures { option_map (λ s. chars s.now) result ≡ other_name (source_text source.now span) (35 ∷ chars printed.now) }
+    ensures { option_copied result ≡ other_than (name_text_at source.now span) (35 ∷ chars printed.now) }
 {
-    match source_text(source, span) {
+    match name_text_at(source, span) {
         Some(was) => if is_behind_hash(was, printed) {
             None
         } else {

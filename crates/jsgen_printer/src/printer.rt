@@ -19,8 +19,8 @@ mod patterns;
 mod templates;
 
 use jsgen_syntax::{
-    AssignmentOperator, BinaryOperator, CodeBuffer, JsStr, LogicalOperator, Quote, UnaryOperator,
-    UpdateOperator,
+    AssignmentOperator, BinaryOperator, CodeBuffer, JsStr, LogicalOperator, Quote, Span,
+    UnaryOperator, UpdateOperator,
 };
 use jsgen_text::{
     cheapest_quote, directive_quote, print_directive_raw, print_name_text, print_string_text,
@@ -88,8 +88,8 @@ impl<'a> Printer<'a> {
     ghost use Rattle.std.specs.Prelude.{[], ◌∷◌, ◌++◌, replicate, string_bytes, false, true, IsTrue};
     ghost use Rattle.std.specs.Str.{chars, encode_utf8_all};
     ghost use Rattle.jsgen_model.specs.Punctuator.{Round, opening, closing, ellipsis, comma, semicolon, equal, plus, minus, equal_equal, equal_equal_equal, plus_plus, minus_minus, colon, question, question_dot, arrow, star};
-    ghost use Rattle.jsgen_model.specs.Items.{word, string, first_string, directive, member_dot, punctuator, soft_space, soft_line, hard_space, indentation, body_space, statement_end, due_semicolon, drop_semicolon, statement_begins, arrow_body_begins, a_brace, a_declaration, literal, default_export_begins};
-    ghost use Rattle.jsgen_model.specs.Lay.{lay};
+    ghost use Rattle.jsgen_model.specs.Items.{word, string, first_string, directive, member_dot, punctuator, soft_space, soft_line, hard_space, indentation, body_space, statement_end, due_semicolon, drop_semicolon, statement_begins, arrow_body_begins, a_brace, a_declaration, literal, default_export_begins, marked_indentation};
+    ghost use Rattle.jsgen_model.specs.Lay.{lay, may_be_indented};
     ghost use Rattle.jsgen_model.specs.Layout.{written, written_if, other_end, space_if, ends_in_word, ends_in_escapes, is_apart, name_ending, joins, dot_joins, indented, ends_in_less_bang, chosen_quote, deeper_level, empty_pen, style_of, is_barred};
     ghost use Rattle.jsgen_syntax.specs.Buffer.{indent_byte};
     ghost use Rattle.jsgen_tree.specs.Options.{options_plain};
@@ -99,7 +99,7 @@ impl<'a> Printer<'a> {
     ghost use Rattle.jsgen_syntax.specs.Strings.{quote_char, quoted};
     ghost use Rattle.jsgen_syntax.specs.Raw.{directive_text};
     ghost use Rattle.jsgen_model.specs.Spell.{items_if};
-    ghost use Rattle.jsgen_model.specs.Operators.{operator_item, unary_sign, behind_unary, update_item, logical_item, assignment_item};
+    ghost use Rattle.jsgen_model.specs.Operators.{operator_item, unary_sign, behind_unary, update_item, logical_item, assignment_item, marked};
     ghost use Rattle.jsgen_printer.specs.Steps.{has_failed, Goes, Lays};
     ghost use Rattle.jsgen_printer.specs.Printer.{bracket_of, pen_of, ending_of, stands_apart, name_written, by_tables, is_ascii, deepened, at_depth};
 
@@ -555,6 +555,32 @@ impl<'a> Printer<'a> {
         self.print_apart(apart, text, Ending::Operator(Operator::Unary(operator)));
     }
 
+    /// The same, with the mark of the span that it begins.
+    pub fn print_marked_unary_operator(&mut self, span: Span, operator: UnaryOperator)
+        ensures { Lays self.old self.new (marked span (unary_sign operator)) }
+    {
+        let apart = self.unary_stands_apart(operator);
+        self.print_if(apart, " ");
+        self.print_mark(span);
+        self.print_str(
+            operator.as_str(),
+            Ending::Operator(Operator::Unary(operator)),
+        );
+    }
+
+    /// An operator before what it changes, with the mark of the span that it begins.
+    pub fn print_marked_update_operator(&mut self, span: Span, operator: UpdateOperator)
+        ensures { Lays self.old self.new (marked span (update_item operator)) }
+    {
+        let apart = self.update_stands_apart(operator);
+        self.print_if(apart, " ");
+        self.print_mark(span);
+        self.print_str(
+            operator.as_str(),
+            Ending::Operator(Operator::Update(operator)),
+        );
+    }
+
     /// An operator before or behind what it changes.
     pub fn print_update_operator(&mut self, operator: UpdateOperator)
         ensures { Lays self.old self.new (update_item operator) }
@@ -627,6 +653,23 @@ impl<'a> Printer<'a> {
         } else {
             self.print_levels();
         }
+    }
+
+    /// Indentation, and where there may be any the mark of a span behind it.
+    pub fn print_marked_indentation(&mut self, span: Span)
+        ensures { Lays self.old self.new (marked_indentation span) }
+    {
+        let may_be_indented = self.may_be_indented();
+        self.print_indentation();
+        if may_be_indented {
+            self.print_mark(span);
+        }
+    }
+
+    fn may_be_indented(&self) -> bool
+        ensures { result ≡ may_be_indented (pen_of self.now) }
+    {
+        !self.minify && (self.pending_space || self.depth > 0)
     }
 
     /// Indentation, where the test holds.

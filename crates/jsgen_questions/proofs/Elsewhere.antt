@@ -1,5 +1,6 @@
 -- What a question of all types answers for those that it doesn't name.
 use Rattle.std.proofs.Common.{◌≡◌, false, None, refl}
+use Rattle.jsgen_tree.specs.Tree.{span_of}
 use Rattle.jsgen_tree.specs.Inside.{ends_open}
 use Rattle.jsgen_tree.specs.Plain.{node_plain}
 use Rattle.jsgen_tree.specs.Rows.{expression_plain, statement_plain, declaration_plain, binding_pattern_plain, class_element_plain, assignment_target_plain}
@@ -16,7 +17,7 @@ use Rattle.jsgen_tree.specs.declared.sets.Statement.TheVariants as statements
 use Rattle.jsgen_tree.specs.declared.sets.Declaration.TheVariants as declarations
 use Rattle.jsgen_tree.specs.declared.sets.BindingPattern.TheVariants as binding_patterns
 use Rattle.jsgen_tree.specs.declared.sets.ClassElement.TheVariants as class_elements
-use Rattle.jsgen_model.specs.Spell.{string_statement}
+use Rattle.jsgen_model.specs.Spell.{string_statement, span_inside}
 
 -- a member of a set is none of a type
 abbrev pub IsNot : {B S : Type 0} → S → (B → S) → Type 0
@@ -96,3 +97,38 @@ pub no_string_statement : (n : Statement Node) → IsNot n statements.Declaratio
 no_string_statement (statements.Declaration b) no_declaration no_expression = absurd (no_declaration b refl)
 no_string_statement (statements.ExpressionStatement b) no_declaration no_expression = absurd (no_expression b refl)
 no_string_statement n no_declaration no_expression = refl
+
+-- ---- where what is no expression statement stands: where it does itself
+
+pub expression_itself : (n : Expression Node) → span_of (expression_plain node_plain n) ≡ span_inside (expression_plain node_plain n)
+expression_itself (expressions.StringLiteral b) = refl
+expression_itself n = refl
+
+pub target_itself : (n : AssignmentTarget Node) → span_of (assignment_target_plain node_plain n) ≡ span_inside (assignment_target_plain node_plain n)
+target_itself (targets.IdentifierReference b) = refl
+target_itself (targets.StaticMemberExpression b) = refl
+target_itself (targets.ComputedMemberExpression b) = refl
+target_itself (targets.PrivateFieldExpression b) = refl
+target_itself (targets.ArrayAssignmentTarget b) = refl
+target_itself (targets.ObjectAssignmentTarget b) = refl
+
+pub declaration_itself : (n : Declaration Node) → span_of (declaration_plain node_plain n) ≡ span_inside (declaration_plain node_plain n)
+declaration_itself (declarations.VariableDeclaration b) = refl
+declaration_itself (declarations.Function b) = refl
+declaration_itself (declarations.Class b) = refl
+
+pub pattern_itself : (n : BindingPattern Node) → span_of (binding_pattern_plain node_plain n) ≡ span_inside (binding_pattern_plain node_plain n)
+pattern_itself (binding_patterns.BindingIdentifier b) = refl
+pattern_itself (binding_patterns.ObjectPattern b) = refl
+pattern_itself (binding_patterns.ArrayPattern b) = refl
+pattern_itself (binding_patterns.AssignmentPattern b) = refl
+
+pub element_itself : (n : ClassElement Node) → span_of (class_element_plain node_plain n) ≡ span_inside (class_element_plain node_plain n)
+element_itself (class_elements.StaticBlock b) = refl
+element_itself (class_elements.MethodDefinition b) = refl
+element_itself (class_elements.PropertyDefinition b) = refl
+
+pub statement_itself : (n : Statement Node) → IsNot n statements.Declaration → IsNot n statements.ExpressionStatement → span_of (statement_plain node_plain n) ≡ span_inside (statement_plain node_plain n)
+statement_itself (statements.Declaration b) no_declaration no_expression = absurd (no_declaration b refl)
+statement_itself (statements.ExpressionStatement b) no_declaration no_expression = absurd (no_expression b refl)
+statement_itself n no_declaration no_expression = refl

@@ -15,4 +15,4 @@ pub use numbers::{needs_brackets, takes_no_dot};
 pub use operands::{Operand, left_level, operand_of, right_level, unmixed};
 pub use properties::is_alone;
 pub use quotes::{is_definition_call, is_export_mark, is_require_call};
-pub use strings::{bare_string, inner_string, string, string_statement};
+pub use strings::{bare_string, inner_span, inner_string, inside_span, string, string_statement};

@@ -5,10 +5,11 @@ ghost use Rattle.jsgen_tree.specs.Inside.{without_parentheses};
 ghost use Rattle.jsgen_tree.specs.Inner.{inner_plain};
 ghost use Rattle.jsgen_tree.specs.Rows.{expression_plain};
 ghost use Rattle.jsgen_tree.specs.Plain.{node_plain};
-ghost use Rattle.jsgen_model.specs.Spell.{string_in, string_statement};
+ghost use Rattle.jsgen_tree.specs.Tree.{span_of};
+ghost use Rattle.jsgen_model.specs.Spell.{string_in, string_statement, span_inside};
 
-use jsgen_syntax::JsStr;
-use jsgen_tree::{Expression, Inner, Node, Statement};
+use jsgen_syntax::{JsStr, Span};
+use jsgen_tree::{Expression, GetSpan, Inner, Node, Statement};
 
 /// The string that a node is, without the parentheses that it may have round it.
 pub fn string(node: &Node) -> Option<&JsStr>
@@ -37,6 +38,45 @@ pub fn bare_string(expression: &Expression) -> Option<&JsStr>
     match expression {
         Expression::StringLiteral(node) => Some(&node.value),
         _ => None,
+    }
+}
+
+/// Where what an expression statement says stands, without the parentheses that it may have round it; of any other node where it stands.
+#[cycle(inside_span)]
+pub fn inside_span(node: &Node) -> Span
+    ensures { result ≡ span_inside (node_plain node.now) }
+{
+    match node {
+        Node::Expression(_) => node.span(),
+        Node::AssignmentTarget(_) => node.span(),
+        Node::Declaration(_) => node.span(),
+        Node::BindingPattern(_) => node.span(),
+        Node::ClassElement(_) => node.span(),
+        Node::Statement(statement) => match statement {
+            Statement::Declaration(node) => inside_span(node.get()),
+            Statement::ExpressionStatement(node) => bare_span(node.expression.get()),
+            _ => node.span(),
+        },
+    }
+}
+
+// Where a node stands, without the parentheses that it may have round it.
+fn bare_span(node: &Node) -> Span
+    ensures { result ≡ span_of (without_parentheses (node_plain node.now)) }
+{
+    match node.inner_expression() {
+        Some(inner) => inner_span(inner),
+        None => node.span(),
+    }
+}
+
+/// Where what stands within parentheses stands.
+pub fn inner_span(inner: Inner<'_>) -> Span
+    ensures { result ≡ span_of (inner_plain inner.entry) }
+{
+    match inner {
+        Inner::Expression(expression) => expression.span(),
+        Inner::Target(target) => target.span(),
     }
 }
 

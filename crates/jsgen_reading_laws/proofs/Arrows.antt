@@ -1,6 +1,7 @@
 -- Arrow functions: parameters, an arrow on their line, and an expression that begins with no brace.
 use Rattle.std.proofs.Common.{◌≡◌, Bool, true, false, codes, [], ◌∷◌, refl, sym, ap, ◌∙◌, subst}
 use Rattle.std.proofs.lemmas.Bool.{both_ways, or_parts}
+use Rattle.jsgen_syntax.specs.declared.span.Span.{Span}
 use Rattle.jsgen_syntax.specs.declared.precedence.Precedence.TheVariants as levels
 use Rattle.jsgen_tree.specs.Job.{Tables}
 use Rattle.jsgen_tree.specs.Atom.{no_value}
@@ -10,7 +11,7 @@ use Rattle.jsgen_tree.specs.Values.{arrow_function_expression_is_async, arrow_fu
 use Rattle.jsgen_tree.specs.Nodes as tree
 use Rattle.jsgen_model.specs.Punctuator.{arrow, Brace}
 use Rattle.jsgen_model.specs.Tokens.{Tokens, done, piece, group, ◌⧺◌, Sign}
-use Rattle.jsgen_model.specs.Items.{Items, nothing, ◌⊕◌, soft_space, punctuator, wrapped, arrow_body_begins}
+use Rattle.jsgen_model.specs.Items.{Items, nothing, ◌⊕◌, soft_space, punctuator, wrapped, arrow_body_begins, marked_word}
 use Rattle.jsgen_model.specs.Layout.{Pen, arrow_body, layout}
 use Rattle.jsgen_model.specs.Grammar.{Allowed, ReadsArrowParameters, in_arrow_body, starts_in_brace}
 use Rattle.jsgen_model.specs.Grammar as grammar
@@ -18,7 +19,7 @@ use Rattle.jsgen_model.specs.Normal.{normal, nothing_of, if_set}
 use Rattle.jsgen_model.specs.Renamed.{renamed}
 use Rattle.jsgen_place.specs.declared.place.Place.{Place}
 use Rattle.jsgen_place.specs.Place.{within, wraps, arrow_wraps, child}
-use Rattle.jsgen_model.specs.Spell.{spell, items_if, key_word, parameter_items, body_begins, is_name_alone}
+use Rattle.jsgen_model.specs.Spell.{spell, items_if, parameter_items, body_begins, is_name_alone}
 use Rattle.jsgen_token_laws.proofs.Last.{Last, Open, After, line_of}
 use Rattle.jsgen_token_laws.proofs.Writes.{Writes, wrote_both, then_done}
 use Rattle.jsgen_token_laws.proofs.Steps.{Soft, no_soft, wrote_punctuator, soft_space_written}
@@ -58,11 +59,11 @@ abbrev items_of : Tree → Tree → Place → Items → Bool → Items
 items_of t e place begins w = parameter_items (is_name_alone t) (spell t (parameters_place place)) ⊕ (soft_space ⊕ (punctuator arrow ⊕ (soft_space ⊕ (begins ⊕ spell e (child levels.Comma (within w place))))))
 
 -- in parentheses or not, by whether it is `async`
-abbrev worded : Bool → Tree → Tree → Place → Items → Bool → Items
-worded is_async t e place begins w = wrapped w (items_if is_async (key_word (codes "async")) ⊕ items_of t e place begins w)
+abbrev worded : Span → Bool → Tree → Tree → Place → Items → Bool → Items
+worded s is_async t e place begins w = wrapped w (items_if is_async (marked_word s (codes "async") ⊕ soft_space) ⊕ items_of t e place begins w)
 
-without_word : (a : Atoms) (t e : Tree) (place : Place) (begins here : Items) (w : Bool) → arrow_function_expression_is_async a ≡ false → here ≡ begins → worded false t e place begins w ≡ worded (arrow_function_expression_is_async a) t e place here w
-without_word a t e place begins here w h m = λ i. worded (sym h i) t e place (sym m i) w
+without_word : (a : Atoms) (t e : Tree) (place : Place) (begins here : Items) (w : Bool) → arrow_function_expression_is_async a ≡ false → here ≡ begins → worded a.span false t e place begins w ≡ worded a.span (arrow_function_expression_is_async a) t e place here w
+without_word a t e place begins here w h m = λ i. worded a.span (sym h i) t e place (sym m i) w
 
 pub good_arrow_function : {names : Tables} (c : Allowed) (a : Atoms) (t e : Tree) → arrow_function_expression_is_async a ≡ false → body_begins (type_of e) ≡ arrow_body_begins → ArrowParametersOf names c t → Printed names (in_arrow_body c) e → Printed names c (tree.arrow_function a t e)
 good_arrow_function {names} c a t e h m f body place p l z y k =

@@ -14,7 +14,7 @@ use Rattle.jsgen_tree.specs.Places.{bare}
 use Rattle.jsgen_tree.specs.Values.{assignment_expression_operator}
 use Rattle.jsgen_tree.specs.Nodes as tree
 use Rattle.jsgen_model.specs.Tokens.{Tokens, done, piece, ◌⧺◌, Sign}
-use Rattle.jsgen_model.specs.Items.{Items, ◌⊕◌, soft_space, wrapped}
+use Rattle.jsgen_model.specs.Items.{Items, ◌⊕◌, soft_space, wrapped, mark}
 use Rattle.jsgen_model.specs.Layout.{Pen, layout}
 use Rattle.jsgen_model.specs.Grammar.{Allowed, Level, ReadsExpression, with_in, assignment_sign, simple_target}
 use Rattle.jsgen_model.specs.Grammar as grammar
@@ -83,7 +83,7 @@ good_assignment {names} c a t u s f h place = subst (λ i. PrintedBy names (unde
     at = quoted_plainly (is_key_of_exports t) (in_brackets levels.Comma)
 
     items : Items
-    items = spell t at ⊕ (soft_space ⊕ (assignment_item o ⊕ (soft_space ⊕ spell u (child levels.Comma place))))
+    items = mark a.span ⊕ (spell t at ⊕ (soft_space ⊕ (assignment_item o ⊕ (soft_space ⊕ spell u (child levels.Comma place)))))
 
     inner : PrintedBy names (under place c) grammar.Assignment items (tree.assignment a t u)
     inner p l z y k =

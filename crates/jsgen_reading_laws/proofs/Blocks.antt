@@ -1,16 +1,17 @@
 -- Braces round rows of statements, and blocks.
 use Rattle.std.proofs.Common.{◌≡◌, ℕ, Bool, true, false, refl, ap, ◌∙◌}
+use Rattle.jsgen_syntax.specs.declared.span.Span.{Span}
 use Rattle.jsgen_tree.specs.Job.{Tables}
 use Rattle.jsgen_tree.specs.Tree.{Tree, Trees, no_trees, more, hole, Atoms}
 use Rattle.jsgen_tree.specs.Nodes as tree
 use Rattle.jsgen_model.specs.Punctuator.{Brace, opening, closing}
 use Rattle.jsgen_model.specs.Tokens.{Tokens, done, group}
-use Rattle.jsgen_model.specs.Items.{Items, nothing, ◌⊕◌, brackets, soft_line, drop_semicolon}
+use Rattle.jsgen_model.specs.Items.{Items, ◌⊕◌, soft_line, drop_semicolon}
 use Rattle.jsgen_model.specs.Layout.{Pen, other_end, layout, written, deeper_level}
 use Rattle.jsgen_model.specs.Grammar.{Allowed, ReadsStatements}
 use Rattle.jsgen_model.specs.Grammar as grammar
 use Rattle.jsgen_model.specs.Normal.{nothing_of}
-use Rattle.jsgen_model.specs.Spell.{spell_statements, filled_braces, braces}
+use Rattle.jsgen_model.specs.Spell.{spell_statements, filled_braces, empty_braces, braces}
 use Rattle.jsgen_token_laws.proofs.Last.{Last, Open, line_of, Knows}
 use Rattle.jsgen_token_laws.proofs.Writes.{Writes, wrote_none, wrote_both, wrote_and_none, same_writes}
 use Rattle.jsgen_token_laws.proofs.Steps.{Gap, gap, soft_line_written, indentation_written, within_brackets, brackets_written}
@@ -47,8 +48,8 @@ filled_parts {p = p} {p2} {p3} {p4} {p6} {l} depth n e g i = record {
 }
 
 -- round any items
-pub filled_written : {names : Tables} {X : Type 0} {R : Bool → Tokens → X → Type 0} {Same : X → Type 0} (items : Items) → StandsAt names R Same items → (p : Pen) (l : Last) → p.pending_semicolon ≡ false → Knows names p l → GoodBraces names R Same p l (layout (filled_braces items) p)
-filled_written items f p l z k =
+pub filled_written : {names : Tables} {X : Type 0} {R : Bool → Tokens → X → Type 0} {Same : X → Type 0} (s : Span) (items : Items) → StandsAt names R Same items → (p : Pen) (l : Last) → p.pending_semicolon ≡ false → Knows names p l → GoodBraces names R Same p l (layout (filled_braces s items) p)
+filled_written s items f p l z k =
     let p1 : Pen = written (opening Brace) other_end p in
     let p2 : Pen = layout soft_line p1 in
     let p3 : Pen = record p2 { depth = deeper_level p2.style.minified p2.depth } in
@@ -58,8 +59,8 @@ filled_written items f p l z k =
     filled_parts p2.depth n refl g (gap (indentation_written (record p4 { depth = p2.depth }) g.last (at_depth p2.depth g.writes.knows)))
 
 -- round nothing
-pub empty_written : {names : Tables} {X : Type 0} {R : Bool → Tokens → X → Type 0} {Same : X → Type 0} (x : X) → R true done x → Same x → (p : Pen) (l : Last) → Knows names p l → GoodBraces names R Same p l (layout (brackets Brace nothing ⊕ drop_semicolon) p)
-empty_written x n e p l k =
+pub empty_written : {names : Tables} {X : Type 0} {R : Bool → Tokens → X → Type 0} {Same : X → Type 0} (s : Span) (x : X) → R true done x → Same x → (p : Pen) (l : Last) → Knows names p l → GoodBraces names R Same p l (layout (empty_braces s) p)
+empty_written s x n e p l k =
     let p1 : Pen = written (opening Brace) other_end p in
     record {
       tokens = done;
@@ -71,10 +72,10 @@ empty_written x n e p l k =
     }
 
 -- round any row, the empty one too
-pub braces_written : {names : Tables} {R : Bool → Tokens → Trees → Type 0} → R true done no_trees → (ss : Trees) → StandsAt names R (SameTrees names ss) (spell_statements ss) → (p : Pen) (l : Last) → p.pending_semicolon ≡ false → Knows names p l → GoodBraces names R (SameTrees names ss) p l (layout (braces ss (spell_statements ss)) p)
-braces_written n no_trees row p l z k = empty_written no_trees n refl p l k
-braces_written n (more s ss) row p l z k = filled_written (spell_statements (more s ss)) row p l z k
-braces_written n (hole ss) row p l z k = filled_written (spell_statements (hole ss)) row p l z k
+pub braces_written : {names : Tables} {R : Bool → Tokens → Trees → Type 0} → R true done no_trees → (s : Span) (ss : Trees) → StandsAt names R (SameTrees names ss) (spell_statements ss) → (p : Pen) (l : Last) → p.pending_semicolon ≡ false → Knows names p l → GoodBraces names R (SameTrees names ss) p l (layout (braces s ss (spell_statements ss)) p)
+braces_written n s no_trees row p l z k = empty_written s no_trees n refl p l k
+braces_written n s (more t ss) row p l z k = filled_written s (spell_statements (more t ss)) row p l z k
+braces_written n s (hole ss) row p l z k = filled_written s (spell_statements (hole ss)) row p l z k
 
 -- ---- blocks
 
@@ -94,7 +95,7 @@ pub good_block : {names : Tables} (c : Allowed) (a : Atoms) (ss : Trees) → Row
 good_block {names} c a ss row = record { among = indented_line (items ⊕ soft_line) (before_blank items soft_line alone soft_line_written); within = λ h. alone }
   where
     items : Items
-    items = braces ss (spell_statements ss)
+    items = braces a.span ss (spell_statements ss)
 
     alone : StatedAt names c (tree.block a ss) items
-    alone p l z y k = block_of false (λ us e. ap (λ ts. tree.block (nothing_of 0) ts) e) (braces_written grammar.no_statement ss row p l z k)
+    alone p l z y k = block_of false (λ us e. ap (λ ts. tree.block (nothing_of 0) ts) e) (braces_written grammar.no_statement a.span ss row p l z k)

@@ -1,13 +1,14 @@
 -- `new`, with arguments or without.
-use Rattle.std.proofs.Common.{◌≡◌, Bool, true, false, not, ◌||◌, codes, refl, ap, ◌∙◌, subst, arith, append-nil, ◌++◌, []}
+use Rattle.std.proofs.Common.{◌≡◌, Bool, true, false, not, ◌||◌, if◌then◌else◌, codes, refl, ap, ◌∙◌, subst, arith, append-nil, ◌++◌, []}
 use Rattle.std.proofs.lemmas.Bool.{both_ways, or_parts}
+use Rattle.jsgen_syntax.specs.declared.span.Span.{Span}
 use Rattle.jsgen_syntax.specs.declared.precedence.Precedence.TheVariants as levels
 use Rattle.jsgen_tree.specs.Job.{Tables}
 use Rattle.jsgen_tree.specs.Tree.{Tree, Trees, no_trees, more, hole, Atoms}
 use Rattle.jsgen_tree.specs.Nodes as tree
 use Rattle.jsgen_model.specs.Punctuator.{Round, opening, closing}
 use Rattle.jsgen_model.specs.Tokens.{done, piece, group, ◌⧺◌, Word, Tokens}
-use Rattle.jsgen_model.specs.Items.{Items, ◌⊕◌, word, soft_space, wrapped}
+use Rattle.jsgen_model.specs.Items.{Items, ◌⊕◌, word, soft_space, wrapped, marked_word}
 use Rattle.jsgen_model.specs.Layout.{Pen, other_end, layout, written, written_if}
 use Rattle.jsgen_model.specs.Grammar.{Allowed, ReadsExpression, ReadsArguments, with_in}
 use Rattle.jsgen_model.specs.Grammar as grammar
@@ -93,15 +94,15 @@ alone {names} a t {p} {p1} {l} g =
 -- ---- the whole
 
 -- in parentheses or not, as the test says
-abbrev construction_items : Bool → Tree → Trees → Place → Bool → Items
-construction_items stand t es place w = word (codes "new") ⊕ (soft_space ⊕ (spell t (constructed (within w place)) ⊕ new_arguments stand (spell_list es (in_brackets levels.Comma))))
+abbrev construction_items : Span → Bool → Tree → Trees → Place → Bool → Items
+construction_items s stand t es place w = marked_word s (codes "new") ⊕ (soft_space ⊕ (spell t (constructed (within w place)) ⊕ new_arguments stand s (spell_list es (in_brackets levels.Comma))))
 
 abbrev ConstructionAt : Tables → Allowed → Atoms → Tree → Trees → Place → Bool → Type 0
-ConstructionAt names c a t es place stand = PrintedBy names (under place c) (level_of place) (wrapped (wraps levels.New place) (construction_items stand t es place (wraps levels.New place))) (tree.new_expression a t es)
+ConstructionAt names c a t es place stand = PrintedBy names (under place c) (level_of place) (wrapped (wraps levels.New place) (construction_items a.span stand t es place (wraps levels.New place))) (tree.new_expression a t es)
 
 in_parentheses : {names : Tables} (c : Allowed) (a : Atoms) (t : Tree) (es : Trees) → Printed names c t → ArgumentsAt names c es → (place : Place) → ConstructionAt names c a t es place true
 in_parentheses c a t es f h place =
-    good_wrapped c place grammar.Member (wraps levels.New place) (construction_items true t es place) (tree.new_expression a t es)
+    good_wrapped c place grammar.Member (wraps levels.New place) (construction_items a.span true t es place) (tree.new_expression a t es)
     (λ d ts u r. lifted false levels.Postfix levels.Lowest (omega arith) (grammar.a_called_member r)) (λ e ts u r. unwrapped levels.New place e (weaken_member place.context.forbids_call r))
     (λ v e p l z y k. let g = headed c t f (within v place) p l z k in with_arguments a t es g (arguments_written c es h _ g.last g.semicolon g.writes.knows))
 
@@ -110,11 +111,11 @@ none_unless_minified : {names : Tables} (c : Allowed) (a : Atoms) (t : Tree) (es
 none_unless_minified c a t (more e es) n f h place loose = absurd (both_ways true n refl)
 none_unless_minified c a t (hole es) n f h place loose = absurd (both_ways true n refl)
 none_unless_minified {names} c a t no_trees n f h place loose =
-    good_wrapped c place grammar.New (wraps levels.New place) (construction_items false t no_trees place) (tree.new_expression a t no_trees)
+    good_wrapped c place grammar.New (wraps levels.New place) (construction_items a.span false t no_trees place) (tree.new_expression a t no_trees)
     (λ d ts u r. lifted false levels.Prefix levels.Lowest (omega arith) (grammar.a_left_hand_side (grammar.a_new r))) (λ e ts u r. unwrapped levels.Postfix place loose (grammar.a_left_hand_side (grammar.a_new r)))
     (λ v e p l z y k. by v p l (headed c t f (within v place) p l z k) (layout (spell t (constructed (within v place))) (layout soft_space (layout (word (codes "new")) p))).style.minified)
   where
-    by : (v : Bool) (p : Pen) (l : Last) {p1 : Pen} → Headed names p l p1 (under (within v place) c) t → (minified : Bool) → Good names p l (written_if (not minified) (closing Round) (written_if (not minified) (opening Round) p1)) (under (within v place) c) grammar.New (tree.new_expression a t no_trees)
+    by : (v : Bool) (p : Pen) (l : Last) {p1 : Pen} → Headed names p l p1 (under (within v place) c) t → (minified : Bool) → let p2 : Pen = written_if (not minified) (opening Round) p1 in Good names p l (written_if (not minified) (closing Round) (if minified then p2 else p2)) (under (within v place) c) grammar.New (tree.new_expression a t no_trees)
     by v p l g true = alone a t g
     by v p l {p1} g false = good_at (λ ts u r. grammar.a_member r) (with_arguments a t no_trees g (arguments_written c no_trees h p1 g.last g.semicolon g.writes.knows))
 

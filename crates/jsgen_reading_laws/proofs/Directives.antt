@@ -10,7 +10,7 @@ use Rattle.jsgen_syntax.specs.declared.precedence.Precedence.TheVariants as leve
 use Rattle.jsgen_tree.specs.Job.{Tables}
 use Rattle.jsgen_tree.specs.Inside.{without_parentheses}
 use Rattle.jsgen_tree.specs.Atom.{units}
-use Rattle.jsgen_tree.specs.Tree.{Tree, Trees, no_trees, more, Atoms}
+use Rattle.jsgen_tree.specs.Tree.{Tree, Trees, no_trees, more, Atoms, span_of}
 use Rattle.jsgen_tree.specs.Places.{bare}
 use Rattle.jsgen_tree.specs.Nodes as tree
 use Rattle.jsgen_model.specs.Punctuator.{semicolon, Round, opening, closing}
@@ -146,7 +146,7 @@ string_written {names} c a e us h s p l z y k = go p.style.minified
 pub first_stated : {names : Tables} {c : Allowed} {t : Tree} → IsItem names c t → Listed names c t → StandsAt names (First c) (SameTree names t) (first_statement t (spell t among_statements))
 first_stated {names} {c} (family.a_statement (family.an_expression_statement {a} {e} v)) f = go (string_in (without_parentheses e)) refl
   where
-    go : (o : Option (List ℕ)) → string_in (without_parentheses e) ≡ o → StandsAt names (First c) (SameTree names (tree.expression_statement a e)) (unless_string o (spell (tree.expression_statement a e) among_statements))
+    go : (o : Option (List ℕ)) → string_in (without_parentheses e) ≡ o → StandsAt names (First c) (SameTree names (tree.expression_statement a e)) (unless_string a.span (span_of (without_parentheses e)) o (spell (tree.expression_statement a e) among_statements))
     go (Some us) s = let k = (asked v).inside us s in whole_line (first_string us) (string_written c a e us k.0 k.1)
     go None s = no_string_first (tree.expression_statement a e) f ((asked v).string ∙ ap is_some s)
 first_stated {t = t} (family.a_statement v) f = no_string_first t f refl

@@ -1,6 +1,7 @@
 -- Functions with a body in braces: their parameters, their bodies, and functions as expressions and as declarations.
 use Rattle.std.proofs.Common.{◌≡◌, ℕ, Bool, true, false, not, codes, List, refl, sym, ap, ◌∙◌, subst, ◌||◌}
 use Rattle.std.proofs.lemmas.Bool.{both_ways, or_parts}
+use Rattle.jsgen_syntax.specs.declared.span.Span.{Span}
 use Rattle.jsgen_syntax.specs.declared.precedence.Precedence.TheVariants as levels
 use Rattle.jsgen_syntax.specs.Escapes.{name_text}
 use Rattle.jsgen_syntax.proofs.Escapes.{word_text_value}
@@ -128,12 +129,12 @@ BodyOf names t = (place : Place) (p : Pen) (l : Last) → p.pending_semicolon �
 abbrev BracesOf : Tables → Trees → Trees → Items → Type 0
 BracesOf names ds ss items = (p : Pen) (l : Last) → p.pending_semicolon ≡ false → Knows names p l → GoodBraces names (ReadsBoth in_function) (SameBoth names ds ss) p l (layout items p)
 
-body_braced : {names : Tables} (ds ss : Trees) (items : Items) → StandsAt names (ReadsBoth in_function) (SameBoth names ds ss) items → BracesOf names ds ss (body_braces ds ss items)
-body_braced no_trees no_trees items f p l z k = empty_written (no_trees, no_trees) (grammar.statements refl grammar.no_statement) (refl, refl) p l k
-body_braced no_trees (more s ss) items f p l z k = filled_written items f p l z k
-body_braced no_trees (hole ss) items f p l z k = filled_written items f p l z k
-body_braced (more d ds) ss items f p l z k = filled_written items f p l z k
-body_braced (hole ds) ss items f p l z k = filled_written items f p l z k
+body_braced : {names : Tables} (s : Span) (ds ss : Trees) (items : Items) → StandsAt names (ReadsBoth in_function) (SameBoth names ds ss) items → BracesOf names ds ss (body_braces s ds ss items)
+body_braced s no_trees no_trees items f p l z k = empty_written s (no_trees, no_trees) (grammar.statements refl grammar.no_statement) (refl, refl) p l k
+body_braced s no_trees (more t ss) items f p l z k = filled_written s items f p l z k
+body_braced s no_trees (hole ss) items f p l z k = filled_written s items f p l z k
+body_braced s (more d ds) ss items f p l z k = filled_written s items f p l z k
+body_braced s (hole ds) ss items f p l z k = filled_written s items f p l z k
 
 body_of : {names : Tables} {p q : Pen} {l : Last} (a : Atoms) (ds ss : Trees) → GoodBraces names (ReadsBoth in_function) (SameBoth names ds ss) p l q → GoodBody names p l q (tree.function_body a ds ss)
 body_of a ds ss g = record {
@@ -147,7 +148,7 @@ body_of a ds ss g = record {
 }
 
 pub good_function_body : {names : Tables} (a : Atoms) (ds ss : Trees) → StandsAt names (ReadsBoth in_function) (SameBoth names ds ss) (spell_directives ds ⊕ spell_body ss) → BodyOf names (tree.function_body a ds ss)
-good_function_body a ds ss f place p l z k = body_of a ds ss (body_braced ds ss (spell_directives ds ⊕ spell_body ss) f p l z k)
+good_function_body a ds ss f place p l z k = body_of a ds ss (body_braced a.span ds ss (spell_directives ds ⊕ spell_body ss) f p l z k)
 
 -- ---- parameters and a body
 
@@ -211,20 +212,20 @@ pub record GoodFunction (names : Tables) (kind : FunctionKind) (p : Pen) (l : La
   pub same : normal tree ≡ normal (renamed names t)
 
 -- from its words on, by what they tell
-abbrev items_from : Bool → Bool → Maybe → Tree → Tree → Place → Items
-items_from is_async generator id t u place = function_words is_async generator ⊕ (spell_if_given id (child levels.Lowest place) ⊕ method_items t u place)
+abbrev items_from : Span → Bool → Bool → Maybe → Tree → Tree → Place → Items
+items_from s is_async generator id t u place = function_words s is_async generator ⊕ (spell_if_given id (child levels.Lowest place) ⊕ method_items t u place)
 
-abbrev whole_items : Maybe → Tree → Tree → Place → Items
-whole_items id t u place = items_from false false id t u place
+abbrev whole_items : Span → Maybe → Tree → Tree → Place → Items
+whole_items s id t u place = items_from s false false id t u place
 
 -- one that is neither `async` nor a generator
-without_words : (a : Atoms) (kind : FunctionKind) (id : Maybe) (t u : Tree) (place : Place) → function_kind a ≡ kind → IsSynchronous a → function_items kind (function_pife a) place (whole_items id t u place) ≡ function_items (function_kind a) (function_pife a) place (items_from (function_is_async a) (function_generator a) id t u place)
-without_words a kind id t u place h m = λ i. function_items (sym h i) (function_pife a) place (items_from (sym m.0 i) (sym m.1 i) id t u place)
+without_words : (a : Atoms) (kind : FunctionKind) (id : Maybe) (t u : Tree) (place : Place) → function_kind a ≡ kind → IsSynchronous a → function_items kind (function_pife a) place (whole_items a.span id t u place) ≡ function_items (function_kind a) (function_pife a) place (items_from a.span (function_is_async a) (function_generator a) id t u place)
+without_words a kind id t u place h m = λ i. function_items (sym h i) (function_pife a) place (items_from a.span (sym m.0 i) (sym m.1 i) id t u place)
 
 abbrev FunctionAt : Tables → FunctionKind → Tree → Items → Type 0
 FunctionAt names kind t items = (p : Pen) (l : Last) → p.pending_semicolon ≡ false → Knows names p l → GoodFunction names kind p l (layout items p) t
 
-good_whole_function : {names : Tables} {kind : FunctionKind} {id : Maybe} (a : Atoms) (t u : Tree) → function_kind a ≡ kind → IsSynchronous a → HasName names kind id → GroupOf names (ReadsParameters in_function) t → BodyOf names u → (place : Place) → FunctionAt names kind (tree.function a id t (given u)) (whole_items id t u place)
+good_whole_function : {names : Tables} {kind : FunctionKind} {id : Maybe} (a : Atoms) (t u : Tree) → function_kind a ≡ kind → IsSynchronous a → HasName names kind id → GroupOf names (ReadsParameters in_function) t → BodyOf names u → (place : Place) → FunctionAt names kind (tree.function a id t (given u)) (whole_items a.span id t u place)
 good_whole_function {names} {kind} a t u h m (family.a_name {a = b} n) f g place p l z k =
     let v : List ℕ = printed_name names (binding_named b) in
     let w : List ℕ = name_text p.style.ascii v in
@@ -272,7 +273,7 @@ good_function {names} {id} c a t u h m n f g place p l z y k =
     whole = tree.function a id t (given u)
 
     items : Items
-    items = whole_items id t u place
+    items = whole_items a.span id t u place
 
     wraps_it : Bool
     wraps_it = function_pife a || is_barred a_declaration p.start
@@ -298,7 +299,7 @@ good_function {names} {id} c a t u h m n f g place p l z y k =
 pub good_declaration : {names : Tables} {id : Maybe} (c : Allowed) (a : Atoms) (t u : Tree) → function_kind a ≡ kinds.Declaration → IsSynchronous a → HasName names kinds.Declaration id → GroupOf names (ReadsParameters in_function) t → BodyOf names u → Listed names c (tree.function a id t (given u))
 good_declaration {names} {id} c a t u h m n f g =
     subst (λ x. StandsAt names (ReadsItem c) (SameTree names whole) x) (without_words a kinds.Declaration id t u place h m)
-    (indented_line (whole_items id t u place ⊕ soft_line) (before_blank (whole_items id t u place) soft_line inside soft_line_written))
+    (indented_line (whole_items a.span id t u place ⊕ soft_line) (before_blank (whole_items a.span id t u place) soft_line inside soft_line_written))
   where
     place : Place
     place = among_statements
@@ -306,7 +307,7 @@ good_declaration {names} {id} c a t u h m n f g =
     whole : Tree
     whole = tree.function a id t (given u)
 
-    inside : StandsAt names (ReadsItem c) (SameTree names whole) (whole_items id t u place)
+    inside : StandsAt names (ReadsItem c) (SameTree names whole) (whole_items a.span id t u place)
     inside p l z y k =
         let r = good_whole_function a t u h m n f g place p l z k in
         record {

@@ -11,7 +11,7 @@ use Rattle.jsgen_tree.specs.Values.{label_identifier_name}
 use Rattle.jsgen_tree.specs.Nodes as tree
 use Rattle.jsgen_model.specs.Punctuator.{colon}
 use Rattle.jsgen_model.specs.Tokens.{Tokens, done, piece, Word, Sign}
-use Rattle.jsgen_model.specs.Items.{Items, ◌⊕◌, word, name, punctuator, soft_space}
+use Rattle.jsgen_model.specs.Items.{Items, ◌⊕◌, word, name, punctuator, soft_space, apart}
 use Rattle.jsgen_model.specs.Layout.{Pen, layout}
 use Rattle.jsgen_model.specs.Grammar.{Allowed, EndsBy, ReadsStatement, ReadsLabel, ReadsReturned}
 use Rattle.jsgen_model.specs.Grammar as grammar
@@ -23,13 +23,13 @@ use Rattle.jsgen_model.specs.Spell.{spell, spell_apart, shape, body_items}
 use Rattle.jsgen_token_laws.proofs.Characters.{letters_spelled}
 use Rattle.jsgen_token_laws.proofs.Last.{Last, After, line_of, Ready, Knows}
 use Rattle.jsgen_token_laws.proofs.Writes.{Writes, wrote_none, wrote_both}
-use Rattle.jsgen_token_laws.proofs.Steps.{wrote_word, wrote_written_name, wrote_punctuator, soft_space_written}
+use Rattle.jsgen_token_laws.proofs.Steps.{gap, apart_written, wrote_word, wrote_written_name, wrote_punctuator, soft_space_written}
 use Rattle.jsgen_reading_laws.proofs.Families.{IsLabel}
 use Rattle.jsgen_reading_laws.proofs.Families as family
 use Rattle.jsgen_reading_laws.proofs.Names.{free_spelled}
 use Rattle.jsgen_reading_laws.proofs.Good.{Printed, operand_ready}
 use Rattle.jsgen_reading_laws.proofs.Bindings.{PrintedIfGiven}
-use Rattle.jsgen_reading_laws.proofs.Stands.{UnendedAt, ReadsClosed, StatedAt, Stated, stated_among, SameTree, behind_tokens, indented_line, whole_line}
+use Rattle.jsgen_reading_laws.proofs.Stands.{UnendedAt, ReadsClosed, StatedAt, Stated, stated_among, SameTree, behind_tokens, behind_blank, indented_line, whole_line}
 use Rattle.jsgen_reading_laws.proofs.Bodies.{EmptyAlone, good_body}
 
 -- ---- labelled statements
@@ -38,7 +38,7 @@ abbrev labelled_items : Atoms → Tree → Items
 labelled_items b s = name b.span (as_written (label_identifier_name b)) ⊕ (punctuator colon ⊕ body_items (shape s) (spell s within_statement) (spell s among_statements))
 
 pub good_labelled : {names : Tables} (c : Allowed) (a b : Atoms) (s : Tree) → is_free_name (label_identifier_name b) ≡ true → EmptyAlone names s → Stated names c s → Stated names c (tree.labeled_statement a (tree.label_identifier b) s)
-good_labelled {names} c a b s h m f = stated_among refl (indented_line (labelled_items b s) inside)
+good_labelled {names} c a b s h m f = stated_among refl (indented_line (apart ⊕ labelled_items b s) (behind_blank apart (labelled_items b s) (λ p l k. gap (apart_written p l k)) inside))
   where
     v : List ℕ
     v = label_identifier_name b

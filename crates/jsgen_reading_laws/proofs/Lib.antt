@@ -6,6 +6,7 @@ pub mod Valid
 pub mod Numbers
 pub mod Freed
 pub mod Good
+pub mod Marks
 pub mod Names
 pub mod Lists
 pub mod Elements

@@ -34,6 +34,7 @@ use Rattle.jsgen_reading_laws.proofs.Levels.{level_of, under, from_primary, lift
 use Rattle.jsgen_reading_laws.proofs.Families.{has_value}
 use Rattle.jsgen_reading_laws.proofs.Numbers.{decimal_whole}
 use Rattle.jsgen_reading_laws.proofs.Good.{Printed, good_wrapped, PrintedBy, begins_all}
+use Rattle.jsgen_reading_laws.proofs.Marks.{behind_mark_if}
 use Rattle.jsgen_reading_laws.proofs.Prefixes.{sign_before, good_prefix, nothing_soft}
 
 -- ---- what a number ends in
@@ -174,6 +175,6 @@ good_big_integer {names} c a h place = by (behind_minus (big_int_literal_value a
     v : List ℕ
     v = big_int_literal_value a
 
-    by : (o : Option (List ℕ)) → behind_minus v ≡ o → PrintedBy names (under place c) (level_of place) (big_integer_items v o place) (tree.big_int_literal a)
-    by (Some w) e = negative_numeral c place false (big_text w) (tree.big_int_literal a) _ (big_numeral w (big_whole v (Some w) h e)) (ap (big_integer v) e)
+    by : (o : Option (List ℕ)) → behind_minus v ≡ o → PrintedBy names (under place c) (level_of place) (big_integer_items a.span v o place) (tree.big_int_literal a)
+    by (Some w) e = behind_mark_if (wraps levels.Prefix place) a.span (negative false (big_text w) place) (negative_numeral c place false (big_text w) (tree.big_int_literal a) _ (big_numeral w (big_whole v (Some w) h e)) (ap (big_integer v) e))
     by None e = bare_numeral c place false (big_text v) (tree.big_int_literal a) _ (big_numeral v (big_whole v None h e)) (ap (big_integer v) e)

@@ -199,7 +199,7 @@ unworded a b x t u n = λ i. accessor_word (object_property_kind a) ⊕ ((items_
 
 pub good_method : {names : Tables} (c : Allowed) (a b : Atoms) (x t u : Tree) → is_method (object_property_kind a) (object_property_method a) ≡ true → KeyOf names c (object_property_computed a) x → function_kind b ≡ kinds.Expression → IsSynchronous b → GroupsOf names (object_property_kind a) t → BodyOf names u → PropertyOf names c (tree.object_property a x (tree.function b absent t (given u)))
 good_method {names} c a b x t u m key h n f g p l z y k =
-    subst (λ i. Element names (ReadsProperty (with_in c)) p l (layout i p) (tree.object_property a x (tree.function b absent t (given u)))) (sym (property_spelled a x (tree.function b absent t (given u)) true m ∙ unworded a b x t u n)) (by (object_property_kind a) refl f p l z y k)
+    subst (λ q. Element names (ReadsProperty (with_in c)) p l q (tree.object_property a x (tree.function b absent t (given u)))) (sym (property_spelled p a x (tree.function b absent t (given u)) true m ∙ ap (λ i. layout i p) (unworded a b x t u n))) (by (object_property_kind a) refl f p l z y k)
   where
     by : (kind : PropertyKind) → object_property_kind a ≡ kind → GroupsOf names kind t → ElementOf names c (whole_items kind (object_property_computed a) x t u) (tree.object_property a x (tree.function b absent t (given u)))
     by property_kinds.Init e f = plain_method c a b x t u e m key h n f g

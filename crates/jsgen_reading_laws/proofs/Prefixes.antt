@@ -1,6 +1,7 @@
 -- An operator before its operand.
 use Rattle.std.proofs.Common.{◌≡◌, Bool, true, false, not, codes, List, [], ℕ, ◌∷◌, refl, ap, ◌∙◌, arith}
 use Rattle.jsgen_syntax.specs.Name.{spells_name}
+use Rattle.jsgen_syntax.specs.declared.span.Span.{Span}
 use Rattle.jsgen_syntax.specs.declared.operator.UnaryOperator.{UnaryOperator}
 use Rattle.jsgen_syntax.specs.declared.operator.UnaryOperator.TheVariants as unary_operators
 use Rattle.jsgen_syntax.specs.declared.precedence.Precedence.TheVariants as levels
@@ -20,7 +21,7 @@ use Rattle.jsgen_model.specs.Normal.{normal}
 use Rattle.jsgen_model.specs.Renamed.{renamed}
 use Rattle.jsgen_place.specs.Place.{within, child, wraps}
 use Rattle.jsgen_model.specs.Spell.{spell}
-use Rattle.jsgen_model.specs.Operators.{unary_sign, behind_unary}
+use Rattle.jsgen_model.specs.Operators.{unary_sign, behind_unary, marked}
 use Rattle.jsgen_token_laws.proofs.Characters.{letters_spelled}
 use Rattle.jsgen_token_laws.proofs.Last.{Last, After, line_of, Ready, Knows}
 use Rattle.jsgen_token_laws.proofs.Writes.{Writes, wrote_both}
@@ -75,6 +76,12 @@ sign_before s y w = record { writes = w; semicolon = λ p. refl; ready = y; begi
 pub word_before : {names : Tables} (w : List ℕ) → spells_name w ≡ true → ((ts : Tokens) → starts_declaration w ts ≡ false) → Before names (word w) (Word w)
 word_before w h n = record { writes = λ p l k. wrote_word w p l h k; semicolon = λ p. refl; ready = tt; begins = λ line ts. ap not (n ts) }
 
+-- the same of an item with a mark
+marked_before : {names : Tables} {x : Piece} (s : Span) (item : Items) → Before names item x → Before names (marked s item) x
+marked_before s (word w) b = record { writes = b.writes; semicolon = b.semicolon; ready = b.ready; begins = b.begins }
+marked_before s (operator p) b = record { writes = b.writes; semicolon = b.semicolon; ready = b.ready; begins = b.begins }
+marked_before s item b = record { writes = b.writes; semicolon = b.semicolon; ready = b.ready; begins = b.begins }
+
 -- ---- unary operations
 
 unary_before : {names : Tables} (o : UnaryOperator) → Before names (unary_sign o) (unary_piece o)
@@ -98,7 +105,7 @@ behind_soft o = nothing_soft
 pub good_unary_operation : {names : Tables} (c : Allowed) (a : Atoms) (t : Tree) → Printed names c t → Printed names c (tree.unary a t)
 good_unary_operation c a t f place =
     let o : UnaryOperator = unary_expression_operator a in
-    good_wrapped c place grammar.Unary (wraps levels.Prefix place) (λ w. unary_sign o ⊕ (behind_unary o ⊕ spell t (child levels.Exponentiation (within w place)))) (tree.unary a t)
+    good_wrapped c place grammar.Unary (wraps levels.Prefix place) (λ w. marked a.span (unary_sign o) ⊕ (behind_unary o ⊕ spell t (child levels.Exponentiation (within w place)))) (tree.unary a t)
     (λ d ts u r. lifted false levels.Exponentiation levels.Lowest (omega arith) r) (λ e ts u r. unwrapped levels.Prefix place e r)
-    (λ v e. good_prefix (unary_sign o) (unary_piece o) (behind_unary o) (spell t (child levels.Exponentiation (within v place))) t (tree.unary a t) (under (within v place) c) grammar.Unary grammar.Unary (unary_before o) (behind_soft o)
+    (λ v e. good_prefix (marked a.span (unary_sign o)) (unary_piece o) (behind_unary o) (spell t (child levels.Exponentiation (within v place))) t (tree.unary a t) (under (within v place) c) grammar.Unary grammar.Unary (marked_before a.span (unary_sign o) (unary_before o)) (behind_soft o)
     (λ ts line u r s. (tree.unary (bare (unary_operator o ∷ [])) u, grammar.a_unary_operation o r, ap (λ x. tree.unary (bare (unary_operator o ∷ [])) x) s)) (f (child levels.Exponentiation (within v place))))

@@ -16,7 +16,7 @@ use Rattle.jsgen_syntax.proofs.Strings.{escaped_value}
 use Rattle.jsgen_tree.specs.Job.{Tables}
 use Rattle.jsgen_tree.specs.Atom.{units}
 use Rattle.jsgen_tree.specs.Number.{NumericKind, Whole, Raw}
-use Rattle.jsgen_tree.specs.Tree.{Tree, Atoms, span_of}
+use Rattle.jsgen_tree.specs.Tree.{Tree, Atoms, span_of, type_of}
 use Rattle.jsgen_tree.specs.Nodes as tree
 use Rattle.jsgen_tree.specs.Places.{bare}
 use Rattle.jsgen_tree.specs.Named.{Named, as_written, printed_name}
@@ -36,7 +36,7 @@ use Rattle.jsgen_model.specs.Normal.{normal, nothing_of, named, unnumbered, by_t
 use Rattle.jsgen_model.specs.Renamed.{renamed}
 use Rattle.jsgen_place.specs.declared.place.Place.{Place}
 use Rattle.jsgen_place.specs.Place.{in_brackets}
-use Rattle.jsgen_model.specs.Spell.{spell, key_text, needs_brackets, key_items, accessor_word, method_or_property, method_words, spell_method, signed, number_items, big_text, big_integer_items, before_value, items_unless, unless_said}
+use Rattle.jsgen_model.specs.Spell.{spell, key_text, needs_brackets, key_items, accessor_word, method_or_property, method_words, spell_method, signed, number_items, big_text, big_integer_items, before_value, items_unless, unless_said, is_function}
 use Rattle.jsgen_model.specs.Valid.{named_faults, shorthand_faults}
 use Rattle.jsgen_token_laws.proofs.Last.{Last, Open, After, line_of, Operand, Begun, begun_ready, Knows}
 use Rattle.jsgen_token_laws.proofs.Writes.{Writes, wrote_both}
@@ -48,6 +48,7 @@ use Rattle.jsgen_reading_laws.proofs.Names.{free_spelled}
 use Rattle.jsgen_reading_laws.proofs.Literals.{Numeral, whole_numeral, raw_numeral, big_numeral, big_whole, good_number}
 use Rattle.jsgen_reading_laws.proofs.Levels.{from_primary}
 use Rattle.jsgen_reading_laws.proofs.Good.{Good, Printed}
+use Rattle.jsgen_reading_laws.proofs.Marks.{mark_if_laid}
 use Rattle.jsgen_reading_laws.proofs.Lists.{Element, ElementAt}
 use Rattle.jsgen_reading_laws.proofs.Asked.{asked}
 use Rattle.jsgen_reading_laws.proofs.Unrenamed.{written_as_it_was, signed_as_it_was}
@@ -201,7 +202,7 @@ good_big_integer_key {names} c a h m = by (behind_minus (big_int_literal_value a
     v : List ℕ
     v = big_int_literal_value a
 
-    by : (o : Option (List ℕ)) → behind_minus v ≡ o → is_some o ≡ false → (p : Pen) (l : Last) → p.pending_semicolon ≡ false → Begun l → Knows names p l → GoodKey names p l (layout (big_integer_items v o (in_brackets levels.Comma)) p) (with_in c) false (tree.big_int_literal a)
+    by : (o : Option (List ℕ)) → behind_minus v ≡ o → is_some o ≡ false → (p : Pen) (l : Last) → p.pending_semicolon ≡ false → Begun l → Knows names p l → GoodKey names p l (layout (big_integer_items a.span v o (in_brackets levels.Comma)) p) (with_in c) false (tree.big_int_literal a)
     by (Some w) e m = absurd (both_ways true m refl)
     by None e m = numeral_key c false (big_text v) (tree.big_int_literal a) _ (big_numeral v (big_whole v None h e)) (ap (big_integer v) e)
 
@@ -277,14 +278,14 @@ before_items a x v = before_value (object_property_shorthand a) (written_name_in
 abbrev pub plain_items : Atoms → Tree → Tree → Items
 plain_items a x v = before_items a x v ⊕ spell v (in_brackets levels.Comma)
 
-pub property_spelled : (a : Atoms) (x v : Tree) (m : Bool) → is_method (object_property_kind a) (object_property_method a) ≡ m → spell (tree.object_property a x v) (in_brackets levels.Comma) ≡ method_or_property m (method_items a x v) (plain_items a x v)
-property_spelled a x v m h = ap (λ b. method_or_property b (method_items a x v) (plain_items a x v)) h
+pub property_spelled : (p : Pen) (a : Atoms) (x v : Tree) (m : Bool) → is_method (object_property_kind a) (object_property_method a) ≡ m → layout (spell (tree.object_property a x v) (in_brackets levels.Comma)) p ≡ layout (method_or_property m (method_items a x v) (plain_items a x v)) p
+property_spelled p a x v m h = λ i. layout (method_or_property (h i) (method_items a x v) (plain_items a x v)) (mark_if_laid (is_function (type_of v)) a.span p i)
 
 -- a property that is no method, where the value stands alone or not
 property_laid : {names : Tables} (p : Pen) (a : Atoms) (x v : Tree) (short : Bool) → is_method (object_property_kind a) (object_property_method a) ≡ false → p.style.tables ≡ names → is_short names (object_property_shorthand a) x v ≡ short → layout (spell (tree.object_property a x v) (in_brackets levels.Comma)) p ≡ layout (spell v (in_brackets levels.Comma)) (layout (if short then nothing else key_items (needs_brackets (object_property_computed a) x) x (spell x (in_brackets levels.Comma)) ⊕ (punctuator colon ⊕ soft_space)) p)
 property_laid p a x v short m t s =
     let key : Items = key_items (needs_brackets (object_property_computed a) x) x (spell x (in_brackets levels.Comma)) in
-    ap (λ i. layout i p) (property_spelled a x v false m) ∙ ap (layout (spell v (in_brackets levels.Comma))) (before_laid p (object_property_shorthand a) (written_name_in x) (looked_up_in (without_parentheses v)) key t ∙ ap (λ y. layout (if y then nothing else key ⊕ (punctuator colon ⊕ soft_space)) p) s)
+    property_spelled p a x v false m ∙ ap (layout (spell v (in_brackets levels.Comma))) (before_laid p (object_property_shorthand a) (written_name_in x) (looked_up_in (without_parentheses v)) key t ∙ ap (λ y. layout (if y then nothing else key ⊕ (punctuator colon ⊕ soft_space)) p) s)
 
 -- an expression that is a reference of this name, in parentheses or not
 record Refers (names : Tables) (t : Tree) (n : Named) : Type 0 where

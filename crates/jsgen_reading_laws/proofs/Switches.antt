@@ -137,12 +137,12 @@ more_cases c default rest t ts f h =
 
 -- ---- the whole
 
-switch_read : {names : Tables} (c : Allowed) (a : Atoms) (e : Tree) (cases : Trees) → Printed names c e → CasesOf names c true cases → StatedAt names c (tree.switch_statement a e cases) (head_items (codes "switch") e ⊕ (soft_space ⊕ braces cases (spell_statements cases)))
+switch_read : {names : Tables} (c : Allowed) (a : Atoms) (e : Tree) (cases : Trees) → Printed names c e → CasesOf names c true cases → StatedAt names c (tree.switch_statement a e cases) (head_items (codes "switch") e ⊕ (soft_space ⊕ braces a.span cases (spell_statements cases)))
 switch_read c a e cases f rows p l z y k =
     let p1 : Pen = layout (head_items (codes "switch") e) p in
     let h = good_head (codes "switch") (letters_spelled 115 (codes "witch") refl) c e f p l z k in
     let s = soft_space_written p1 (Open false) h.writes.knows in
-    let g = braces_written (λ x. grammar.no_case) cases rows.0 (layout soft_space p1) s.last (s.semicolon ∙ h.semicolon) s.writes.knows in
+    let g = braces_written (λ x. grammar.no_case) a.span cases rows.0 (layout soft_space p1) s.last (s.semicolon ∙ h.semicolon) s.writes.knows in
     record {
       last = Open false;
       tokens = piece (line_of l) (Word (codes "switch")) (group h.next Round h.tokens (group (line_of s.last) Brace g.tokens done));
@@ -158,5 +158,5 @@ good_switch {names} c a e cases f rows = stated_among refl by
   where
     by : StatedAt names c (tree.switch_statement a e cases) (spell (tree.switch_statement a e cases) among_statements)
     by =
-        let items : Items = head_items (codes "switch") e ⊕ (soft_space ⊕ braces cases (spell_statements cases)) in
+        let items : Items = head_items (codes "switch") e ⊕ (soft_space ⊕ braces a.span cases (spell_statements cases)) in
         indented_line (items ⊕ soft_line) (before_blank items soft_line (switch_read c a e cases f rows) soft_line_written)

@@ -54,7 +54,7 @@ BlockOf names c t = (p : Pen) (l : Last) → p.pending_semicolon ≡ false → K
 
 pub some_block : {names : Tables} (c : Allowed) (a : Atoms) (ss : Trees) → RowAt names c (spell_statements ss) ss → BlockOf names c (tree.block a ss)
 some_block c a ss row p l z k =
-    let g = braces_written grammar.no_statement ss row p l z k in
+    let g = braces_written grammar.no_statement a.span ss row p l z k in
     record { tokens = g.tokens; writes = g.writes; semicolon = g.semicolon; reading = g.reading; reads = g.reads; same = ap (λ ts. tree.block (nothing_of 0) ts) g.same }
 
 -- what is written already, and a block behind a blank

@@ -1,5 +1,6 @@
 -- Updates: a simple target, and `++` or `--` before it or behind it.
 use Rattle.std.proofs.Common.{◌≡◌, Bool, true, false, not, Some, [], ◌∷◌, refl, sym, ap, ◌∙◌, arith}
+use Rattle.jsgen_syntax.specs.declared.span.Span.{Span}
 use Rattle.jsgen_syntax.specs.declared.operator.UpdateOperator.{UpdateOperator}
 use Rattle.jsgen_syntax.specs.declared.operator.UpdateOperator.TheVariants as operators
 use Rattle.jsgen_syntax.specs.declared.precedence.Precedence.TheVariants as levels
@@ -19,8 +20,8 @@ use Rattle.jsgen_model.specs.Normal.{normal}
 use Rattle.jsgen_model.specs.Renamed.{renamed}
 use Rattle.jsgen_place.specs.declared.place.Place.{Place}
 use Rattle.jsgen_place.specs.Place.{within, child, wraps, update_level}
-use Rattle.jsgen_model.specs.Spell.{spell, update_items}
-use Rattle.jsgen_model.specs.Operators.{update_item}
+use Rattle.jsgen_model.specs.Spell.{spell, update_items, linked_items}
+use Rattle.jsgen_model.specs.Operators.{update_item, marked}
 use Rattle.jsgen_token_laws.proofs.Last.{Last, After, line_of, Operand, Ready, Knows}
 use Rattle.jsgen_token_laws.proofs.Writes.{Writes, wrote_both}
 use Rattle.jsgen_token_laws.proofs.Steps.{wrote_operator, wrote_increment, wrote_decrement}
@@ -29,9 +30,9 @@ use Rattle.jsgen_reading_laws.proofs.Good.{Good, TargetPrinted, begins_then, lin
 
 -- ---- the sign
 
-written_before : {names : Tables} (o : UpdateOperator) (p : Pen) (l : Last) → Knows names p l → Writes names p l (layout (update_item o) p) (After (Sign (update_sign o))) (piece (line_of l) (Sign (update_sign o)) done)
-written_before operators.Increment p l k = wrote_increment p l k
-written_before operators.Decrement p l k = wrote_decrement p l k
+written_before : {names : Tables} (s : Span) (o : UpdateOperator) (p : Pen) (l : Last) → Knows names p l → Writes names p l (layout (marked s (update_item o)) p) (After (Sign (update_sign o))) (piece (line_of l) (Sign (update_sign o)) done)
+written_before s operators.Increment p l k = wrote_increment p l k
+written_before s operators.Decrement p l k = wrote_decrement p l k
 
 written_behind : {names : Tables} (o : UpdateOperator) (p : Pen) (l : Last) → Operand l → Knows names p l → Writes names p l (layout (update_item o) p) (After (Sign (update_sign o))) (piece (line_of l) (Sign (update_sign o)) done)
 written_behind operators.Increment p l i k = wrote_operator plus_plus p l tt i k
@@ -40,6 +41,10 @@ written_behind operators.Decrement p l i k = wrote_operator minus_minus p l tt i
 sign_semicolon : (o : UpdateOperator) (p : Pen) → (layout (update_item o) p).pending_semicolon ≡ p.pending_semicolon
 sign_semicolon operators.Increment p = refl
 sign_semicolon operators.Decrement p = refl
+
+marked_semicolon : (s : Span) (o : UpdateOperator) (p : Pen) → (layout (marked s (update_item o)) p).pending_semicolon ≡ p.pending_semicolon
+marked_semicolon s operators.Increment p = refl
+marked_semicolon s operators.Decrement p = refl
 
 sign_ready : (o : UpdateOperator) → Ready (After (Sign (update_sign o)))
 sign_ready operators.Increment = tt
@@ -91,7 +96,7 @@ behind_parts {names} a t {p = p} h g r simple one_line z w =
 -- ---- the whole
 
 abbrev items_of : Atoms → Tree → Place → Bool → Bool → Items
-items_of a t place prefix w = update_items prefix (update_item (update_expression_operator a)) (spell t (child levels.Postfix (within w place))) (spell t (child levels.Prefix (within w place)))
+items_of a t place prefix w = update_items a.span prefix (update_item (update_expression_operator a)) (linked_items t (spell t (child levels.Postfix (within w place)))) (spell t (child levels.Prefix (within w place)))
 
 abbrev UpdateAt : Tables → Allowed → Atoms → Tree → Place → Bool → Type 0
 UpdateAt names c a t place prefix = PrintedBy names (under place c) (level_of place) (wrapped (wraps (update_level prefix) place) (items_of a t place prefix (wraps (update_level prefix) place))) (tree.update a t)
@@ -104,9 +109,9 @@ update_before {names} c a t f h place =
     inner : (v : Bool) → wraps levels.Prefix place ≡ v → PrintedBy names (under (within v place) c) grammar.Update (items_of a t place true v) (tree.update a t)
     inner v e p l z y k =
         let o : UpdateOperator = update_expression_operator a in
-        let p1 : Pen = layout (update_item o) p in
-        let w = written_before o p l k in
-        let g = f (child levels.Prefix (within v place)) p1 (After (Sign (update_sign o))) (sign_semicolon o p ∙ z) (sign_ready o) w.knows in
+        let p1 : Pen = layout (marked a.span (update_item o)) p in
+        let w = written_before a.span o p l k in
+        let g = f (child levels.Prefix (within v place)) p1 (After (Sign (update_sign o))) (marked_semicolon a.span o p ∙ z) (sign_ready o) w.knows in
         before_parts a t h w g.0 g.1
 
 update_behind : {names : Tables} (c : Allowed) (a : Atoms) (t : Tree) → TargetPrinted names c t → update_expression_prefix a ≡ false → (place : Place) → UpdateAt names c a t place false

@@ -5,7 +5,7 @@ use Rattle.jsgen_syntax.specs.declared.precedence.Precedence.TheVariants as leve
 use Rattle.jsgen_tree.specs.declared.types.NodeType.TheVariants as types
 use Rattle.jsgen_tree.specs.Job.{Tables}
 use Rattle.jsgen_tree.specs.Inside.{ends_open}
-use Rattle.jsgen_tree.specs.Tree.{Tree, node, no_trees, more, hole, Atoms}
+use Rattle.jsgen_tree.specs.Tree.{Tree, node, no_trees, more, hole, Atoms, span_of}
 use Rattle.jsgen_tree.specs.Nodes as tree
 use Rattle.jsgen_model.specs.Punctuator.{Round, semicolon}
 use Rattle.jsgen_model.specs.Tokens.{Tokens, done, piece, group, ◌⧺◌, Word}
@@ -111,7 +111,7 @@ block_left t i p z = absurd (both_ways (is_block (shape t)) refl (ap is_block i)
     is_block shapes.Block = true
     is_block s = false
 
-good_finished : {names : Tables} (c : Allowed) (t : Tree) → EmptyAlone names t → Stated names c t → (p : Pen) (l : Last) → p.pending_semicolon ≡ false → Ready l → Knows names p l → Finished names c t p l (layout (do_items (shape t) (spell t within_statement) (spell t among_statements)) p)
+good_finished : {names : Tables} (c : Allowed) (t : Tree) → EmptyAlone names t → Stated names c t → (p : Pen) (l : Last) → p.pending_semicolon ≡ false → Ready l → Knows names p l → Finished names c t p l (layout (do_items (span_of t) (shape t) (spell t within_statement) (spell t among_statements)) p)
 good_finished {names} c t m f p l z y k = by_shape (shape t) refl
   where
     inner : Items
@@ -120,7 +120,7 @@ good_finished {names} c t m f p l z y k = by_shape (shape t) refl
     whole : Items
     whole = spell t among_statements
 
-    by_shape : (s : Shape) → shape t ≡ s → Finished names c t p l (layout (do_items s inner whole) p)
+    by_shape : (s : Shape) → shape t ≡ s → Finished names c t p l (layout (do_items (span_of t) s inner whole) p)
     by_shape shapes.Block i =
         let p1 : Pen = layout soft_space p in
         let n = soft_space_written p l k in
@@ -145,7 +145,7 @@ good_finished {names} c t m f p l z y k = by_shape (shape t) refl
 -- ---- `do`
 
 abbrev do_while_items : Tree → Tree → Items
-do_while_items s t = word (codes "do") ⊕ (do_items (shape s) (spell s within_statement) (spell s among_statements) ⊕ head_items (codes "while") t)
+do_while_items s t = word (codes "do") ⊕ (do_items (span_of s) (shape s) (spell s within_statement) (spell s among_statements) ⊕ head_items (codes "while") t)
 
 do_while_parts : {names : Tables} {p p1 p2 q : Pen} {l : Last} (c : Allowed) (a : Atoms) (s t : Tree) → Writes names p l p1 (After (Word (codes "do"))) (piece (line_of l) (Word (codes "do")) done) → (b : Finished names c s p1 (After (Word (codes "do"))) p2) → GoodHead names (codes "while") p2 b.last q c t → Unended names (ReadsClosed c false) (SameTree names (tree.do_while_statement a s t)) p l q
 do_while_parts {l = l} c a s t o b h = record {
@@ -165,7 +165,7 @@ good_do_while {names} c a s t m f g = stated_among refl (whole_line (do_while_it
     inside : UnendedAt names (ReadsClosed c false) (SameTree names (tree.do_while_statement a s t)) (do_while_items s t)
     inside p l z y k =
         let p1 : Pen = layout (word (codes "do")) p in
-        let p2 : Pen = layout (do_items (shape s) (spell s within_statement) (spell s among_statements)) p1 in
+        let p2 : Pen = layout (do_items (span_of s) (shape s) (spell s within_statement) (spell s among_statements)) p1 in
         let o = wrote_word (codes "do") p l (letters_spelled 100 (codes "o") refl) k in
         let b = good_finished c s m f p1 (After (Word (codes "do"))) z tt o.knows in
         do_while_parts c a s t o b (while_head c t g p2 b.last b.semicolon b.writes.knows)

@@ -4,7 +4,7 @@ ghost use Rattle.jsgen_tree.specs.Rows.{this_expression_row, null_literal_row, r
 ghost use Rattle.jsgen_model.specs.Spell.{spell};
 ghost use Rattle.jsgen_printer.specs.Steps.{Lays};
 
-use jsgen_inside::PrintInside;
+use jsgen_inside::{PrintInside, print_at_link};
 use jsgen_place::Place;
 use jsgen_printer::Printer;
 use jsgen_tree::{
@@ -40,7 +40,7 @@ pub fn print_parenthesized_expression<N, L: PrintInside<N>>(
 )
     ensures { Lays p.old p.new (spell (parenthesized_expression_row L.plain node.now) place) }
 {
-    L::print(node.expression.get(), p, place);
+    print_at_link::<_, L>(node.expression.get(), p, place);
 }
 
 pub fn print_identifier_name(node: &IdentifierName, p: &mut Printer<'_>, place: Place)

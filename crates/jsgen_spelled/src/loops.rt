@@ -49,6 +49,8 @@ pub fn print_labeled_statement<N, L: PrintInside<N>>(
 {
     p.print_comments(node.span.start);
     p.print_indentation();
+    p.print_space_apart();
+    p.print_mark(node.span);
     print_label_identifier(&node.label, p, place.child(Precedence::Lowest));
     p.print_colon();
     print_body::<_, L>(node.body.get(), p);

@@ -20,7 +20,7 @@ pub fn print_unary_expression<N, L: PrintInside<N>>(
     let wrap = place.wraps(Precedence::Prefix);
     p.print_opening_if(wrap);
     let within = place.within(wrap);
-    p.print_unary_operator(node.operator);
+    p.print_marked_unary_operator(node.span, node.operator);
     p.print_behind_unary(node.operator);
     L::print(
         node.argument.get(),

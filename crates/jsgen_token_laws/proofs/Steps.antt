@@ -18,7 +18,7 @@ use Rattle.jsgen_token_laws.proofs.Numbers.{number_before_dot}
 use Rattle.jsgen_model.specs.Punctuator.{Punctuator, Bracket, punctuator_text, plus, minus, dot, ellipsis, comma, semicolon, Round, opening, closing, plus_plus, minus_minus}
 use Rattle.jsgen_model.specs.Tokens.{longer_stands, Tokens, done, piece, group, Word, Number, Quoted, Sign, is_spelled, is_blank, is_line_terminator, has_line_end}
 use Rattle.jsgen_model.specs.Numbers.{spells_number, spells_whole, takes_no_dot, ends_in, is_raw_number}
-use Rattle.jsgen_model.specs.Items.{member_dot, word, number, punctuator, operator, soft_space, soft_line, hard_space, body_space, indentation, due_semicolon, statement_begins}
+use Rattle.jsgen_model.specs.Items.{member_dot, word, number, punctuator, operator, soft_space, soft_line, hard_space, body_space, indentation, due_semicolon, statement_begins, apart}
 use Rattle.jsgen_model.specs.Layout.{Pen, Ending, other_end, operator_end, layout, with_name, written, written_if, text_if, ending_unless, is_apart, ends_in_escapes, name_ending, space_if, joins, dot_joins, indented, indent_or_space, at_indentation, end_statement, number_ending}
 use Rattle.jsgen_token_laws.proofs.Characters.{goes_on_in_sign, ends_in_word_behind, all_goes, all_follow, last_behind, alphanumeric_goes}
 use Rattle.jsgen_token_laws.proofs.Words.{word_begins, unescaped, name_spelled, spelled_name}
@@ -215,12 +215,16 @@ soft_blank p q l gap h clear e f g k = record {
   semicolon = g;
 }
 
+-- a space where the test holds
+space_written : {names : Tables} (test : Bool) (p : Pen) (l : Last) → Knows names p l → Soft names p l (written_if test (codes " ") p)
+space_written true p l k = soft_blank p (written_if true (codes " ") p) l (codes " ") refl (λ r. clear_space l r) refl refl refl k
+space_written false p l k = no_soft p (written_if false (codes " ") p) l (append-nil p.code) refl refl refl k
+
 pub soft_space_written : {names : Tables} (p : Pen) (l : Last) → Knows names p l → Soft names p l (layout soft_space p)
-soft_space_written {names} p l k = go p.style.minified
-  where
-    go : (b : Bool) → Soft names p l (written_if (not b) (codes " ") p)
-    go true = no_soft p (written_if false (codes " ") p) l (append-nil p.code) refl refl refl k
-    go false = soft_blank p (written_if true (codes " ") p) l (codes " ") refl (λ r. clear_space l r) refl refl refl k
+soft_space_written p l k = space_written (not p.style.minified) p l k
+
+pub apart_written : {names : Tables} (p : Pen) (l : Last) → Knows names p l → Soft names p l (layout apart p)
+apart_written p l k = space_written (is_apart p.ending p.code) p l k
 
 pub indentation_written : {names : Tables} (p : Pen) (l : Last) → Knows names p l → Soft names p l (layout indentation p)
 indentation_written {names} p l k = by_style p.style.minified

@@ -35,7 +35,7 @@ took bytes wanted job old new (is, valid) plain quiet same appends =
       bytes_are_read wanted typed valid plain quiet,
     )
 
-pub prints : (s : Status) (held : Option (List ℕ)) (before now sink_before sink_now : ℕ) (old new : Option (List ℕ)) (job : JobData) → (s ≡ Usage → ⊥) → SourceCount s before now → OutCount s sink_before sink_now → IfSome held (InputRow s) → OutputRow s held old new → HoldsJob held job → IsPlain job.program → IsQuiet job → Prints (Rose before now) (Rose sink_before sink_now) job old new s
+pub prints : (s : Status) (held : Option (List ℕ)) (before now sink_before sink_now : ℕ) (old new : Option (List ℕ)) (job : JobData) → (s ≡ Usage → ⊥) → SourceCount s before now → OutCount s sink_before sink_now → IfSome held (InputRow s) → OutputRow text_bytes s held old new → HoldsJob held job → IsPlain job.program → IsQuiet job → Prints (Rose before now) (Rose sink_before sink_now) job old new s
 prints s None before now sink_before sink_now old new job u r w i o holds plain quiet = absurd holds
 prints Done (Some bytes) before now sink_before sink_now old new job u r w i (printed, (held, same, within, is), appends) (fits, wanted) plain quiet = record {
   answer = tt;

@@ -4,7 +4,6 @@ use Rattle.std.specs.declared.alloc.Global.{Global}
 use Rattle.std.specs.Io.KnownBytes.{Keeps, Appends}
 use Rattle.jsgen_model.specs.declared.fault.TreeFault.{TreeFault}
 use Rattle.jsgen_tree.specs.Job.{JobData}
-use Rattle.jsgen_model.specs.Spell.{text_bytes}
 use Rattle.jsgen_rows.specs.Job.{job_of}
 use Rattle.jsgen_fields.specs.declared.InputFault.{InputFault}
 use Rattle.jsgen_device.specs.Device.{Rose, AppendsPart}
@@ -20,9 +19,16 @@ IsPrint words = map string_bytes words ≡ codes "print" ∷ []
 abbrev pub IsCheck : List (String Global) → Type 0
 IsCheck words = map string_bytes words ≡ codes "check" ∷ []
 
+abbrev pub IsMap : List (String Global) → Type 0
+IsMap words = map string_bytes words ≡ codes "map" ∷ []
+
+-- they ask for a text
+abbrev pub IsWriting : List (String Global) → Type 0
+IsWriting words = IsPrint words ⊎ IsMap words
+
 -- the words are a command
 abbrev pub IsCommand : List (String Global) → Type 0
-IsCommand words = IsPrint words ⊎ IsCheck words
+IsCommand words = IsWriting words ⊎ IsCheck words
 
 -- what each answer says of the bytes that the source held
 abbrev pub InputRow : Status → List ℕ → Type 0
@@ -42,13 +48,13 @@ TellsRule judged other bytes = ⊤
 abbrev pub HeldJob : Option (List ℕ) → JobData → Type 0
 HeldJob held job = (bytes : List ℕ) × IfSome held (λ told. told ≡ bytes) × IsWithin bytes × IsJobOf job bytes
 
--- What each answer says of the bytes that the sink took: on Done the text of a valid job, on WriteFault some first bytes of
--- it. It is the job that the source held where the source tells its bytes, and else some job. Every other answer leaves the
+-- What each answer says of the bytes that the sink took, where a text of a job is asked for: on Done that of a valid job, on
+-- WriteFault some first bytes of it. It is the job that the source held where the source tells its bytes, and else some job. Every other answer leaves the
 -- sink as it was. Of a sink that doesn't tell what it took this says nothing.
-abbrev pub OutputRow : Status → Option (List ℕ) → Option (List ℕ) → Option (List ℕ) → Type 0
-OutputRow Done held old new = (job : JobData) × HeldJob held job × Appends old new (text_bytes job)
-OutputRow WriteFault held old new = (job : JobData) × HeldJob held job × AppendsPart old new (text_bytes job)
-OutputRow other held old new = Keeps old new
+abbrev pub OutputRow : (JobData → List ℕ) → Status → Option (List ℕ) → Option (List ℕ) → Option (List ℕ) → Type 0
+OutputRow wanted Done held old new = (job : JobData) × HeldJob held job × Appends old new (wanted job)
+OutputRow wanted WriteFault held old new = (job : JobData) × HeldJob held job × AppendsPart old new (wanted job)
+OutputRow wanted other held old new = Keeps old new
 
 -- ReadFault comes only where the source's count rose, and under every other answer it is as it was
 abbrev pub SourceCount : Status → ℕ → ℕ → Type 0

@@ -3,7 +3,10 @@ ghost use Rattle.std.specs.Prelude.{◌≡◌, ◌↔◌, ◌+◌, [], ◌∷◌
 ghost use Rattle.jsgen_tree.specs.Job.{JobData};
 ghost use Rattle.jsgen_model.specs.Plain.{IsPlain, IsQuiet};
 ghost use Rattle.jsgen_tool.specs.Headline.{HoldsJob, Prints};
-ghost use Rattle.jsgen_tool.specs.Answers.{IsPrint, IsCommand, InputRow, TellsRule, OutputRow, SourceCount, OutCount, Due};
+ghost use Rattle.jsgen_jobs.specs.Job.{AnswersBy, Tells};
+ghost use Rattle.jsgen_jobs.specs.MapText.{map_bytes};
+ghost use Rattle.jsgen_model.specs.Spell.{text_bytes};
+ghost use Rattle.jsgen_tool.specs.Answers.{IsPrint, IsMap, IsWriting, IsCommand, InputRow, TellsRule, OutputRow, SourceCount, OutCount, Due};
 ghost use Rattle.jsgen_device.specs.Device.{Rose};
 ghost use Rattle.jsgen_tool.specs.Transfer.{TakesAtMost, limit};
 ghost use Rattle.jsgen_tool.specs.Lines.{Says, line_of};
@@ -26,13 +29,58 @@ fn is_word(words: &[String], text: &str) -> bool
     }
 }
 
-fn print<P: PrintJobs, S: Source, K: Sink>(alloc: Global, source: &mut S, out: &mut K) -> Status
+// What gives a text of jobs.
+trait TextOfJobs {
+    ghost use Rattle.std.specs.Prelude.{ℕ, List, Result};
+    ghost use Rattle.jsgen_tree.specs.Job.{JobData};
+    ghost use Rattle.jsgen_model.specs.declared.fault.TreeFault.{TreeFault};
+
+    ghost judged: { JobData → Result (Unit {0}) TreeFault };
+
+    ghost wanted: { JobData → List ℕ };
+
+    fn text_of(alloc: Global, bytes: &[u8]) -> Result<String, JobFault>
+        ensures answer { AnswersBy wanted bytes.now result }
+        ensures rule { Tells judged bytes.now result };
+}
+
+// Of each job its printed program.
+struct Programs<P> {
+    printer: P,
+}
+
+impl<P: PrintJobs> TextOfJobs for Programs<P> {
+    ghost judged = { P.judged };
+
+    ghost wanted = { text_bytes };
+
+    fn text_of(alloc: Global, bytes: &[u8]) -> Result<String, JobFault> {
+        P::print_job(alloc, bytes)
+    }
+}
+
+// Of each job the lines of its source map.
+struct Maps<P> {
+    printer: P,
+}
+
+impl<P: PrintJobs> TextOfJobs for Maps<P> {
+    ghost judged = { P.judged };
+
+    ghost wanted = { map_bytes };
+
+    fn text_of(alloc: Global, bytes: &[u8]) -> Result<String, JobFault> {
+        P::map_job(alloc, bytes)
+    }
+}
+
+fn write<T: TextOfJobs, S: Source, K: Sink>(alloc: Global, source: &mut S, out: &mut K) -> Status
     ensures usage { result ≡ Status.Usage → ⊥ }
     ensures read { SourceCount result (S.faults source.old) (S.faults source.new) }
     ensures write { OutCount result (K.faults out.old) (K.faults out.new) }
     ensures input { IfSome (S.left source.old) (InputRow result) }
-    ensures rule { IfSome (S.left source.old) (TellsRule P.judged result) }
-    ensures output { OutputRow result (S.left source.old) (K.got out.old) (K.got out.new) }
+    ensures rule { IfSome (S.left source.old) (TellsRule T.judged result) }
+    ensures output { OutputRow T.wanted result (S.left source.old) (K.got out.old) (K.got out.new) }
     ensures memory { result ≡ Status.NotJob InputFault.Memory → ⊥ }
     ensures taken { TakesAtMost (limit + 1) (S.left source.old) (S.left source.new) }
 {
@@ -42,7 +90,7 @@ fn print<P: PrintJobs, S: Source, K: Sink>(alloc: Global, source: &mut S, out: &
         Err(Unread::TooLong) => return Status::TooLong,
         Err(Unread::Memory) => return Status::Memory,
     };
-    let text = match P::print_job(alloc, &bytes) {
+    let text = match T::text_of(alloc, &bytes) {
         Ok(text) => text,
         Err(JobFault::NotJob(fault)) => return Status::NotJob(fault),
         Err(JobFault::Refused(fault)) => return Status::Refused(fault),
@@ -88,14 +136,18 @@ fn work<P: PrintJobs, S: Source, K: Sink>(
     ensures write { OutCount result (K.faults out.old) (K.faults out.new) }
     ensures input { IfSome (S.left source.old) (InputRow result) }
     ensures rule { IfSome (S.left source.old) (TellsRule P.judged result) }
-    ensures output { IsPrint words.now → OutputRow result (S.left source.old) (K.got out.old) (K.got out.new) }
-    ensures kept { (IsPrint words.now → ⊥) → (result ≡ Status.WriteFault → ⊥) × (out.new ≡ out.old) }
+    ensures output { IsPrint words.now → OutputRow text_bytes result (S.left source.old) (K.got out.old) (K.got out.new) }
+    ensures map { IsMap words.now → OutputRow map_bytes result (S.left source.old) (K.got out.old) (K.got out.new) }
+    ensures kept { (IsWriting words.now → ⊥) → (result ≡ Status.WriteFault → ⊥) × (out.new ≡ out.old) }
     ensures memory { result ≡ Status.NotJob InputFault.Memory → ⊥ }
     ensures taken { TakesAtMost (limit + 1) (S.left source.old) (S.left source.new) }
     ensures idle { result ≡ Status.Usage → source.new ≡ source.old }
 {
     if is_word(words, "print") {
-        return print::<P, S, K>(alloc, source, out);
+        return write::<Programs<P>, S, K>(alloc, source, out);
+    }
+    if is_word(words, "map") {
+        return write::<Maps<P>, S, K>(alloc, source, out);
     }
     if is_word(words, "check") {
         return check::<P, S>(alloc, source);
@@ -104,8 +156,8 @@ fn work<P: PrintJobs, S: Source, K: Sink>(
 }
 
 /// Reads a job from the source, writes what the words ask for to `out`, and says on `err` what went wrong: for `print` the
-/// job's text, and for `check` nothing, so that the status alone tells whether the job keeps the rules. The text is
-/// complete before its first byte is written. Where several things are wrong, the first of these is
+/// job's text, for `map` the lines of its source map, and for `check` nothing, so that the status alone tells whether the job keeps
+/// the rules. A text is complete before its first byte is written. Where several things are wrong, the first of these is
 /// answered: the words, reading, the length, the job, the rules, writing.
 pub fn run<P: PrintJobs, S: Source, K: Sink>(
     alloc: Global,
@@ -119,10 +171,11 @@ pub fn run<P: PrintJobs, S: Source, K: Sink>(
     ensures write { OutCount result (K.faults out.old) (K.faults out.new) }
     ensures input { IfSome (S.left source.old) (InputRow result) }
     ensures rule { IfSome (S.left source.old) (TellsRule P.judged result) }
-    ensures output { IsPrint words.now → OutputRow result (S.left source.old) (K.got out.old) (K.got out.new) }
+    ensures output { IsPrint words.now → OutputRow text_bytes result (S.left source.old) (K.got out.old) (K.got out.new) }
+    ensures map { IsMap words.now → OutputRow map_bytes result (S.left source.old) (K.got out.old) (K.got out.new) }
 
-    // Where the words aren't `print`, nothing is written.
-    ensures kept { (IsPrint words.now → ⊥) → (result ≡ Status.WriteFault → ⊥) × (out.new ≡ out.old) }
+    // Where the words ask for no text, nothing is written.
+    ensures kept { (IsWriting words.now → ⊥) → (result ≡ Status.WriteFault → ⊥) × (out.new ≡ out.old) }
 
     // What comes where the words are a command and no read failed.
     ensures due { IsCommand words.now → (Rose (S.faults source.old) (S.faults source.new) → ⊥) →

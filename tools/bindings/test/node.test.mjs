@@ -7,13 +7,15 @@ import { join } from "node:path";
 import { test } from "node:test";
 import { fileURLToPath } from "node:url";
 import { Worker } from "node:worker_threads";
+import { packageOrNull } from "../../estree/packages.mjs";
 import { parsed } from "../../estree/parser.mjs";
-import { program, unbuilt } from "../../estree/program.mjs";
+import { program, unbuilt, unmapped } from "../../estree/program.mjs";
 
 const here = (name) => fileURLToPath(new URL(name, import.meta.url));
 if (!unbuilt) process.env.JSGEN = program();
 const { JsgenError, addon, print, printJob } = await import("../../../bindings/node/index.mjs");
 const skip = addon === null && unbuilt;
+const withoutMaps = unmapped || (packageOrNull("source-map") === null && "source-map isn't installed");
 const withoutAddon = addon === null && "the addon isn't built: node bindings/node/build.mjs";
 
 const SOURCE = 'import { a } from "b";\n\nexport class C extends a {\n  #d = 1;\n}\n';
@@ -78,6 +80,18 @@ test("wrong arguments are a TypeError", () => {
   assert.throws(() => print(tree, { minfy: true }), { name: "TypeError", message: "unknown setting minfy" });
   assert.throws(() => print(tree, { minify: 1 }), { name: "TypeError", message: "minify is true or false" });
   assert.throws(() => print(tree, { indent: -1 }), TypeError);
+  assert.throws(() => print(tree, { source: "a", sourceMap: 1 }), { name: "TypeError", message: "sourceMap is true or false" });
+  assert.throws(() => print(tree, { sourceMap: true }), { name: "TypeError", message: "sourceMap wants the source" });
+});
+
+test("a map is made where it is asked for", { skip: withoutMaps }, () => {
+  const source = "const a = 1 + 2;";
+  const settings = { source, minify: true, sourceMap: true };
+  const map = { version: 3, sources: ["<source>"], sourcesContent: [source], names: [], mappings: "AAAA,MAAM,EAAI,EAAI" };
+  assert.deepEqual(print(parsed(source), settings), { code: "const a=1+2;", map });
+  assert.deepEqual(print(parsed(source), { ...settings, options: { source_map_path: "x.js" } }).map, { ...map, sources: ["x.js"] });
+  assert.equal(print(parsed(source), { ...settings, sourceMap: false }).map, null);
+  assert.throws(() => print({ type: "Program", sourceType: "module", body: [{ type: "ExpressionStatement", expression: { type: "Identifier", name: "if" } }] }, settings), JsgenError);
 });
 
 test("the addon takes nothing but bytes", { skip: withoutAddon }, () => {
@@ -122,7 +136,28 @@ test("the command prints a file, and says why it doesn't", { skip }, () => {
     assert.deepEqual(command(["-o", join(folder, "b.js")], "a()"), [0, "", ""]);
     assert.equal(readFileSync(join(folder, "b.js"), "utf8"), "a();\n");
     assert.match(command([], "a(")[2], /^Unexpected token \(1:2\)\n$/);
+    assert.match(command(["--source-map", "a", "b"])[2], /^at most one file/);
     assert.match(command(["-o"])[2], /^at most one file, and one behind -o, is wanted\nusage: jsgen /);
+  } finally {
+    rmSync(folder, { recursive: true });
+  }
+});
+
+test("the command writes a map beside the code, or in it", { skip: withoutMaps }, () => {
+  const folder = mkdtempSync(join(tmpdir(), "jsgen-node-"));
+  try {
+    const command = (words, input = "") => {
+      const ran = spawnSync(process.execPath, [here("../../../bindings/node/bin/jsgen.mjs"), "--source-map", ...words], { input, cwd: folder });
+      return [ran.status, ran.stdout.toString(), ran.stderr.toString()];
+    };
+    writeFileSync(join(folder, "a.js"), "a()");
+    assert.deepEqual(command(["-o", "b.js", "a.js"]), [0, "", ""]);
+    assert.equal(readFileSync(join(folder, "b.js"), "utf8"), "a();\n//# sourceMappingURL=b.js.map\n");
+    const map = JSON.parse(readFileSync(join(folder, "b.js.map"), "utf8"));
+    assert.deepEqual([map.file, map.sources, map.sourcesContent], ["b.js", ["a.js"], ["a()"]]);
+    const [, out] = command(["--minify"], "a()");
+    const [, code, base64] = /^(.*)\n\/\/# sourceMappingURL=data:application\/json;charset=utf-8;base64,(\S+)\n$/.exec(out);
+    assert.deepEqual([code, JSON.parse(Buffer.from(base64, "base64")).sources], ["a();", ["<stdin>"]]);
   } finally {
     rmSync(folder, { recursive: true });
   }

@@ -89,8 +89,8 @@ test("while the gate runs nothing is built", async () => {
       assert.equal(call.lines, "jsgen: `rt ci` is at work, which sets the program aside: call again when it has ended\n");
       assert.deepEqual(calls(), []);
     } finally {
-      gate.kill();
       spawnSync("pkill", ["-P", String(gate.pid)]);
+      gate.kill();
     }
   });
 });

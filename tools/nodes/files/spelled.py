@@ -14,7 +14,7 @@ MODEL = "Rattle.jsgen_model.specs"
 PLACES = "Rattle.jsgen_place.specs.Place"
 SPELL = REPOSITORY / "crates" / "jsgen_model" / "specs" / "Spell.antt"
 LEVELS = "Rattle.jsgen_syntax.specs.declared.precedence.Precedence.TheVariants"
-STEPS = {"statement_begins": "begin_statement", "due_semicolon": "print_due_semicolon"}
+STEPS = {"statement_begins": "begin_statement", "due_semicolon": "print_due_semicolon", "apart": "print_space_apart"}
 COMMENTS = {"all_of_them": "print_comments", "with_key_annotation": "print_key_comments"}
 
 # What may be there or not, by what stands before it: the definition that spells it, and the function that prints it.
@@ -121,6 +121,12 @@ class Clause:
     def item_mark(self):
         return "mark a.span"
 
+    def item_marked_indentation(self):
+        return "marked_indentation a.span"
+
+    def item_linked(self, f):
+        return f"(spell {variable(f)} {self.place} ⊕ link_mark (span_if (is_at_link {self.place}) (span_of {variable(f)})))"
+
     def item_end_mark(self):
         return "end_mark a.span"
 
@@ -134,7 +140,7 @@ class Clause:
         return f"regular_expression {self.value(pattern)} {self.value(flags)}"
 
     def item_unary_sign(self, f):
-        return f"unary_sign {self.value(f)}"
+        return f"marked a.span (unary_sign {self.value(f)})"
 
     def item_unary_space(self, f):
         return f"behind_unary {self.value(f)}"
@@ -194,7 +200,7 @@ def spell_file(table):
     outside = layout.by_hand(text)
     already = set(re.findall(r"[\w◌⊕]+", "\n".join(line for line in outside.splitlines() if line.startswith("use "))))
     values = [f"{snake(n.name)}_{f.name}" for n in spelled(table) for f in table.values(n)]
-    items = ["marked_word", "comments", "all_of_them", "with_key_annotation", "mark", "end_mark", "regular_expression", "hard_space", "soft_line"]
+    items = ["marked_word", "apart", "comments", "all_of_them", "with_key_annotation", "mark", "end_mark", "regular_expression", "hard_space", "soft_line"]
     homes = [(f"{SPECS}.Values", [v for v in values if v not in already]), (f"{MODEL}.Items", [v for v in items if v not in already])]
     imports = "\n".join(f"use {module}.{{{', '.join(names)}}}" for module, names in layout.used(clauses, homes))
     return layout.region(layout.region(text, "names", imports + "\n"), "clauses", clauses)    # the empty line is how `rt fmt` lays it out
@@ -276,6 +282,13 @@ class Body:
     def step_mark(self):
         return self.step("print_mark", "node.span")
 
+    def step_marked_indentation(self):
+        return self.step("print_marked_indentation", "node.span")
+
+    def step_linked(self, f):
+        got = self.call("get")
+        return self.said([got], self.call("print_at_link", f"print_at_link::<_, L>(node.{f.rust}.get(), p, {self.place});"))
+
     def step_end_mark(self):
         return self.step("print_end_mark", "node.span")
 
@@ -291,7 +304,7 @@ class Body:
         return f"(rw ({said[0]}.ensures.value, {said[1]}.ensures.value) at {printed})"
 
     def step_unary_sign(self, f):
-        return self.step("print_unary_operator", f"node.{f.rust}")
+        return self.step("print_marked_unary_operator", "node.span", f"node.{f.rust}")
 
     def step_unary_space(self, f):
         return self.step("print_behind_unary", f"node.{f.rust}")
@@ -491,7 +504,7 @@ def write(table):
             mods.append(file)
             ghosts = row_names(table) + [(f"{MODEL}.Spell", ["spell"]), ("Rattle.jsgen_printer.specs.Steps", ["Lays"])]
             homes = [h for h in functions_by_file(table, crate) if h[0] != f"crate::{file}"]
-            homes += [("crate::members", ["Rows", "Leaves"]), ("jsgen_inside", ["PrintInside", "Nested", "print_body", "print_identifier_reference", "print_binding_identifier"]),
+            homes += [("crate::members", ["Rows", "Leaves"]), ("jsgen_inside", ["PrintInside", "Nested", "print_at_link", "print_body", "print_identifier_reference", "print_binding_identifier"]),
                       ("jsgen_lists", ["print_list"] + [f for _, f in GIVEN.values()]), ("jsgen_place", ["Place"]),
                       ("jsgen_printer", ["Bracket", "Printer"]), ("jsgen_syntax", ["Precedence"]), ("jsgen_tree", list(table.nodes))]
             files[f"{at}/src/{file}.rt"] = layout.rust(f"Rows by their spelling: {table.files[file][0].lower()}{table.files[file][1:]}", ghosts, [], homes, "\n\n".join(functions))

@@ -1,8 +1,10 @@
 // Marks of a source map, where one is wanted; and comments, which aren't printed yet, so that their steps add nothing.
-ghost use Rattle.std.specs.Prelude.{◌≡◌, ◌-◌, ◌∷◌, true, None, option_map, is_some, string_bytes};
+ghost use Rattle.std.specs.Prelude.{◌≡◌, ◌-◌, ◌∷◌, true, None, is_some, string_bytes};
+ghost use Rattle.std.specs.Option.{option_copied};
 ghost use Rattle.std.specs.Str.{chars, encode_utf8_all};
-ghost use Rattle.jsgen_model.specs.Items.{mark, end_mark, link_mark, marked_word, comments, orphans, all_of_them, with_key_annotation};
+ghost use Rattle.jsgen_model.specs.Items.{mark, end_mark, link_mark, marked_word, apart, comments, orphans, all_of_them, with_key_annotation};
 ghost use Rattle.jsgen_model.specs.Marks.{has_start_mark, has_end_mark, has_link_mark, closes_link, ends_in_link, other_name_in};
+ghost use Rattle.jsgen_model.specs.Spell.{items_if};
 ghost use Rattle.jsgen_model.specs.Lay.{marked_if, span_mark, name_mark};
 ghost use Rattle.jsgen_printer.specs.Printer.{pen_of, is_ascii, by_marks, marks_plain, source_plain};
 ghost use Rattle.jsgen_printer.specs.Steps.{has_failed, Goes, Lays};
@@ -37,7 +39,7 @@ impl<'a> Printer<'a> {
     // One more mark where a map is wanted.
     fn add_mark(&mut self, offset: u32, name: Option<&'a str>)
         requires { is_some (pen_of self.old).style.source ≡ true }
-        ensures { Goes self.old self.new (marked_if true offset (option_map (λ s. chars s.now) name.entry)) }
+        ensures { Goes self.old self.new (marked_if true offset (option_copied name.entry)) }
     {
         if self.has_failed {
             return;
@@ -57,7 +59,7 @@ impl<'a> Printer<'a> {
         ensures { result ≡ has_start_mark (pen_of self.now).style.source span }
     {
         match &self.marks {
-            Some(_) => span.start != span.end,
+            Some(marks) => span.start != span.end && span.start as usize <= marks.source.len(),
             None => false,
         }
     }
@@ -102,6 +104,23 @@ impl<'a> Printer<'a> {
         }
     }
 
+    /// The same, where the test holds.
+    pub fn print_mark_if(&mut self, test: bool, span: Span)
+        ensures { Lays self.old self.new (items_if test (mark span)) }
+    {
+        if test {
+            self.print_mark(span);
+        }
+    }
+
+    /// The space before a word that a mark stands before.
+    pub fn print_space_apart(&mut self)
+        ensures { Lays self.old self.new apart }
+    {
+        let apart = self.is_apart();
+        self.print_if(apart, " ");
+    }
+
     /// The mark of a span's end.
     pub fn print_end_mark(&mut self, span: Span)
         ensures { Lays self.old self.new (end_mark span) }
@@ -123,7 +142,7 @@ impl<'a> Printer<'a> {
 
     // The name that the source has at a span, where it isn't what is printed there.
     fn other_name(&self, span: Span, printed: &str) -> Option<&'a str>
-        ensures { option_map (λ s. chars s.now) result ≡ other_name_in (pen_of self.now).style.source span (chars printed.now) }
+        ensures { option_copied result ≡ other_name_in (pen_of self.now).style.source span (chars printed.now) }
     {
         match &self.marks {
             Some(marks) => other_name(marks.source, span, printed),
@@ -133,7 +152,7 @@ impl<'a> Printer<'a> {
 
     // The same of a private name, which is printed behind `#`.
     fn other_private_name(&self, span: Span, printed: &str) -> Option<&'a str>
-        ensures { option_map (λ s. chars s.now) result ≡ other_name_in (pen_of self.now).style.source span (35 ∷ chars printed.now) }
+        ensures { option_copied result ≡ other_name_in (pen_of self.now).style.source span (35 ∷ chars printed.now) }
     {
         match &self.marks {
             Some(marks) => other_private_name(marks.source, span, printed),

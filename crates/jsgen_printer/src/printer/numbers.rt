@@ -2,15 +2,15 @@
 ghost use Rattle.std.specs.Prelude.{◌≡◌, ◌++◌, codes, decimal, true, false};
 ghost use Rattle.std.specs.Str.{chars};
 ghost use Rattle.jsgen_model.specs.Punctuator.{minus};
-ghost use Rattle.jsgen_model.specs.Items.{◌⊕◌, number, operator, wrapped};
+ghost use Rattle.jsgen_model.specs.Items.{◌⊕◌, number, operator, wrapped, mark, marked_operator, marked_number};
 ghost use Rattle.jsgen_model.specs.Lay.{lay};
 ghost use Rattle.jsgen_model.specs.Layout.{number_ending};
-ghost use Rattle.jsgen_model.specs.Spell.{big_text};
+ghost use Rattle.jsgen_model.specs.Spell.{big_text, items_if};
 ghost use Rattle.jsgen_printer.specs.Printer.{ending_of};
 ghost use Rattle.jsgen_printer.specs.Steps.{Lays};
 
 use super::{Ending, Printer};
-use jsgen_syntax::UnaryOperator;
+use jsgen_syntax::{Span, UnaryOperator};
 
 #[tactic(auto, unfolding(crate::specs::Printer::pen_of))]
 impl Printer<'_> {
@@ -50,6 +50,17 @@ impl Printer<'_> {
         self.print_str("n", Ending::Other);
     }
 
+    /// The same, with the mark of a span.
+    pub fn print_marked_big_integer(&mut self, span: Span, digits: &str)
+        ensures { Lays self.old self.new (marked_number span false (big_text (chars digits.now))) }
+    {
+        let apart = self.is_apart();
+        self.print_if(apart, " ");
+        self.print_mark(span);
+        self.print_str(digits, Ending::Other);
+        self.print_str("n", Ending::Other);
+    }
+
     // The minus of a number.
     fn print_minus(&mut self)
         ensures { Lays self.old self.new (operator minus) }
@@ -65,11 +76,11 @@ impl Printer<'_> {
         self.print_number(text, true);
     }
 
-    // A minus, and the big integer by its digits behind it.
-    fn print_minus_big_integer(&mut self, digits: &str)
-        ensures { Lays self.old self.new (operator minus ⊕ number false (big_text (chars digits.now))) }
+    // A minus with the mark of a span, and the big integer by its digits behind it.
+    fn print_minus_big_integer(&mut self, span: Span, digits: &str)
+        ensures { Lays self.old self.new (marked_operator span minus ⊕ number false (big_text (chars digits.now))) }
     {
-        self.print_minus();
+        self.print_marked_unary_operator(span, UnaryOperator::UnaryNegation);
         self.print_big_integer(digits);
     }
 
@@ -91,12 +102,13 @@ impl Printer<'_> {
         self.print_negative_number(wrap, text);
     }
 
-    /// A big integer by its digits with a minus before it, in parentheses where the test holds.
-    pub fn print_negative_big_integer(&mut self, wrap: bool, digits: &str)
-        ensures { Lays self.old self.new (wrapped wrap (operator minus ⊕ number false (big_text (chars digits.now)))) }
+    /// A big integer by its digits with a minus before it, in parentheses where the test holds, and with the mark of a span.
+    pub fn print_negative_big_integer(&mut self, span: Span, wrap: bool, digits: &str)
+        ensures { Lays self.old self.new (items_if wrap (mark span) ⊕ wrapped wrap (marked_operator span minus ⊕ number false (big_text (chars digits.now)))) }
     {
+        self.print_mark_if(wrap, span);
         self.print_opening_if(wrap);
-        self.print_minus_big_integer(digits);
+        self.print_minus_big_integer(span, digits);
         self.print_closing_if(wrap);
     }
 }

@@ -1,4 +1,5 @@
 use Rattle.std.proofs.Common.{sym}
+use Rattle.jsgen_printer.proofs.Sequence.{◌⨾◌}
 use Rattle.jsgen_tree.specs.Rows.{in_expression}
 use Rattle.jsgen_model.specs.Spell.{spell}
 use Rattle.jsgen_nodes.proofs.Keys.{key_by_string}
@@ -8,7 +9,7 @@ pub returns-in-Some : goal.returns-in-Some
 returns-in-Some g c =
     let key = in_expression g.N.PrintNode.plain c.args.key.now in
     let items = spell key c.args.place in
-    rw (sym (key_by_string key items), sym (rw c.get.ensures at c.in-Some.ensures)) c.print_string.ensures
+    rw (sym (key_by_string key items), sym (rw c.get.ensures at c.in-Some.ensures)) ((rw (c.span.ensures, c.get-in-Some.ensures) at c.print_mark.ensures) ⨾ c.print_string.ensures)
 
 pub returns-in-None : goal.returns-in-None
 returns-in-None g c =

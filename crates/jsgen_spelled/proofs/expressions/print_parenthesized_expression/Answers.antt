@@ -3,4 +3,4 @@
 use Rattle.jsgen_spelled.proofs.expressions.print_parenthesized_expression.Goals as goal
 
 pub returns : goal.returns
-returns g c = (rw c.get.ensures at c.print.ensures)
+returns g c = (rw c.get.ensures at c.print_at_link.ensures)

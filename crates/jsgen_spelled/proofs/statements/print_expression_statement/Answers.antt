@@ -4,4 +4,4 @@ use Rattle.jsgen_printer.proofs.Sequence.{◌⨾◌}
 use Rattle.jsgen_spelled.proofs.statements.print_expression_statement.Goals as goal
 
 pub returns : goal.returns
-returns g c = c.print_comments.ensures ⨾ (c.print_indentation.ensures ⨾ (c.begin_statement.ensures.lays ⨾ ((rw (c.in_brackets.ensures, c.get.ensures) at c.print.ensures) ⨾ c.print_statement_end.ensures)))
+returns g c = c.print_comments.ensures ⨾ (c.print_marked_indentation.ensures ⨾ (c.begin_statement.ensures.lays ⨾ ((rw (c.in_brackets.ensures, c.get.ensures) at c.print.ensures) ⨾ c.print_statement_end.ensures)))

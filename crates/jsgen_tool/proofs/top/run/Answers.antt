@@ -11,11 +11,12 @@ returns g c = record {
   input = c.work-status.ensures.input;
   rule = c.work-status.ensures.rule;
   output = c.work-status.ensures.output;
+  map = c.work-status.ensures.map;
   kept = c.work-status.ensures.kept;
   due = λ is_command unread.
       due c.work-status.result _ _ _ _ _ (λ usage. c.work-status.ensures.usage.0 usage is_command) c.work-status.ensures.read c.work-status.ensures.write c.work-status.ensures.input unread;
   prints = λ is_print job holds plain quiet.
-      prints c.work-status.result _ _ _ _ _ _ _ job (λ usage. c.work-status.ensures.usage.0 usage (inl is_print)) c.work-status.ensures.read c.work-status.ensures.write c.work-status.ensures.input (c.work-status.ensures.output is_print) holds plain quiet;
+      prints c.work-status.result _ _ _ _ _ _ _ job (λ usage. c.work-status.ensures.usage.0 usage (inl (inl is_print))) c.work-status.ensures.read c.work-status.ensures.write c.work-status.ensures.input (c.work-status.ensures.output is_print) holds plain quiet;
   memory = c.work-status.ensures.memory;
   said = c.say.ensures;
   taken = c.work-status.ensures.taken;

@@ -3,17 +3,17 @@ use Rattle.std.proofs.lemmas.List.{length-take-le, take_all}
 use Rattle.jsgen_map.specs.Builder.{StandsFor}
 use Rattle.jsgen_map.specs.Count.{counted}
 use Rattle.jsgen_map.specs.LineColumn.{line_column}
-use Rattle.jsgen_map.specs.Marks.{is_offset, token_at}
+use Rattle.jsgen_map.specs.Marks.{is_last, token_at}
 use Rattle.jsgen_map.specs.Names.{texts}
 use Rattle.jsgen_map.specs.Plain.{mark_plain}
 use Rattle.jsgen_map.proofs.MarkLists.{begins, count_all, count_place, last_of_more, map_more, one_more_does, one_more_not, same_front}
 use Rattle.jsgen_map.proofs.Stands.{stands_on}
 use Rattle.jsgen_map.proofs.builder.SourcemapBuilder.add_mark.Goals as goal
 
-pub returns-then-is_offset-clause-ok : goal.returns-then-is_offset-clause-ok
-returns-then-is_offset-clause-ok c = λ earlier marks stands is.
+pub returns-then-is_last-clause-ok : goal.returns-then-is_last-clause-ok
+returns-then-is_last-clause-ok c = λ earlier marks stands is.
     let output = take c.args.mark.bytes c.args.code.now in
-    let again = ap (λ last. is_offset last c.args.mark.offset) (sym stands.last) ∙ (sym c.is_offset.ensures ∙ c.if-is_offset.true) in
+    let again = ap (λ last. is_last last c.args.mark.offset) (sym stands.last) ∙ (sym c.is_last.ensures ∙ c.if-is_last.true) in
     subst (StandsFor c.args.self.now output) (sym (one_more_not (mark_plain c.args.mark) marks again)) (stands_on c.args.self.now earlier output marks stands is)
 
 pub returns-clause-ok : goal.returns-clause-ok
@@ -21,7 +21,7 @@ returns-clause-ok c = λ earlier marks stands is.
     let b = c.args.self.now in
     let m = mark_plain c.args.mark in
     let output = take c.args.mark.bytes c.args.code.now in
-    let other = ap (λ last. is_offset last c.args.mark.offset) (sym stands.last) ∙ (sym c.is_offset.ensures ∙ c.if-is_offset.false) in
+    let other = ap (λ last. is_last last c.args.mark.offset) (sym stands.last) ∙ (sym c.is_last.ensures ∙ c.if-is_last.false) in
     let size : length output ≡ c.args.mark.bytes = length-take-le c.args.mark.bytes c.args.code.now c.requires.within in
     let front = begins output earlier is in
     let numbered = c.in_ok-number.ensures.ok stands.numbers in

@@ -1,9 +1,9 @@
-use Rattle.std.proofs.Common.{◌≡◌, Some, option_map, map, ap, sym, ◌∙◌}
-use Rattle.std.specs.Str.{chars}
-use Rattle.jsgen_model.specs.Marks as marks
-use Rattle.jsgen_model.specs.Marks.{last_offset, unless_last, is_last}
+use Rattle.std.proofs.Common.{◌≡◌, Some, map, ap, sym, ◌∙◌}
+use Rattle.std.specs.Option.{option_copied}
+use Rattle.jsgen_map.specs.Marks as marks
+use Rattle.jsgen_map.specs.Marks.{last_offset, unless_last, is_last}
+use Rattle.jsgen_map.specs.Plain.{mark_plain}
 use Rattle.jsgen_model.specs.Layout.{Pen}
-use Rattle.jsgen_printer.specs.Marks.{mark_plain}
 use Rattle.jsgen_printer.specs.Printer.{pen_of, marks_plain, source_plain}
 use Rattle.jsgen_printer.proofs.Attempts.{went_on}
 use Rattle.jsgen_printer.proofs.Pushed.{mark_laid, code_size}
@@ -16,7 +16,7 @@ returns-in-Ok c =
     let pen : Pen = pen_of old in
     let there : Some c.in-Some.marks ≡ old.marks = sym c.in-Some.is in
     let new = c.add.new.self in
-    let called = option_map (λ s. chars s.now) c.args.name in
+    let called = option_copied c.args.name in
     let mark : marks.Mark = record { bytes = c.len-bytes.result; offset = c.args.offset; name = called } in
     let last = c.in-Some.marks.last in
     let source : Some new.source.now ≡ source_plain old.marks = ap (λ s. Some s.now) c.in-Ok.ensures.source ∙ ap source_plain there in

@@ -1,4 +1,5 @@
-use Rattle.std.proofs.Common.{option_map, ap, sym, ◌∙◌}
+use Rattle.std.proofs.Common.{ap, sym, ◌∙◌}
+use Rattle.std.specs.Option.{option_copied}
 use Rattle.std.specs.Str.{chars}
 use Rattle.jsgen_model.specs.Marks.{has_start_mark, other_name_in}
 use Rattle.jsgen_model.specs.Lay.{marked_if, name_mark}
@@ -15,7 +16,7 @@ returns-then-has_start_mark c =
     let pen = pen_of c.args.self.now in
     let start = c.args.span.start in
     goes_as (name_mark c.args.span (chars c.args.printed.now))
-    (ap (λ b. marked_if b start (option_map (λ s. chars s.now) c.other_name-name.result) pen) (sym c.if-has_start_mark.true ∙ c.has_start_mark.ensures)
+    (ap (λ b. marked_if b start (option_copied c.other_name-name.result) pen) (sym c.if-has_start_mark.true ∙ c.has_start_mark.ensures)
     ∙ ap (λ called. marked_if (has_start_mark pen.style.source c.args.span) start called pen) c.other_name-name.ensures)
     c.add_mark.ensures
 

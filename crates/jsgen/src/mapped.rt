@@ -1,0 +1,102 @@
+// Whole programs, with the map of their marks or without one.
+ghost use Rattle.std.specs.Prelude.{◌≡◌, ◌^◌, ◌<◌, length, map, IfOk, None, Some, string_bytes};
+ghost use Rattle.std.specs.Str.{encode_utf8_all};
+ghost use Rattle.jsgen_map.specs.Marks.{AreMarks, MapOf};
+ghost use Rattle.jsgen_map.specs.Names.{texts};
+ghost use Rattle.jsgen_map.specs.Plain.{mark_plain};
+ghost use Rattle.jsgen_tree.specs.Plain.{program_plain};
+ghost use Rattle.jsgen_place.specs.Place.{among_statements};
+ghost use Rattle.jsgen_model.specs.Lay.{lay};
+ghost use Rattle.jsgen_model.specs.Spell.{spell};
+ghost use Rattle.jsgen_printer.specs.Printer.{pen_of, at_depth};
+ghost use Rattle.jsgen.specs.Codegen.{mapped_from, MapsTo};
+
+use crate::codegen::{CodegenError, CodegenReturn};
+use jsgen_map::{SourceMap, map_of_marks};
+use jsgen_nodes::statements::print_program;
+use jsgen_place::Place;
+use jsgen_printer::{Marks, Printer};
+use jsgen_tree::Program;
+use std::alloc::Global;
+
+// The printer behind the whole program, whose first line stands at this level.
+fn print_whole<'a>(
+    depth: u32,
+    printer: Printer<'a>,
+    program: &Program,
+) -> Result<Printer<'a>, CodegenError>
+    ensures { IfOk result (λ p. pen_of p ≡ lay (spell (program_plain program.now) among_statements) (at_depth depth (pen_of printer.entry))) }
+{
+    let mut p = printer;
+    p.set_depth(depth);
+    print_program(program, &mut p, Place::among_statements());
+    if p.has_failed() {
+        return Err(CodegenError::Memory);
+    }
+    Ok(p)
+}
+
+/// A program without a map.
+pub(crate) fn print_unmapped<'a>(
+    depth: u32,
+    printer: Printer<'_>,
+    program: &Program,
+) -> Result<CodegenReturn<'a>, CodegenError>
+    ensures code { IfOk result (λ printed. string_bytes printed.code
+        ≡ encode_utf8_all (lay (spell (program_plain program.now) among_statements) (at_depth depth (pen_of printer.entry))).code) }
+    ensures map { IfOk result (λ printed. printed.map ≡ None) }
+{
+    let p = print_whole(depth, printer, program)?;
+    Ok(CodegenReturn {
+        code: p.into_string(),
+        map: None,
+    })
+}
+
+/// A program with the map of its marks.
+pub(crate) fn print_mapped<'a>(
+    alloc: Global,
+    path: &str,
+    depth: u32,
+    printer: Printer<'a>,
+    program: &'a Program,
+) -> Result<CodegenReturn<'a>, CodegenError>
+    requires source { length (string_bytes program.now.source) < 2 ^ 32 }
+    ensures code { IfOk result (λ printed. string_bytes printed.code
+        ≡ encode_utf8_all (lay (spell (program_plain program.now) among_statements) (mapped_from depth (string_bytes program.now.source) (pen_of printer.entry))).code) }
+    ensures map { IfOk result (λ printed. MapsTo (lay (spell (program_plain program.now) among_statements) (mapped_from depth (string_bytes program.now.source) (pen_of printer.entry)))
+        (string_bytes program.now.source) path.now printed.map) }
+{
+    let marks = Marks::new(alloc, program.source.as_str());
+    let p = print_whole(depth, printer.with_marks(marks), program)?;
+    let (code, marks) = p.into_parts();
+    match marks {
+        Some(marks) => {
+            let map = map_of(alloc, path, &code, &marks)?;
+            Ok(CodegenReturn {
+                code,
+                map: Some(map),
+            })
+        }
+        None => Ok(CodegenReturn { code, map: None }),
+    }
+}
+
+// The map of the marks of a code.
+fn map_of<'a>(
+    alloc: Global,
+    path: &str,
+    code: &str,
+    marks: &Marks<'a>,
+) -> Result<SourceMap<'a>, CodegenError>
+    requires source { length marks.now.source.now < 2 ^ 32 }
+    requires marks { AreMarks code.now marks.now.source.now (map mark_plain marks.now.list.items) }
+    ensures map { IfOk result (λ m. MapOf code.now marks.now.source.now (map mark_plain marks.now.list.items) (texts m.names.items) m.tokens.items) }
+    ensures path { IfOk result (λ m. string_bytes m.source_name ≡ path.now) }
+    ensures content { IfOk result (λ m. m.source_content.now ≡ marks.now.source.now) }
+{
+    match map_of_marks(alloc, path, marks.source, code.as_bytes(), &marks.list) {
+        Ok(map) => Ok(map),
+        Err(_) => Err(CodegenError::Memory),
+    }
+}

@@ -1,0 +1,5 @@
+use Rattle.jsgen_printer.proofs.Sequence.{◌⨾◌}
+use Rattle.jsgen_modules.proofs.names.print_plain_string.Goals as goal
+
+pub returns : goal.returns
+returns c = c.print_mark.ensures ⨾ c.print_string.ensures

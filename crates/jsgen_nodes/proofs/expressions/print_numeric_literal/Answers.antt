@@ -1,0 +1,5 @@
+use Rattle.jsgen_printer.proofs.Sequence.{◌⨾◌}
+use Rattle.jsgen_nodes.proofs.expressions.print_numeric_literal.Goals as goal
+
+pub returns : goal.returns
+returns c = c.print_mark.ensures ⨾ c.print_number.ensures
