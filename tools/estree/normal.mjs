@@ -109,8 +109,8 @@ function isProtoShorthand(node) {
   return node.shorthand && node.key.name === "__proto__";
 }
 
-// Braces round one statement that ends in an `if` without `else`, as a consequent.
-function unbraced(node) {
+/** What stands in braces round one statement that ends in an `if` without `else`, as a consequent. */
+export function unbraced(node) {
   const isOne = node.type === "BlockStatement" && node.body.length === 1 && endsOpen(node.body[0]);
   return isOne ? unbraced(node.body[0]) : node;
 }

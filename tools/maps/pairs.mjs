@@ -1,6 +1,7 @@
 // The names of a source's tree beside those of the tree of what was printed for it. Both are trees of acorn's, without parentheses.
 // The two have one shape but for the printer's normal form, of which this knows what moves names: a property or a specifier of one
 // name or of two, the grouping of chains and sequences, and braces round a consequent.
+import { unbraced } from "../estree/normal.mjs";
 
 /** Two trees that aren't of one shape. */
 export class Unlike extends Error {}
@@ -133,25 +134,4 @@ function isOneName(specifier) {
 function operands(node, round) {
   if (node.type !== round.type || node.operator !== round.operator) return [node];
   return (node.expressions ?? [node.left, node.right]).flatMap((operand) => operands(operand, round));
-}
-
-// What stands in braces round one statement that ends in an `if` without `else`.
-function unbraced(node) {
-  const isOne = node.type === "BlockStatement" && node.body.length === 1 && endsOpen(node.body[0]);
-  return isOne ? unbraced(node.body[0]) : node;
-}
-
-function endsOpen(node) {
-  switch (node.type) {
-    case "IfStatement":
-      return node.alternate ? endsOpen(node.alternate) : true;
-    case "ForStatement":
-    case "ForInStatement":
-    case "ForOfStatement":
-    case "WhileStatement":
-    case "LabeledStatement":
-      return endsOpen(node.body);
-    default:
-      return false;
-  }
 }
