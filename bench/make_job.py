@@ -1,4 +1,5 @@
-"""Writes a job: `make_job.py SIZE [renamed|nested|sum|logical|choices|list|classes|patterns|deep|templates|pattern|ascii|wide|escapes] [minify]`.
+"""Writes a job: `make_job.py SIZE [renamed|nested|sum|logical|choices|list|classes|patterns|deep|commented|grouped|templates|pattern|ascii|wide|escapes] [minify]
+[uncommented]`.
 
 SIZE is in megabytes. By itself the job holds declarations and statements, blocks and `if` of mixed expressions, a third of
 which are literals, unary operations, updates, `new`, and arrays and objects up to six deep, and a fifth of the others
@@ -12,6 +13,8 @@ the job's tables rename; with `patterns`, declarations of patterns up to six dee
 text whose indentation has no width, classes 10,000 deep, each in a field of the one round it, as often as fill it: each has a
 private name of its own and uses that of the next one outwards. With `templates` it is one template of 12,500 pieces a megabyte,
 and with `pattern` one regular expression whose pattern has half the job's bytes.
+With `commented` it holds short statements with a comment in front of each, and the source that they stand in; with `grouped` a
+thousand comments in front of each; with `uncommented` besides, the options let none of them be printed.
 With `ascii`, `wide` and `escapes` it is one string as long as the job: of ASCII, of characters of one to four bytes, and
 with a quote or another character that needs an escape at every tenth place.
 """
@@ -77,6 +80,9 @@ class Rows:
         self.size = 0
         self.names = names
         self.tables = []
+        self.comments = []
+        self.parts = []
+        self.length = 0
 
     def add(self, text):
         self.rows.append(text)
@@ -455,6 +461,23 @@ def pattern_statement(rows, megabytes):
     return rows.statement(rows.add('{"type":"RegExpLiteral","pattern":"%s","flags":"gu"}' % pattern))
 
 
+# A comment in front of each statement, and a thousand in front of each.
+COMMENTS = {"commented": 1, "grouped": 1000}
+COMMENT = "// what the next line does, in some words"
+
+
+def commented_statement(rows, count):
+    at = rows.length
+    name = at + count * (len(COMMENT) + 1)
+    fields = '"kind":"line","content":"normal","leading":true,"attached_to":%d,"preceded_by_newline":true,"followed_by_newline":true' % name
+    for start in range(at, name, len(COMMENT) + 1):
+        rows.comments.append(rows.add('{"type":"Comment","span":[%d,%d],%s}' % (start, start + len(COMMENT), fields)))
+    rows.parts.append((COMMENT + "\n") * count + "abc;\n")
+    rows.length = name + len("abc;\n")
+    expression = rows.add('{"type":"IdentifierReference","span":[%d,%d],"name":"abc"}' % (name, name + 3))
+    return rows.add('{"type":"ExpressionStatement","span":[%d,%d],"expression":%d}' % (name, name + 4, expression))
+
+
 ALONE = {"templates": template_statement, "pattern": pattern_statement}
 
 
@@ -471,6 +494,8 @@ def body_of(rows, kind, megabytes, draw):
             body.append(CHAINS[kind](rows))
         elif kind in DRAWN:
             body.append(DRAWN[kind](rows, draw))
+        elif kind in COMMENTS:
+            body.append(commented_statement(rows, COMMENTS[kind]))
         elif kind == "nested":
             body += [deep_blocks(rows), deep_sum(rows, True), deep_sum(rows, False)]
         else:
@@ -480,11 +505,12 @@ def body_of(rows, kind, megabytes, draw):
 
 def main():
     words = sys.argv[2:]
-    kind = next((it for it in words if it in ("renamed", "nested", *CHAINS, "list", *DRAWN, *ALONE, *STRINGS)), "mixed")
+    kind = next((it for it in words if it in ("renamed", "nested", *CHAINS, "list", *DRAWN, *COMMENTS, *ALONE, *STRINGS)), "mixed")
     rows = Rows(Names() if kind == "renamed" else OwnNames())
     body = body_of(rows, kind, int(sys.argv[1]), random.Random(1))
-    rows.add('{"type":"Program","kind":"module","body":[%s]}' % ",".join(map(str, body)))
-    given = ['"minify":true'] * ("minify" in words) + ['"indent_width":0'] * (kind == "deep")
+    numbers = ",".join(map(str, body)), ",".join(map(str, rows.comments)), "".join(rows.parts).replace("\n", "\\n")
+    rows.add('{"type":"Program","kind":"module","body":[%s],"comments":[%s],"source":"%s"}' % numbers)
+    given = ['"minify":true'] * ("minify" in words) + ['"indent_width":0'] * (kind == "deep") + ['"normal":false'] * ("uncommented" in words)
     options = '"options":{%s},' % ",".join(given) if given else ""
     sys.stdout.write("{%s%s\"rows\":[" % (options, rows.head()) + ",\n".join(rows.rows) + "]}\n")
 

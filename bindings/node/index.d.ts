@@ -1,3 +1,18 @@
+/** Which comments are printed. Each kind is, unless it is switched off. */
+export interface Comments {
+  /** Those of no other kind. */
+  normal?: boolean;
+  /** Those that begin with two stars. */
+  jsdoc?: boolean;
+  /** Those that tell a tool something of the code. */
+  annotation?: boolean;
+  /**
+   * What becomes of those that hold a licence: they are left out, stay where they are, stand at the end of the code, or are
+   * handed back, and then the code may name the file in which they will be.
+   */
+  legal?: "none" | "inline" | "eof" | "external" | { linked: string };
+}
+
 /** How a tree is printed. */
 export interface Settings {
   /** The text that the tree was parsed from; with it faults tell where they are. */
@@ -7,6 +22,8 @@ export interface Settings {
   singleQuote?: boolean;
   /** Tabs, or so many spaces a level. */
   indent?: "tab" | number;
+  /** Which of the comments that the tree has in its member `comments` are printed, which takes `source`: all, none, or by kinds. */
+  comments?: boolean | Comments;
   /** Tables by which names are printed (docs/FORMAT.md). */
   names?: object | null;
   /** Other options of a job (docs/FORMAT.md); `source_map_path` names the source in the map. */
@@ -30,6 +47,8 @@ export interface Printed {
   code: string;
   /** Null where none is asked for. */
   map: SourceMap | null;
+  /** The texts of the licences, each once, where they are for a file of their own. */
+  licences?: string[];
 }
 
 /** A job that isn't printed. Its message is the line that the program says. */

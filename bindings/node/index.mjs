@@ -3,6 +3,7 @@ import { spawnSync } from "node:child_process";
 import { createRequire } from "node:module";
 import { fileURLToPath } from "node:url";
 import { jobOf } from "../../tools/estree/convert.mjs";
+import { licencesOf } from "../../tools/estree/licences.mjs";
 import { sourceMapOf } from "../../tools/estree/source_map.mjs";
 import { JsgenError, errorOf, errorOfLine } from "./faults.mjs";
 
@@ -10,7 +11,9 @@ export { JsgenError };
 
 const PROGRAM = process.env.JSGEN ?? fileURLToPath(new URL("../../jsgen", import.meta.url));
 const NAMES = { minify: "minify", asciiOnly: "ascii_only", singleQuote: "single_quote" };
-const OTHERS = new Set(["source", "indent", "names", "options", "sourceMap"]);
+const OTHERS = new Set(["source", "indent", "names", "options", "sourceMap", "comments"]);
+const KINDS = ["normal", "jsdoc", "annotation"];
+const NO_COMMENTS = { normal: false, jsdoc: false, annotation: false, legal: "none" };
 const UNNAMED = "<source>";
 
 /** The addon, or null where it isn't built. */
@@ -47,15 +50,20 @@ function byProgram(word, bytes) {
 /** Prints an ESTree tree of a module. */
 export function print(program, settings = {}) {
   if (program === null || typeof program !== "object") throw new TypeError("a program is an ESTree node");
+  const { source } = settings;
   const options = optionsOf(settings);
   const job = jobOf(program.type === "File" ? program.program : program, {
-    source: settings.source,
+    source,
     names: settings.names ?? null,
     options,
-    spans: settings.source !== undefined,
+    spans: source !== undefined,
+    comments: source === undefined ? [] : (program.comments ?? program.program?.comments ?? []),
   });
   const bytes = Buffer.from(JSON.stringify(job));
-  return { code: printJob(bytes), map: settings.sourceMap ? mapOf(bytes, options.source_map_path, settings.source) : null };
+  const map = settings.sourceMap ? mapOf(bytes, options.source_map_path, source) : null;
+  const printed = { code: printJob(bytes), map };
+  const areApart = source !== undefined && /^(linked|external)$/.test(options.legal);
+  return areApart ? { ...printed, licences: licencesOf(byProgram("legal", bytes), source) } : printed;
 }
 
 // The map is the program's, also where the code is the addon's.
@@ -70,6 +78,7 @@ function optionsOf(settings) {
     else if (!OTHERS.has(name)) throw new TypeError(`unknown setting ${name}`);
   }
   if (settings.indent !== undefined) Object.assign(options, indentOf(settings.indent));
+  if (settings.comments !== undefined) Object.assign(options, commentOptions(settings.comments));
   if (settings.sourceMap !== undefined && flag("sourceMap", settings.sourceMap)) {
     if (typeof settings.source !== "string") throw new TypeError("sourceMap wants the source");
     options.source_map_path ??= UNNAMED;
@@ -80,6 +89,23 @@ function optionsOf(settings) {
 function flag(name, value) {
   if (typeof value !== "boolean") throw new TypeError(`${name} is true or false`);
   return value;
+}
+
+// All of them, none, or by kinds.
+function commentOptions(comments) {
+  if (typeof comments === "boolean") return comments ? {} : NO_COMMENTS;
+  if (comments === null || typeof comments !== "object") throw new TypeError("comments are true, false or an object");
+  const { legal, ...kinds } = comments;
+  const unknown = Object.keys(kinds).find((name) => !KINDS.includes(name));
+  if (unknown !== undefined) throw new TypeError(`unknown setting comments.${unknown}`);
+  const flags = Object.entries(kinds).map(([name, value]) => [name, flag(`comments.${name}`, value)]);
+  return { ...Object.fromEntries(flags), ...(legal !== undefined && legalOf(legal)) };
+}
+
+function legalOf(legal) {
+  if (["none", "inline", "eof", "external"].includes(legal)) return { legal };
+  if (typeof legal?.linked === "string") return { legal: "linked", legal_path: legal.linked };
+  throw new TypeError('comments.legal is "none", "inline", "eof", "external" or { linked: PATH }');
 }
 
 function indentOf(indent) {

@@ -3,10 +3,17 @@ import { spawnSync } from "node:child_process";
 import { writeFileSync } from "node:fs";
 import { basename, dirname, relative, resolve, sep } from "node:path";
 import { fileURLToPath } from "node:url";
+import { licenceFile } from "./licences.mjs";
 import { dataUrl, linked } from "./source_map.mjs";
 
 const JSGEN = process.env.JSGEN ?? fileURLToPath(new URL("../../jsgen", import.meta.url));
 const FLAGS = { "--minify": "minify", "--ascii-only": "ascii_only", "--single-quote": "single_quote" };
+const KINDS = { "--no-normal": "normal", "--no-jsdoc": "jsdoc", "--no-annotations": "annotation" };
+const LEGAL = /^(?:(none|inline|eof)|(linked|external)=(.+))$/;
+
+/** The words of the commands that print a source. */
+export const PRINTING = `[--minify] [--ascii-only] [--single-quote] [--source-map]
+       [--no-comments] [--no-normal] [--no-jsdoc] [--no-annotations] [--legal none|inline|eof|linked=FILE|external=FILE]`;
 
 /** A faulty command line: its message is the line that is said, and the usage stands behind it. */
 export class Refused extends Error {}
@@ -18,6 +25,23 @@ export function optionsOf(words) {
   const unknown = others.find((word) => word.startsWith("--"));
   if (unknown) throw new Refused(`unknown option ${unknown}`);
   return { options: Object.fromEntries(asked), others };
+}
+
+/**
+ * Takes the words of comments out: the options that they ask for, and the file that is to hold the licences, or null. `file` is the
+ * one that the code is written to, or null. Without any of these words each kind is printed where it stands.
+ */
+export function takenComments(words, file) {
+  const areNone = isTaken(words, "--no-comments");
+  const off = Object.keys(KINDS).filter((word) => isTaken(words, word) || areNone);
+  const options = Object.fromEntries(off.map((word) => [KINDS[word], false]));
+  const said = takenBehind(words, "--legal");
+  if (said === null) return { options: areNone ? { ...options, legal: "none" } : options, licences: null };
+  const [, placed, apart, licences = null] = LEGAL.exec(said ?? "") ?? [];
+  if (placed) return { options: { ...options, legal: placed }, licences };
+  if (!apart) throw new Refused("--legal wants none, inline, eof, linked=FILE or external=FILE");
+  const path = apart === "linked" ? { legal_path: nameInMap(licences, file) } : {};
+  return { options: { ...options, legal: apart, ...path }, licences };
 }
 
 /** Takes a word out of the words, and says whether it was there. */
@@ -55,7 +79,7 @@ export function answered(word, job) {
   return { status: ran.status ?? ran.signal, text: ran.stdout.toString("utf8"), line: ran.stderr.toString("utf8").trim() };
 }
 
-/** The name of a source file in the map that stands beside the file, or in the code where no file is given. */
+/** The name of a source file in the map that stands beside the file, or in the code where no file is given; of a file of licences too. */
 export function nameInMap(path, file) {
   return file === null ? path : relative(dirname(resolve(file)), resolve(path)).split(sep).join("/");
 }
@@ -70,8 +94,17 @@ export function write(code, map, file) {
   }
 }
 
-/** Runs a command. What it refuses is a line on standard error and status 1. */
+/** Writes the licences to the file, where there are any. */
+export function writeLicences(licences, file) {
+  if (licences.length > 0) writeFileSync(file, licenceFile(licences));
+}
+
+/** Runs a command, or tells its usage for `--help`. What it refuses is a line on standard error and status 1. */
 export async function run(usage, command) {
+  if (process.argv.includes("--help")) {
+    process.stdout.write(`usage: ${usage}\n`);
+    return;
+  }
   try {
     process.exitCode = (await command(process.argv.slice(2))) ?? 0;
   } catch (error) {

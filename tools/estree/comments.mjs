@@ -1,39 +1,86 @@
 // The comments of a source as a job has them: how each is written, what it says, and what it belongs to.
 
 const LINE_END = /[\n\r\u2028\u2029]/;
-const SPACE = /\s/;
+// Behind these tokens a comment that ends the line still belongs to what follows: `=`, but none of the operators that end in it, and `(`.
+const OPENS = /(?:^|[^!%&*+\-/<=>?^|])=$|\($/;
 const CONTENTS = [
-  ["pure", /^\s*[@#]__PURE__\s*$/],
-  ["nosideeffects", /^\s*[@#]__NO_SIDE_EFFECTS__\s*$/],
-  ["propertykey", /^\s*[@#]__KEY__\s*$/],
-  ["webpack", /^\s*webpack[A-Z]\w*\s*:/],
-  ["vite", /^\s*@vite-ignore\s*$/],
+  ["pure", /^\s*[@#]__PURE__/],
+  ["nosideeffects", /^\s*[@#]__NO_SIDE_EFFECTS__/],
+  ["propertykey", /^\s*[@#]__KEY__/],
+  ["webpack", /^\s*webpack[A-Z]/],
+  ["vite", /^\s*@vite/],
   ["coveragefile", /^\s*(v8|c8|istanbul) ignore file\b/],
   ["coverage", /^\s*((v8|c8|istanbul) ignore\b|node:coverage\b)/],
 ];
 
 /**
  * What the row of each comment holds beside its span. The comments are in order and have their places, `start` and `end`; the
- * offset of what one belongs to, `attached_to`, is one in the text too: that of the next token, or the text's end.
+ * offset of what one belongs to, `attached_to`, is one in the text too: that of the next token, or the text's end. A comment is
+ * leading, but where it ends the line of the token before it, or stands before another one that does. It is preceded by a line end
+ * where one stands anywhere between that token and it, or where no token does.
  */
 export function commentsOf(source, comments) {
-  const ends = new Map(comments.map(({ start, end }) => [start, end]));
-  const starts = new Map(comments.map(({ start, end }) => [end, start]));
-  return comments.map(({ start, end }) => {
-    const text = source.slice(start, end);
+  const sweep = new Sweep();
+  let end = 0;
+  for (const comment of comments) {
+    sweep.gap(source.slice(end, comment.start), end);
+    sweep.comment(source.slice(comment.start, comment.end));
+    end = comment.end;
+  }
+  sweep.gap(source.slice(end), end);
+  sweep.token(source.length);
+  return sweep.rows;
+}
+
+// Goes through a text once, from its start: its comments, and what stands between them.
+class Sweep {
+  constructor() {
+    this.rows = [];
+    // those behind the last token
+    this.waiting = [];
+    this.isLineEnded = true;
+    this.isOpen = false;
+  }
+
+  comment(text) {
     const kind = kindOf(text);
-    const before = passed(source, start, -1, starts);
-    const followed = kind === "multiline" || kind === "block" ? hasLineEnd(source, end, 1) : true;
-    const isBehind = before > 0 && !LINE_END.test(source.slice(before, start));
-    return {
-      kind,
-      content: contentOf(text, kind),
-      leading: !(isBehind && followed),
-      attached_to: passed(source, end, 1, ends),
-      preceded_by_newline: hasLineEnd(source, start, -1),
-      followed_by_newline: followed,
-    };
-  });
+    const isLine = kind !== "block" && kind !== "multiline";
+    const row = { kind, content: contentOf(text, kind), leading: true, attached_to: 0, preceded_by_newline: this.isLineEnded, followed_by_newline: isLine };
+    this.rows.push(row);
+    this.waiting.push(row);
+    if (!isLine) return;
+    if (!this.isOpen) this.endLine();
+    this.isLineEnded = true;
+  }
+
+  // A text between two comments, which begins at the offset.
+  gap(text, offset) {
+    const first = text.length - text.trimStart().length;
+    this.white(text.slice(0, first));
+    if (first === text.length) return;
+    this.token(offset + first);
+    const last = text.trimEnd().length;
+    this.isOpen = OPENS.test(text.slice(Math.max(first, last - 2), last));
+    this.white(text.slice(last));
+  }
+
+  white(text) {
+    if (!LINE_END.test(text)) return;
+    if (this.waiting.length > 0) this.waiting.at(-1).followed_by_newline = true;
+    this.endLine();
+  }
+
+  // A line ends: what stands on that of the last token doesn't lead.
+  endLine() {
+    if (!this.isLineEnded) for (const row of this.waiting) row.leading = false;
+    this.isLineEnded = true;
+  }
+
+  token(offset) {
+    for (const row of this.waiting) row.attached_to = offset;
+    this.waiting = [];
+    this.isLineEnded = false;
+  }
 }
 
 function kindOf(text) {
@@ -46,23 +93,8 @@ function kindOf(text) {
 function contentOf(text, kind) {
   const isBlock = kind === "block" || kind === "multiline";
   const said = isBlock ? text.slice(2, -2) : text.slice(kind === "line" ? 2 : text.startsWith("<") ? 4 : 3);
-  const isLegal = said.startsWith("!") || /@(license|preserve)\b/.test(said);
-  if (isBlock && said.length > 1 && said.startsWith("*")) return isLegal ? "jsdoclegal" : "jsdoc";
-  return isLegal ? "legal" : (CONTENTS.find(([, form]) => form.test(said))?.[0] ?? "normal");
-}
-
-// The offset behind white space and comments from here on, or before them.
-function passed(source, from, step, comments) {
-  for (let at = from; ; ) {
-    const next = source[step > 0 ? at : at - 1];
-    if (comments.has(at) && at !== comments.get(at)) at = comments.get(at);
-    else if (next !== undefined && SPACE.test(next)) at += step;
-    else return at;
-  }
-}
-
-// Whether a line end stands there, with nothing but white space before it.
-function hasLineEnd(source, from, step) {
-  for (let at = step > 0 ? from : from - 1; SPACE.test(source[at] ?? ""); at += step) if (LINE_END.test(source[at])) return true;
-  return false;
+  const hasLicence = /@(license|preserve)/.test(said);
+  if (said.startsWith("!")) return "legal";
+  if (isBlock && /^\*+[^*]/.test(said)) return hasLicence ? "jsdoclegal" : "jsdoc";
+  return CONTENTS.find(([, form]) => form.test(said))?.[0] ?? (hasLicence ? "legal" : "normal");
 }

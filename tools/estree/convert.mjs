@@ -94,7 +94,9 @@ class Rows {
     const hashbang = this.hashbang(node);
     const { directives, statements } = this.body(node.body);
     if (node.sourceType === "script") this.refuse("a script", node);
-    this.add("Program", node, { source: hasSource ? this.source : null, kind: "module", comments: rows, hashbang, directives, body: statements });
+    // Comments behind the last token belong to the text's end, where some trees don't end.
+    const place = comments.length > 0 ? { start: startOf(node), end: this.source.length } : node;
+    this.add("Program", place, { source: hasSource ? this.source : null, kind: "module", comments: rows, hashbang, directives, body: statements });
   }
 
   // The first line of the source, where it begins with `#!`; a tree without a source has it as Babel's do.

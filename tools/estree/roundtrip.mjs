@@ -30,6 +30,7 @@ const SETS = {
   "renamed, ascii_only": { options: { ascii_only: true }, letters: SIGNS },
   "renamed, minified, ascii_only": { options: { minify: true, ascii_only: true }, letters: SIGNS },
   "with comments and a map's path": { options: { source_map_path: "printed.js.map" }, comments: true },
+  "minified with comments": { options: { minify: true }, comments: true },
 };
 const HAS_NEGATIVE = isField("NumericLiteral", "negative");
 const READ_SETS = Object.entries(SETS).filter(([, set]) => HAS_NEGATIVE || !set.negative);
@@ -103,6 +104,7 @@ function tryProgram(tally, tried) {
     else if (found) tally.fail(tried.place(source, found.at ?? firstUnparsed(tried.text, asked)), set, found.what);
     if (options.ascii_only && PAST_ASCII.test(code) && !keepsPastAscii(parsed(source), source)) tally.fail(tried.place(tried.text, 0), set, "the text is not ASCII");
   }
+  // of texts without comments
   for (const [set, pretty] of [["minified", "pretty"], ["renamed, minified", "renamed"]]) {
     if (lengths[set] > lengths[pretty]) tally.fail(tried.place(tried.text, 0), set, "the text is longer than the pretty one");
   }

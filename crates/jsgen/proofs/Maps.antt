@@ -25,18 +25,23 @@ use Rattle.jsgen_map_text.specs.Lines.{map_text}
 use Rattle.jsgen_jobs.specs.MapText.{map_bytes}
 use Rattle.jsgen_model.specs.Items.{Items}
 use Rattle.jsgen_place.specs.Place.{among_statements}
-use Rattle.jsgen_model.specs.Layout.{Pen, empty_pen, style_of}
+use Rattle.jsgen_tree.specs.Options.{Legal}
+use Rattle.jsgen_model.specs.Comments.{Comment, comment_at}
+use Rattle.jsgen_model.specs.Ends.{licensed, moved_licences}
+use Rattle.jsgen_model.specs.Layout.{Pen}
 use Rattle.jsgen_model.specs.Lay.{lay}
 use Rattle.jsgen_model.specs.Mapped.{mapped_pen, marks_of, names_in, source_bytes, tokens_in}
-use Rattle.jsgen_model.specs.Spell.{spell, text_bytes}
-use Rattle.jsgen_mark_laws.specs.Law.{Right}
+use Rattle.jsgen_model.specs.Spell.{spell, comments_in, first_pen, text_bytes}
+use Rattle.jsgen_mark_laws.specs.Law.{Adds, Right}
 use Rattle.jsgen_mark_laws.specs.Names.{names_of, Stand}
 use Rattle.jsgen_mark_laws.proofs.Maps.{are_marks}
-use Rattle.jsgen_mark_laws.proofs.Names.{names_stand, source_behind}
+use Rattle.jsgen_mark_laws.proofs.Comments.{marks_kept, passes_licences}
+use Rattle.jsgen_mark_laws.proofs.Marked.{step_then}
+use Rattle.jsgen_mark_laws.proofs.Names.{names_stand, right_behind, source_behind, stand_longer}
 use Rattle.jsgen_mark_laws.proofs.Steps.{lay_steps}
 use Rattle.jsgen_printer.specs.Printer.{at_depth, by_marks, source_plain}
 use Rattle.jsgen_printer.specs.declared.marks.Marks.{Marks}
-use Rattle.jsgen_mark_laws.proofs.Sources.{sources_are_alike}
+use Rattle.jsgen_mark_laws.proofs.Sources.{ended_alike}
 use Rattle.jsgen.specs.Codegen.{mapped_from, MapsTo}
 use Rattle.jsgen.specs.Mapped.{HasMap, NamesStandIn, lines_of}
 
@@ -54,9 +59,18 @@ lines_are job (Some m) (path, is) =
 right_from : (depth : ℕ) (source : List ℕ) (pen : Pen) → Right (mapped_from depth source pen)
 right_from depth source pen = record { ordered = omega arith; parted = tt; placed = tt }
 
+-- a program, and what stands at its end
+abbrev pub whole : Items → Legal → List Comment → Pen → Pen
+whole items legal cs pen = licensed legal cs (lay items pen)
+
+whole_adds : (items : Items) (legal : Legal) (cs : List Comment) (pen : Pen) → Adds pen (whole items legal cs pen)
+whole_adds items legal cs pen = step_then (lay_steps items pen) (passes_licences legal cs (lay items pen)).adds
+
 -- what a program leaves are marks of its code
-pub marks_from : (items : Items) (depth : ℕ) (source bytes : List ℕ) (pen : Pen) → bytes ≡ encode_utf8_all (lay items (mapped_from depth source pen)).code → IsUtf8 bytes → AreMarks bytes source (lay items (mapped_from depth source pen)).marks
-marks_from items depth source bytes pen is u = are_marks items (mapped_from depth source pen) source bytes refl (right_from depth source pen) is u
+pub marks_from : (items : Items) (legal : Legal) (cs : List Comment) (depth : ℕ) (source bytes : List ℕ) (pen : Pen) → bytes ≡ encode_utf8_all (whole items legal cs (mapped_from depth source pen)).code → IsUtf8 bytes → AreMarks bytes source (whole items legal cs (mapped_from depth source pen)).marks
+marks_from items legal cs depth source bytes pen is u =
+    let adds = whole_adds items legal cs (mapped_from depth source pen) in
+    are_marks (whole items legal cs (mapped_from depth source pen)) source bytes (source_behind source adds refl) (right_behind adds (right_from depth source pen)) is u
 
 pub if_ok : {T E : Type 0} {P Q : T → Type 0} (r : Result T E) → ((x : T) → P x → Q x) → IfOk r P → IfOk r Q
 if_ok (Ok x) f h = f x h
@@ -66,17 +80,31 @@ pub if_any : {T E : Type 0} {P : T → Type 0} (r : Result T E) → ((x : T) →
 if_any (Ok x) f = f x
 if_any (Err e) f = tt
 
+-- a job's licences at its end
+abbrev pub job_end : JobData → List Comment
+job_end job = map (comment_at (source_bytes job)) (moved_licences job.options.comments.legal (source_bytes job) (comments_in job.program))
+
+-- a job's program, from a pen
+abbrev pub job_whole : JobData → Pen → Pen
+job_whole job pen = whole (spell job.program among_statements) job.options.comments.legal (job_end job) pen
+
+-- a printer begins there, whose level is still to be set
+abbrev pub Begins : JobData → Pen → Type 0
+Begins job pen = at_depth job.options.initial_indent pen ≡ first_pen job
+
 -- the text is that of the job, with marks or without
-pub text_is : (job : JobData) (pen : Pen) → pen ≡ empty_pen (style_of job.options job.tables) 0 → encode_utf8_all (lay (spell job.program among_statements) (mapped_from job.options.initial_indent (source_bytes job) pen)).code ≡ text_bytes job
+pub text_is : (job : JobData) (pen : Pen) → Begins job pen → encode_utf8_all (job_whole job (mapped_from job.options.initial_indent (source_bytes job) pen)).code ≡ text_bytes job
 text_is job pen e =
-    ap (λ (p : Pen). encode_utf8_all (lay (spell job.program among_statements) (mapped_from job.options.initial_indent (source_bytes job) p)).code) e
-    ∙ ap encode_utf8_all (sources_are_alike (spell job.program among_statements) (empty_pen (style_of job.options job.tables) job.options.initial_indent) (Some (source_bytes job)))
+    ap (λ (p : Pen). encode_utf8_all (job_whole job (mapped_from p.depth (source_bytes job) p)).code) e
+    ∙ ap encode_utf8_all (ended_alike (spell job.program among_statements) job.options.comments.legal (job_end job) (first_pen job) (Some (source_bytes job)))
 
 -- and the marks are the job's
-marks_are : (job : JobData) (pen : Pen) → pen ≡ empty_pen (style_of job.options job.tables) 0 → (lay (spell job.program among_statements) (mapped_from job.options.initial_indent (source_bytes job) pen)).marks ≡ marks_of job
-marks_are job pen e = ap (λ (p : Pen). (lay (spell job.program among_statements) (mapped_from job.options.initial_indent (source_bytes job) p)).marks) e
+marks_are : (job : JobData) (pen : Pen) → Begins job pen → (job_whole job (mapped_from job.options.initial_indent (source_bytes job) pen)).marks ≡ marks_of job
+marks_are job pen e =
+    ap (λ (p : Pen). (job_whole job (mapped_from p.depth (source_bytes job) p)).marks) e
+    ∙ marks_kept (passes_licences job.options.comments.legal (job_end job) (lay (spell job.program among_statements) (mapped_pen job)))
 
-pub has_map : (job : JobData) (pen : Pen) (path : List ℕ) (m : Option SourceMap) → pen ≡ empty_pen (style_of job.options job.tables) 0 → job.options.source_map_path ≡ Some (chars path) → MapsTo (lay (spell job.program among_statements) (mapped_from job.options.initial_indent (source_bytes job) pen)) (source_bytes job) path m → HasMap job m
+pub has_map : (job : JobData) (pen : Pen) (path : List ℕ) (m : Option SourceMap) → Begins job pen → job.options.source_map_path ≡ Some (chars path) → MapsTo (job_whole job (mapped_from job.options.initial_indent (source_bytes job) pen)) (source_bytes job) path m → HasMap job m
 has_map job pen path None e asked h = absurd h
 has_map job pen path (Some m) e asked h = (
   chars path,
@@ -85,7 +113,7 @@ has_map job pen path (Some m) e asked h = (
     called = ap chars h.0;
     source = h.1;
     map = subst (λ (ms : List Mark). MapOf (text_bytes job) (source_bytes job) ms (texts m.names.items) m.tokens.items) (marks_are job pen e)
-        (subst (λ (bytes : List ℕ). MapOf bytes (source_bytes job) (lay (spell job.program among_statements) (mapped_from job.options.initial_indent (source_bytes job) pen)).marks (texts m.names.items) m.tokens.items) (text_is job pen e) h.2);
+        (subst (λ (bytes : List ℕ). MapOf bytes (source_bytes job) (job_whole job (mapped_from job.options.initial_indent (source_bytes job) pen)).marks (texts m.names.items) m.tokens.items) (text_is job pen e) h.2);
   },
 )
 
@@ -94,9 +122,12 @@ pub names_stand_in : (job : JobData) (m : Option SourceMap) → NamesStandIn job
 names_stand_in job None = tt
 names_stand_in job (Some m) =
     let items : Items = spell job.program among_statements in
+    let laid : Pen = lay items (mapped_pen job) in
+    let end = passes_licences job.options.comments.legal (job_end job) laid in
+    let behind : Stand (job_whole job (mapped_pen job)).code (job_whole job (mapped_pen job)).marks 0 (names_of items (mapped_pen job)) = stand_longer end.adds 0 (names_of items (mapped_pen job)) (names_stand items (mapped_pen job) (source_bytes job) refl (record { ordered = omega arith; parted = tt; placed = tt })) in
     subst (λ (code : List ℕ). Stand code (marks_of job) 0 (names_of items (mapped_pen job)))
-    (sources_are_alike items (empty_pen (style_of job.options job.tables) job.options.initial_indent) (Some (source_bytes job)))
-    (names_stand items (mapped_pen job) (source_bytes job) refl (record { ordered = omega arith; parted = tt; placed = tt }))
+    (ended_alike items job.options.comments.legal (job_end job) (first_pen job) (Some (source_bytes job)))
+    (subst (λ (ms : List Mark). Stand (job_whole job (mapped_pen job)).code ms 0 (names_of items (mapped_pen job))) (marks_kept end) behind)
 
 -- ---- the source
 
@@ -140,14 +171,14 @@ begun m source depth pen e f =
     ∙ ap (λ (ms : List declared.Mark). record pen { style = record pen.style { source = Some source }; depth = depth; marks = map mark_plain ms }) f
 
 -- the source stays
-kept_source : (items : Items) (depth : ℕ) (source : List ℕ) (pen : Pen) → (lay items (mapped_from depth source pen)).style.source ≡ Some source
-kept_source items depth source pen = source_behind source (lay_steps items (mapped_from depth source pen)) refl
+kept_source : (items : Items) (legal : Legal) (cs : List Comment) (depth : ℕ) (source : List ℕ) (pen : Pen) → (whole items legal cs (mapped_from depth source pen)).style.source ≡ Some source
+kept_source items legal cs depth source pen = source_behind source (whole_adds items legal cs (mapped_from depth source pen)) refl
 
-pub its_source : (items : Items) (depth : ℕ) (source : List ℕ) (pen p : Pen) (parts : Option Marks) (m : Marks) → parts ≡ Some m → source_plain parts ≡ p.style.source → p ≡ lay items (mapped_from depth source pen) → m.source.now ≡ source
-its_source items depth source pen p parts m is s e = ap (λ (o : Option (List ℕ)). unwrap_or o []) (ap source_plain (sym is) ∙ (s ∙ (ap (λ (q : Pen). q.style.source) e ∙ kept_source items depth source pen)))
+pub its_source : (items : Items) (legal : Legal) (cs : List Comment) (depth : ℕ) (source : List ℕ) (pen p : Pen) (parts : Option Marks) (m : Marks) → parts ≡ Some m → source_plain parts ≡ p.style.source → p ≡ whole items legal cs (mapped_from depth source pen) → m.source.now ≡ source
+its_source items legal cs depth source pen p parts m is s e = ap (λ (o : Option (List ℕ)). unwrap_or o []) (ap source_plain (sym is) ∙ (s ∙ (ap (λ (q : Pen). q.style.source) e ∙ kept_source items legal cs depth source pen)))
 
-pub not_none : (items : Items) (depth : ℕ) (source : List ℕ) (pen p : Pen) (parts : Option Marks) → parts ≡ None → source_plain parts ≡ p.style.source → p ≡ lay items (mapped_from depth source pen) → ⊥
-not_none items depth source pen p parts is s e = both_ways false refl (ap is_some (ap source_plain (sym is) ∙ (s ∙ (ap (λ (q : Pen). q.style.source) e ∙ kept_source items depth source pen))))
+pub not_none : (items : Items) (legal : Legal) (cs : List Comment) (depth : ℕ) (source : List ℕ) (pen p : Pen) (parts : Option Marks) → parts ≡ None → source_plain parts ≡ p.style.source → p ≡ whole items legal cs (mapped_from depth source pen) → ⊥
+not_none items legal cs depth source pen p parts is s e = both_ways false refl (ap is_some (ap source_plain (sym is) ∙ (s ∙ (ap (λ (q : Pen). q.style.source) e ∙ kept_source items legal cs depth source pen))))
 
 pub same_map : {code whole was source : List ℕ} {old marks : List Mark} {names : List (List ℕ)} {tokens : List Token} → code ≡ whole → was ≡ source → old ≡ marks → MapOf code was old names tokens → MapOf whole source marks names tokens
 same_map {code} {whole} {was} {source} {old} {marks} {names} {tokens} e f g h = subst (λ ms. MapOf whole source ms names tokens) g (subst (λ s. MapOf whole s old names tokens) f (subst (λ c. MapOf c was old names tokens) e h))

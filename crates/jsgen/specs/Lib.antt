@@ -2,3 +2,4 @@ pub mod Codegen
 pub mod Context
 pub mod Answer
 pub mod Mapped
+pub mod Licences

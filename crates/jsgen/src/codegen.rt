@@ -20,17 +20,20 @@ ghost use Rattle.jsgen_check.specs.Verdict.{told};
 ghost use Rattle.jsgen_printer.specs.Printer.{pen_of, by_tables, name_written, unless_empty};
 ghost use Rattle.jsgen_place.specs.Place.{free, at_level};
 ghost use Rattle.jsgen.specs.Context.{context_at};
+ghost use Rattle.jsgen.specs.Licences.{job_licences, rows_plain};
 ghost use Rattle.jsgen.specs.Mapped.{HasMap, NamesStandIn};
 
+use crate::licences::End;
 use crate::mapped::{print_mapped, print_unmapped};
 use jsgen_alone::{PrintAlone, PrintAtLevel};
 use jsgen_check::{check_expression, check_program};
+use jsgen_comments::Comments;
 use jsgen_map::SourceMap;
 use jsgen_model::TreeFault;
 use jsgen_place::Place;
 use jsgen_printer::{Context, Printer};
 use jsgen_syntax::{JsStr, Memory, Precedence};
-use jsgen_tree::{CodegenOptions, Expression, PrivateMappings, Program, Scoping, Tables};
+use jsgen_tree::{CodegenOptions, Comment, Expression, PrivateMappings, Program, Scoping, Tables};
 use std::alloc::Global;
 use std::error::Error;
 use std::fmt;
@@ -60,11 +63,13 @@ impl From<Memory> for CodegenError {
     }
 }
 
-/// What a program was printed as, and its source map, where a path is set for one.
+/// What a program was printed as, its source map, where a path is set for one, and its licences, where they stand in a file of their
+/// own.
 #[derive(Drop)]
 pub struct CodegenReturn<'a> {
     pub code: String,
     pub map: Option<SourceMap<'a>>,
+    pub legal_comments: Vec<Comment>,
 }
 
 /// A printer: of a whole program by `build`, or of pieces of code, one call after another. It holds the text so far, and what
@@ -348,12 +353,24 @@ impl<'a> Codegen<'a> {
 
         // Where each name stands in the text, the map leads to its place in the source.
         ensures names_stand { IfOk result (λ printed. NamesStandIn (job_for self.entry (program_plain program.now)) printed.map) }
+
+        // The licences that stand in a file of their own, each once.
+        ensures licences { IfOk result (λ printed. rows_plain printed.legal_comments.items
+            ≡ job_licences (job_for self.entry (program_plain program.now))) }
     {
-        let printer = self.printer;
         let options = self.options;
+        let comments = Comments::of(
+            self.alloc,
+            &options.comments,
+            program.source.as_str(),
+            &program.comments,
+        )?;
+        let end = End::of(self.alloc, &options.comments.legal, program)?;
+        let printer = self.printer.with_comments(comments);
+        let depth = options.initial_indent;
         match &options.source_map_path {
-            Some(path) => print_mapped(self.alloc, path, options.initial_indent, printer, program),
-            None => print_unmapped(options.initial_indent, printer, program),
+            Some(path) => print_mapped(self.alloc, path, depth, printer, program, end),
+            None => print_unmapped(depth, printer, program, end),
         }
     }
 }

@@ -3,6 +3,7 @@ ghost use Rattle.std.specs.Prelude.{◌≡◌, false, option_map, IfOk, string_b
 ghost use Rattle.jsgen_tree.specs.Options.{options_plain};
 ghost use Rattle.jsgen_tree.specs.Scoping.{scoping_plain, private_plain};
 ghost use Rattle.jsgen_jobs.specs.Job.{Reads, Verdict, Answers, AnswersBy, Tells};
+ghost use Rattle.jsgen_jobs.specs.LegalText.{legal_bytes};
 ghost use Rattle.jsgen_jobs.specs.MapText.{map_bytes};
 ghost use Rattle.jsgen_model.specs.Spell.{text_bytes};
 ghost use Rattle.jsgen_check.specs.Verdict.{told};
@@ -12,6 +13,7 @@ ghost use Rattle.jsgen.specs.Answer.{VerdictOn, AnswersOn};
 ghost use Rattle.jsgen.specs.Mapped.{lines_of};
 
 use crate::codegen::Codegen;
+use crate::licences::licence_lines;
 use jsgen_fields::InputFault;
 use jsgen_jobs::{JobFault, PrintJobs};
 use jsgen_map::SourceMap;
@@ -124,6 +126,27 @@ fn lines_of(alloc: Global, map: &Option<SourceMap<'_>>) -> Result<String, Memory
     }
 }
 
+// The lines of its licences that stand in a file of their own.
+fn legal_text_of<'a>(
+    alloc: Global,
+    printer: Codegen<'a>,
+    program: &'a Program,
+) -> Result<String, JobFault>
+    requires { has_printed printer ≡ false }
+    ensures { AnswersOn legal_bytes (job_for printer.entry (program_plain program.now)) result }
+{
+    if let Err(fault) = printer.check(program) {
+        return Err(JobFault::Refused(fault));
+    }
+    match printer.build(program) {
+        Ok(printed) => match licence_lines(alloc, &printed.legal_comments) {
+            Ok(lines) => Ok(lines),
+            Err(_) => Err(JobFault::Memory),
+        },
+        Err(_) => Err(JobFault::Memory),
+    }
+}
+
 // Lets go of what was lent, in one place.
 fn let_go(_program: Program, _scoping: Option<Scoping>, _private: Option<PrivateMappings>) {}
 
@@ -201,6 +224,30 @@ pub fn map_job(alloc: Global, bytes: &[u8]) -> Result<String, JobFault>
     }
 }
 
+/// Reads a job from its bytes, and gives a line for each licence that stands in a file of its own: where it begins in the source, and
+/// where it ends. Where the options have them elsewhere there are none. What is wrong is answered as by `print_job`.
+pub fn legal_job(alloc: Global, bytes: &[u8]) -> Result<String, JobFault>
+    ensures answer { AnswersBy legal_bytes bytes.now result }
+    ensures rule { Tells told bytes.now result }
+{
+    match job_in(alloc, bytes) {
+        Ok(
+            Job {
+                options,
+                scoping,
+                private,
+                program,
+            },
+        ) => {
+            let printer = printer_for(alloc, options, &scoping, &private);
+            let lines = legal_text_of(alloc, printer, &program);
+            let_go(program, scoping, private);
+            lines
+        }
+        Err(fault) => Err(fault),
+    }
+}
+
 /// This library, where a caller is generic in what prints jobs.
 pub struct Library;
 
@@ -213,6 +260,10 @@ impl PrintJobs for Library {
 
     fn map_job(alloc: Global, bytes: &[u8]) -> Result<String, JobFault> {
         map_job(alloc, bytes)
+    }
+
+    fn legal_job(alloc: Global, bytes: &[u8]) -> Result<String, JobFault> {
+        legal_job(alloc, bytes)
     }
 
     fn check_job(alloc: Global, bytes: &[u8]) -> Result<(), JobFault> {

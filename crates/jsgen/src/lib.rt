@@ -7,11 +7,12 @@ mod gens;
 mod impls;
 mod jobs;
 mod laws;
+mod licences;
 mod mapped;
 
 pub use codegen::{Codegen, CodegenError, CodegenReturn};
 pub use gens::{Gen, GenExpr};
-pub use jobs::{Library, check_job, map_job, print_job};
+pub use jobs::{Library, check_job, legal_job, map_job, print_job};
 pub use jsgen_fields::{At, InputFault};
 pub use jsgen_jobs::{JobFault, PrintJobs};
 pub use jsgen_map::{SourceMap, Token};

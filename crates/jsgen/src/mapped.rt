@@ -10,8 +10,10 @@ ghost use Rattle.jsgen_model.specs.Lay.{lay};
 ghost use Rattle.jsgen_model.specs.Spell.{spell};
 ghost use Rattle.jsgen_printer.specs.Printer.{pen_of, at_depth};
 ghost use Rattle.jsgen.specs.Codegen.{mapped_from, MapsTo};
+ghost use Rattle.jsgen.specs.Licences.{apart, ended_by, rows_plain};
 
 use crate::codegen::{CodegenError, CodegenReturn};
+use crate::licences::End;
 use jsgen_map::{SourceMap, map_of_marks};
 use jsgen_nodes::statements::print_program;
 use jsgen_place::Place;
@@ -19,17 +21,19 @@ use jsgen_printer::{Marks, Printer};
 use jsgen_tree::Program;
 use std::alloc::Global;
 
-// The printer behind the whole program, whose first line stands at this level.
+// The printer behind the whole program, whose first line stands at this level, and what stands at its end.
 fn print_whole<'a>(
     depth: u32,
     printer: Printer<'a>,
     program: &Program,
+    end: &End<'_>,
 ) -> Result<Printer<'a>, CodegenError>
-    ensures { IfOk result (λ p. pen_of p ≡ lay (spell (program_plain program.now) among_statements) (at_depth depth (pen_of printer.entry))) }
+    ensures { IfOk result (λ p. pen_of p ≡ ended_by end.now (string_bytes program.now.source) (lay (spell (program_plain program.now) among_statements) (at_depth depth (pen_of printer.entry)))) }
 {
     let mut p = printer;
     p.set_depth(depth);
     print_program(program, &mut p, Place::among_statements());
+    p.print_licences(end.legal, program.source.as_str(), &end.licences);
     if p.has_failed() {
         return Err(CodegenError::Memory);
     }
@@ -41,15 +45,18 @@ pub(crate) fn print_unmapped<'a>(
     depth: u32,
     printer: Printer<'_>,
     program: &Program,
+    end: End<'_>,
 ) -> Result<CodegenReturn<'a>, CodegenError>
     ensures code { IfOk result (λ printed. string_bytes printed.code
-        ≡ encode_utf8_all (lay (spell (program_plain program.now) among_statements) (at_depth depth (pen_of printer.entry))).code) }
+        ≡ encode_utf8_all (ended_by end.entry (string_bytes program.now.source) (lay (spell (program_plain program.now) among_statements) (at_depth depth (pen_of printer.entry)))).code) }
     ensures map { IfOk result (λ printed. printed.map ≡ None) }
+    ensures apart { IfOk result (λ printed. rows_plain printed.legal_comments.items ≡ apart end.entry) }
 {
-    let p = print_whole(depth, printer, program)?;
+    let p = print_whole(depth, printer, program, &end)?;
     Ok(CodegenReturn {
         code: p.into_string(),
         map: None,
+        legal_comments: end.into_apart(),
     })
 }
 
@@ -60,15 +67,17 @@ pub(crate) fn print_mapped<'a>(
     depth: u32,
     printer: Printer<'a>,
     program: &'a Program,
+    end: End<'_>,
 ) -> Result<CodegenReturn<'a>, CodegenError>
     requires source { length (string_bytes program.now.source) < 2 ^ 32 }
     ensures code { IfOk result (λ printed. string_bytes printed.code
-        ≡ encode_utf8_all (lay (spell (program_plain program.now) among_statements) (mapped_from depth (string_bytes program.now.source) (pen_of printer.entry))).code) }
-    ensures map { IfOk result (λ printed. MapsTo (lay (spell (program_plain program.now) among_statements) (mapped_from depth (string_bytes program.now.source) (pen_of printer.entry)))
+        ≡ encode_utf8_all (ended_by end.entry (string_bytes program.now.source) (lay (spell (program_plain program.now) among_statements) (mapped_from depth (string_bytes program.now.source) (pen_of printer.entry)))).code) }
+    ensures map { IfOk result (λ printed. MapsTo (ended_by end.entry (string_bytes program.now.source) (lay (spell (program_plain program.now) among_statements) (mapped_from depth (string_bytes program.now.source) (pen_of printer.entry))))
         (string_bytes program.now.source) path.now printed.map) }
+    ensures apart { IfOk result (λ printed. rows_plain printed.legal_comments.items ≡ apart end.entry) }
 {
     let marks = Marks::new(alloc, program.source.as_str());
-    let p = print_whole(depth, printer.with_marks(marks), program)?;
+    let p = print_whole(depth, printer.with_marks(marks), program, &end)?;
     let (code, marks) = p.into_parts();
     match marks {
         Some(marks) => {
@@ -76,9 +85,14 @@ pub(crate) fn print_mapped<'a>(
             Ok(CodegenReturn {
                 code,
                 map: Some(map),
+                legal_comments: end.into_apart(),
             })
         }
-        None => Ok(CodegenReturn { code, map: None }),
+        None => Ok(CodegenReturn {
+            code,
+            map: None,
+            legal_comments: end.into_apart(),
+        }),
     }
 }
 

@@ -22,7 +22,7 @@ pub fn print_class<N, L: PrintInside<N>>(node: &Class<N>, p: &mut Printer<'_>, p
 {
     match node.kind {
         ClassKind::Declaration => {
-            print_comments_if(place.in_list, node.span.start, p);
+            p.print_comments_if(place.in_list, node.span.start);
             p.print_indentation_if(place.in_list);
             print_from_word::<_, L>(node, p, place);
             p.print_soft_line_if(place.in_list);
@@ -33,14 +33,6 @@ pub fn print_class<N, L: PrintInside<N>>(node: &Class<N>, p: &mut Printer<'_>, p
             print_from_word::<_, L>(node, p, place);
             p.print_closing_if(wrap);
         }
-    }
-}
-
-fn print_comments_if(test: bool, offset: u32, p: &mut Printer<'_>)
-    ensures { Lays p.old p.new (items_if test (comments all_of_them offset)) }
-{
-    if test {
-        p.print_comments(offset);
     }
 }
 

@@ -1,7 +1,6 @@
 // The members of classes, one function for each row.
 ghost use Rattle.std.specs.Prelude.{codes};
 ghost use Rattle.jsgen_tree.specs.Rows.{static_block_row, method_definition_row, property_definition_row};
-ghost use Rattle.jsgen_model.specs.Items.{◌⊕◌, comments, all_of_them, indentation};
 ghost use Rattle.jsgen_model.specs.Spell.{spell, items_if, key_word, method_kind_word};
 ghost use Rattle.jsgen_printer.specs.Steps.{Lays};
 
@@ -19,7 +18,7 @@ pub fn print_static_block<N, M: PrintInClass<N>>(
 )
     ensures { Lays p.old p.new (spell (static_block_row M.plain node.now) place) }
 {
-    begin_element(place.in_list, node.span.start, p);
+    p.begin_line_if(place.in_list, node.span.start);
     p.print_mark(node.span);
     print_key_word("static", p);
     M::print_block(node.span, &node.body, p);
@@ -33,7 +32,7 @@ pub fn print_method_definition<N, M: PrintInClass<N>>(
 )
     ensures { Lays p.old p.new (spell (method_definition_row M.plain node.now) place) }
 {
-    begin_element(place.in_list, node.span.start, p);
+    p.begin_line_if(place.in_list, node.span.start);
     p.print_mark(node.span);
     print_static_if(node.is_static, p);
     print_method_kind(node.kind, p);
@@ -51,22 +50,12 @@ pub fn print_property_definition<N, M: PrintInClass<N>>(
 )
     ensures { Lays p.old p.new (spell (property_definition_row M.plain node.now) place) }
 {
-    begin_element(place.in_list, node.span.start, p);
+    p.begin_line_if(place.in_list, node.span.start);
     p.print_mark(node.span);
     print_static_if(node.is_static, p);
     M::print_key(&node.key, node.computed, p);
     M::print_initializer(&node.value, p, Place::in_brackets(Precedence::Comma));
     p.print_statement_end_if(place.in_list);
-}
-
-// Among others a member is a line of its own.
-fn begin_element(in_list: bool, offset: u32, p: &mut Printer<'_>)
-    ensures { Lays p.old p.new (items_if in_list (comments all_of_them offset ⊕ indentation)) }
-{
-    if in_list {
-        p.print_comments(offset);
-        p.print_indentation();
-    }
 }
 
 fn print_static_if(test: bool, p: &mut Printer<'_>)

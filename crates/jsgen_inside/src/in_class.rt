@@ -4,7 +4,7 @@ ghost use Rattle.jsgen_syntax.specs.declared.precedence.Precedence.TheVariants.{
 ghost use Rattle.jsgen_tree.specs.Tree.{Tree, trees, optional};
 ghost use Rattle.jsgen_tree.specs.Rows.{in_property_key, in_expression, in_statement, function_row};
 ghost use Rattle.jsgen_place.specs.Place.{in_brackets};
-ghost use Rattle.jsgen_model.specs.Spell.{spell, key_items, spell_value, method_words, spell_method, braces, spell_statements};
+ghost use Rattle.jsgen_model.specs.Spell.{spell, key_items, spell_value, method_words, spell_method, block_braces, spell_statements};
 ghost use Rattle.jsgen_printer.specs.Steps.{Lays};
 
 use jsgen_place::Place;
@@ -35,5 +35,5 @@ pub trait PrintInClass<N> {
 
     /// Statements in the braces of a span.
     fn print_block(span: Span, statements: &[StatementNode<N>], p: &mut Printer<'_>)
-        ensures { Lays p.old p.new (braces span (trees (map (in_statement plain) statements.now)) (spell_statements (trees (map (in_statement plain) statements.now)))) };
+        ensures { Lays p.old p.new (block_braces span (trees (map (in_statement plain) statements.now)) (spell_statements (trees (map (in_statement plain) statements.now)))) };
 }

@@ -1,3 +1,4 @@
 pub mod Job
 pub mod Texts
 pub mod MapText
+pub mod LegalText

@@ -4,6 +4,7 @@
 ghost use Rattle.std.specs.Prelude.{Some};
 ghost use Rattle.jsgen_jobs.specs.Job.{Verdict, Answers, AnswersBy, Tells};
 ghost use Rattle.jsgen_jobs.specs.MapText.{map_bytes};
+ghost use Rattle.jsgen_jobs.specs.LegalText.{legal_bytes};
 ghost use Rattle.jsgen_jobs.specs.Texts.{job_fault_text};
 
 use jsgen_fields::InputFault;
@@ -37,7 +38,7 @@ impl fmt::Display for JobFault {
 
 impl Error for JobFault {}
 
-/// What prints and checks jobs. Which of the broken rules of a job is told, by both calls alike, and when memory runs out, is all
+/// What prints and checks jobs. Which of the broken rules of a job is told, by all calls alike, and when memory runs out, is all
 /// that it may choose.
 pub trait PrintJobs {
     ghost use Rattle.std.specs.Prelude.{Result};
@@ -55,6 +56,11 @@ pub trait PrintJobs {
     /// The lines of a job's source map; nothing where no path is set for one.
     fn map_job(alloc: Global, bytes: &[u8]) -> Result<String, JobFault>
         ensures answer { AnswersBy map_bytes bytes.now result }
+        ensures rule { Tells judged bytes.now result };
+
+    /// The lines of a job's licences that stand in a file of their own; nothing where the options have them elsewhere.
+    fn legal_job(alloc: Global, bytes: &[u8]) -> Result<String, JobFault>
+        ensures answer { AnswersBy legal_bytes bytes.now result }
         ensures rule { Tells judged bytes.now result };
 
     /// Whether the bytes are a job that keeps the rules, or what is wrong.

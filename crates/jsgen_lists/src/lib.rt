@@ -17,8 +17,8 @@ mod templates;
 mod updates;
 
 pub use arguments::{PlainQuotes, print_arguments};
-pub use braces::{close_braces, open_braces, print_braces, print_empty_braces};
-pub use cases::{PrintOnly, print_case};
+pub use braces::{close_braces, open_braces, print_block_braces, print_empty_braces};
+pub use cases::{PrintOnly, print_case, print_case_braces};
 pub use elements::{PrintElement, print_array, print_object};
 pub use elements_of_class::print_class_braces;
 pub use heads::{print_accessor_word, print_behind_word, print_in_parentheses, print_key_word};
@@ -31,6 +31,8 @@ pub use members::{
     PrintMember, PrintObject, print_in_brackets, print_linked, print_list, print_more,
 };
 pub use patterns::{print_pattern_braces, print_pattern_brackets};
-pub use statements::{PrintStatement, print_body, print_deeper_body, print_statements};
+pub use statements::{
+    PrintStatement, print_body, print_deeper_body, print_statements, print_statements_to,
+};
 pub use templates::print_template;
 pub use updates::print_update;

@@ -1,8 +1,8 @@
-// Lists of statements, or of cases.
-ghost use Rattle.std.specs.Prelude.{map};
-ghost use Rattle.jsgen_tree.specs.Tree.{Tree, trees};
+// Lists of statements.
+ghost use Rattle.std.specs.Prelude.{◌≡◌, map};
+ghost use Rattle.jsgen_tree.specs.Tree.{Tree, trees, span_of};
 ghost use Rattle.jsgen_place.specs.Place.{among_statements};
-ghost use Rattle.jsgen_model.specs.Items.{◌⊕◌, soft_line, deeper, due_semicolon, indentation};
+ghost use Rattle.jsgen_model.specs.Items.{◌⊕◌, soft_line, deeper, due_semicolon, indentation, orphans};
 ghost use Rattle.jsgen_model.specs.Spell.{spell, spell_body, spell_statements, first_statement};
 ghost use Rattle.jsgen_printer.specs.Steps.{Lays};
 
@@ -13,6 +13,10 @@ use jsgen_printer::Printer;
 pub trait PrintStatement<E> {
     // What a statement stands for.
     ghost plain: { E → Tree };
+
+    /// The offset in the source where it begins.
+    fn start(statement: &E) -> u32
+        ensures { result ≡ (span_of (plain statement.now)).start };
 
     fn print_statement(statement: &E, p: &mut Printer<'_>, place: Place)
         ensures { Lays p.old p.new (spell (plain statement.now) place) };
@@ -28,6 +32,7 @@ pub fn print_body<E, S: PrintStatement<E>>(statements: &[E], p: &mut Printer<'_>
 {
     match statements.split_first() {
         Some((first, others)) => {
+            p.print_orphans(S::start(first));
             p.print_due_semicolon();
             S::print_first_statement(first, p, Place::among_statements());
             print_statements::<E, S>(others, p);
@@ -36,23 +41,36 @@ pub fn print_body<E, S: PrintStatement<E>>(statements: &[E], p: &mut Printer<'_>
     }
 }
 
-/// Each after the semicolon that the one before may have left.
+/// Each after comments that stand nowhere else, and the semicolon that the one before may have left.
 pub fn print_statements<E, S: PrintStatement<E>>(statements: &[E], p: &mut Printer<'_>)
     ensures { Lays p.old p.new (spell_statements (trees (map S.plain statements.now))) }
 {
     for statement in statements {
+        p.print_orphans(S::start(statement));
         p.print_due_semicolon();
         S::print_statement(statement, p, Place::among_statements());
     }
 }
 
-/// On lines of their own, one level deeper.
-pub fn print_deeper_statements<E, S: PrintStatement<E>>(statements: &[E], p: &mut Printer<'_>)
-    ensures { Lays p.old p.new (soft_line ⊕ deeper (spell_statements (trees (map S.plain statements.now)))) }
+/// Statements up to an offset, before which comments that stand nowhere else are printed.
+pub fn print_statements_to<E, S: PrintStatement<E>>(statements: &[E], end: u32, p: &mut Printer<'_>)
+    ensures { Lays p.old p.new (spell_statements (trees (map S.plain statements.now)) ⊕ orphans end) }
+{
+    print_statements::<E, S>(statements, p);
+    p.print_orphans(end);
+}
+
+/// On lines of their own, one level deeper, up to an offset.
+pub fn print_deeper_statements<E, S: PrintStatement<E>>(
+    statements: &[E],
+    end: u32,
+    p: &mut Printer<'_>,
+)
+    ensures { Lays p.old p.new (soft_line ⊕ deeper (spell_statements (trees (map S.plain statements.now)) ⊕ orphans end)) }
 {
     p.print_soft_line();
     let depth = p.deepen();
-    print_statements::<E, S>(statements, p);
+    print_statements_to::<E, S>(statements, end, p);
     p.set_depth(depth);
 }
 

@@ -1,5 +1,7 @@
 pub mod Sizes
 pub mod Marks
+pub mod Marked
+pub mod Comments
 pub mod Steps
 pub mod Names
 pub mod Quiet

@@ -8,13 +8,9 @@ use Rattle.std.proofs.lemmas.List.Elements.{All-nil, All-cons}
 use Rattle.std.proofs.lemmas.Str.{encodes-append, encodes_same}
 use lib.Utf8.{scalar, scalars}
 use Rattle.jsgen_map.specs.Marks.{Mark, AreMarks}
-use Rattle.jsgen_model.specs.Items.{Items}
 use Rattle.jsgen_model.specs.Marks.{size}
 use Rattle.jsgen_model.specs.Layout.{Pen}
-use Rattle.jsgen_model.specs.Lay.{lay}
 use Rattle.jsgen_mark_laws.specs.Law.{ArePlaced, IsPlaced, LeadsInto, Right}
-use Rattle.jsgen_mark_laws.proofs.Steps.{lay_steps}
-use Rattle.jsgen_mark_laws.proofs.Names.{marks_are_right, source_behind}
 
 first_scalars : (a b : List ℕ) → scalars (a ++ b) ≡ true → scalars a ≡ true
 first_scalars [] b h = refl
@@ -44,13 +40,11 @@ all_lead code source [] h = All-nil (λ (m : Mark). m.offset ≤ length source)
 all_lead code source (m ∷ ms) h = All-cons (λ (m : Mark). m.offset ≤ length source) m ms h.0.leads (all_lead code source ms h.1)
 
 -- where a text in UTF-8 has the bytes of the code, they are marks of it
-pub are_marks : (items : Items) (p : Pen) (source bytes : List ℕ) → p.style.source ≡ Some source → Right p → bytes ≡ encode_utf8_all (lay items p).code → IsUtf8 bytes → AreMarks bytes source (lay items p).marks
-are_marks items p source bytes e r is u =
-    let q : Pen = lay items p in
-    let right = marks_are_right items p r in
+pub are_marks : (q : Pen) (source bytes : List ℕ) → q.style.source ≡ Some source → Right q → bytes ≡ encode_utf8_all q.code → IsUtf8 bytes → AreMarks bytes source q.marks
+are_marks q source bytes e right is u =
     let same = encodes_same u.0 q.code (u.1.1 ∙ is) in
     let all : scalars q.code ≡ true = ap scalars (sym same) ∙ u.1.0 in
-    let placed = subst (λ s. ArePlaced q.code s q.marks) (source_behind source (lay_steps items p) e) right.placed in
+    let placed = subst (λ s. ArePlaced q.code s q.marks) e right.placed in
     subst (λ bs. AreMarks bs source q.marks) (sym is) (record {
       ordered = right.ordered;
       ends = all_end q.code (Some source) q.marks all placed;

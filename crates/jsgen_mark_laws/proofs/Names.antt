@@ -5,18 +5,22 @@ use Rattle.jsgen_syntax.specs.Escapes.{name_text}
 use Rattle.jsgen_syntax.specs.declared.span.Span.{Span}
 use Rattle.jsgen_tree.specs.Named.{printed_name}
 use Rattle.jsgen_model.specs.Punctuator.{Round, opening, closing}
-use Rattle.jsgen_model.specs.Items.{Items, ◌⊕◌, name, private_name, deeper, in_class, brackets, wrapped, wrapped_at_start, parentheses_unless_minified, unless_minified, where_same}
+use Rattle.jsgen_model.specs.Items.{Items, ◌⊕◌, name, private_name, deeper, in_class, brackets, wrapped, wrapped_at_start, parentheses_unless_minified, unless_minified, where_same, held, lined_case, caught, all_of_them}
 use Rattle.jsgen_map.specs.Marks.{Mark, Ordered, Parted, last_from, last_offset, is_last, unless_last}
 use Rattle.jsgen_model.specs.Marks.{size, has_start_mark, other_name_in}
 use Rattle.jsgen_model.specs.Layout as layouts
 use Rattle.jsgen_model.specs.Layout.{Pen, other_end, written, written_if, is_barred, deeper_level, entered, are_same}
-use Rattle.jsgen_model.specs.Lay.{lay, marked_if, name_mark, spaced}
+use Rattle.jsgen_model.specs.Lay.{lay, case_mark, marked_if, name_mark, spaced}
 use Rattle.jsgen_model.specs.Private.{printed_private}
 use Rattle.jsgen_mark_laws.specs.Law.{Adds, ArePlaced, Right}
 use Rattle.jsgen_mark_laws.specs.Names.{Printed, names_of, printed_at, last_before, StandsAt, Stand}
 use Rattle.jsgen_mark_laws.proofs.Sizes.{size_append, size_some, longer}
 use Rattle.jsgen_mark_laws.proofs.Marks.{ordered_append, parted_append, was_last, before_longer, before_end, last_is}
-use Rattle.jsgen_mark_laws.proofs.Steps.{lay_steps, placed_append, placed_on, same, spaced_step, written_step, written_if_step}
+use Rattle.jsgen_model.specs.Comments.{are_any}
+use Rattle.jsgen_model.specs.Groups.{has_orphans, group_at, comments_at, case_begun, last_byte, ending_at, without_ending}
+use Rattle.jsgen_mark_laws.proofs.Comments.{passes_comments, passes_without, passes_closing, passes_begun, passes_ended}
+use Rattle.jsgen_mark_laws.proofs.Marked.{placed_append, placed_on, same, step_then, spaced_step, written_step, written_if_step}
+use Rattle.jsgen_mark_laws.proofs.Steps.{lay_steps, mark_step, block_step}
 
 pub right_behind : {p q : Pen} → Adds p q → Right p → Right q
 right_behind {p} {q} s r = record {
@@ -46,7 +50,7 @@ at_longer {p} {q} s least n a = record {
   its = a.its;
 }
 
-stand_longer : {p q : Pen} (s : Adds p q) (least : ℕ) (ns : List Printed) → Stand p.code p.marks least ns → Stand q.code q.marks least ns
+pub stand_longer : {p q : Pen} (s : Adds p q) (least : ℕ) (ns : List Printed) → Stand p.code p.marks least ns → Stand q.code q.marks least ns
 unfolding at_longer
 stand_longer {p} {q} s least [] h = omega (arith, h, longer p.code q.code s.text s.code)
 stand_longer {p} {q} s least (n ∷ ns) h = (at_longer s least n h.0, stand_longer s (size h.0.before + size n.text) ns h.1)
@@ -154,4 +158,18 @@ names_stand (wrapped_at_start own opener items) p = let test : Bool = own || is_
 names_stand (parentheses_unless_minified items) p = let test : Bool = layouts.not p.style.minified in in_parentheses test items p (names_stand items (written_if test (opening Round) p))
 names_stand (unless_minified items) p = λ src e r. either_stand p.style.minified p p (lay items p) [] (names_of items p) (omega arith) (names_stand items p src e r)
 names_stand (where_same m n a b) p = λ src e r. either_stand (are_same p.style.tables m n) p (lay a p) (lay b p) (names_of a p) (names_of b p) (names_stand a p src e r) (names_stand b p src e r)
+names_stand (held o items) p = λ src e r.
+    let p1 : Pen = without_ending (last_byte o) p in
+    let s = (passes_without (last_byte o) p).adds in
+    stand_round (names_of items p1) s (names_stand items p1 src (source_behind src s e) (right_behind s r)) (passes_closing (ending_at (last_byte o) p) (lay items p1)).adds
+names_stand (lined_case start end lead items) p = λ src e r.
+    let long : Bool = has_orphans start p in
+    let p1 : Pen = case_begun long lead start p in
+    let p2 : Pen = case_mark long lead p1 in
+    let s = step_then (passes_begun long lead start p).adds (mark_step long lead p1) in
+    stand_round (names_of items p2) s (names_stand items p2 src (source_behind src s e) (right_behind s r)) (passes_ended long p.depth end (lay items p2)).adds
+names_stand (caught start body items) p = λ src e r.
+    let p1 : Pen = comments_at all_of_them start p in
+    let s = (passes_comments all_of_them start p).adds in
+    stand_round (names_of items p1) s (names_stand items p1 src (source_behind src s e) (right_behind s r)) (block_step (are_any (group_at start p)) body (lay items p1))
 names_stand item p = λ src e r. no_name item p

@@ -1,13 +1,15 @@
--- With marks or without, the text and all that matters to what follows is the same.
-use Rattle.std.proofs.Common.{◌≡◌, ℕ, ◌*◌, Bool, true, false, ◌||◌, List, [], ◌∷◌, ◌++◌, codes, replicate, refl, ap, sym, ◌∙◌, append_assoc, if◌then◌else◌}
+-- Where no comment waits, the text and all that matters to what follows is that of the layout, with marks or without.
+use Rattle.std.proofs.Common.{◌≡◌, ℕ, ◌*◌, Bool, true, false, ◌||◌, List, [], ◌∷◌, ◌++◌, Option, Some, None, codes, replicate, refl, ap, sym, ◌∙◌, append_assoc, if◌then◌else◌}
 use Rattle.jsgen_syntax.specs.Escapes.{name_text, has_escapes}
 use Rattle.jsgen_syntax.specs.Raw.{template_text}
 use Rattle.jsgen_tree.specs.Named.{printed_name}
 use Rattle.jsgen_model.specs.Punctuator.{Round, opening, closing, punctuator_text}
-use Rattle.jsgen_model.specs.Items.{Items, TemplatePart, whole_part, head_part, middle_part, tail_part, ◌⊕◌, name, private_name, template_part, indentation, deeper, in_class, brackets, wrapped, wrapped_at_start, parentheses_unless_minified, unless_minified, where_same, statement_end, mark, end_mark, link_mark, marked_word, marked_operator, marked_number, marked_indentation}
+use Rattle.jsgen_model.specs.Items.{Items, TemplatePart, whole_part, head_part, middle_part, tail_part, ◌⊕◌, name, private_name, template_part, indentation, deeper, in_class, brackets, wrapped, wrapped_at_start, parentheses_unless_minified, unless_minified, where_same, statement_end, mark, end_mark, link_mark, marked_word, marked_operator, marked_number, marked_indentation, comments, empty_body, held, lined_case, caught, all_of_them, with_key_annotation, then_space, Lead, to_block, to_body, to_empty}
 use Rattle.jsgen_map.specs.Marks.{Mark}
-use Rattle.jsgen_model.specs.Layout.{Pen, Ending, nowhere, other_end, operator_end, number_ending, joins, written, written_if, text_if, space_if, is_apart, name_ending, is_barred, deeper_level, entered, indented, indent_or_space, at_indentation, end_statement, are_same, not, part_text, layout}
-use Rattle.jsgen_model.specs.Lay.{lay, span_mark, name_mark, piece_mark, parted, spaced, part_opening, part_closing}
+use Rattle.jsgen_model.specs.Layout.{Pen, Ending, nowhere, other_end, operator_end, number_ending, joins, written, written_if, text_if, space_if, is_apart, name_ending, is_barred, deeper_level, entered, indented, indent_or_space, at_indentation, end_statement, are_same, not, part_text, led, layout}
+use Rattle.jsgen_model.specs.Comments.{empty_store}
+use Rattle.jsgen_model.specs.Groups.{last_byte, ending_at, without_ending, closing_group, body_of}
+use Rattle.jsgen_model.specs.Lay.{lay, before_block, span_mark, name_mark, piece_mark, parted, spaced, part_opening, part_closing}
 use Rattle.jsgen_model.specs.Private.{printed_private}
 use Rattle.jsgen_mark_laws.specs.Law.{with_marks}
 
@@ -47,10 +49,14 @@ end_alike false ms q = refl
 
 -- ---- items
 
--- the same pen but for its marks
+-- the same pen, where no comment waits
+abbrev quiet : Pen → Pen
+quiet q = record q { store = empty_store }
+
+-- the same pen but for its marks, where no comment waits
 record Alike (a b : Pen) : Type 0 where
   marks : List Mark
-  same : a ≡ with_marks marks b
+  same : a ≡ with_marks marks (quiet b)
 
 either_alike : (t : Bool) {a b c d : Pen} → Alike a c → Alike b d → Alike (if t then a else b) (if t then c else d)
 either_alike true h k = h
@@ -60,20 +66,63 @@ either_alike false h k = k
 around : (test : Bool) (items : Items) (q : Pen) {a : Pen} → Alike a (layout items (written_if test (opening Round) q)) → Alike (written_if test (closing Round) a) (layout (wrapped test items) q)
 around test items q x = record { marks = x.marks; same = ap (λ p. written_if test (closing Round) p) x.same }
 
-alike : (items : Items) (ms : List Mark) (q : Pen) → Alike (lay items (with_marks ms q)) (layout items q)
+-- ---- steps look at no comment that waits
+
+indented_quiet : (t : List ℕ) (q : Pen) → indented t (quiet q) ≡ quiet (indented t q)
+indented_quiet [] q = refl
+indented_quiet (c ∷ cs) q = refl
+
+or_space_quiet : (b : Bool) (q : Pen) → indent_or_space b (quiet q) ≡ quiet (indent_or_space b q)
+or_space_quiet true q = refl
+or_space_quiet false q = indented_quiet (replicate (q.depth * q.style.width) q.style.indent) q
+
+indentation_quiet : (b : Bool) (q : Pen) → at_indentation b (quiet q) ≡ quiet (at_indentation b q)
+indentation_quiet true q = refl
+indentation_quiet false q = or_space_quiet q.pending_space q
+
+end_quiet : (b : Bool) (q : Pen) → end_statement b (quiet q) ≡ quiet (end_statement b q)
+end_quiet true q = refl
+end_quiet false q = refl
+
+either_quiet : (t : Bool) (a b c d : Pen) → a ≡ quiet c → b ≡ quiet d → (if t then a else b) ≡ quiet (if t then c else d)
+either_quiet true a b c d h k = h
+either_quiet false a b c d h k = k
+
+led_quiet : (lead : Lead) (q : Pen) → led lead (quiet q) ≡ quiet (led lead q)
+led_quiet to_block q = refl
+led_quiet to_body q = refl
+led_quiet (to_empty span) q = refl
+
+-- ---- items without comments
+
+-- nothing is held, and nothing stands in an empty body
+none_held : (last : Option ℕ) (items : Items) (p : Pen) → closing_group (ending_at last (quiet p)) (lay items (without_ending last (quiet p))) ≡ lay items (quiet p)
+none_held None items p = refl
+none_held (Some o) items p = refl
+
+no_body : (o : ℕ) (last : Option ℕ) (p : Pen) → body_of o (ending_at last (quiet p)) (without_ending last (quiet p)) ≡ quiet p
+no_body o None p = refl
+no_body o (Some n) p = refl
+
+led_alike : (lead : Lead) (ms : List Mark) (q : Pen) → led lead (with_marks ms (quiet q)) ≡ with_marks ms (quiet (led lead q))
+led_alike to_block ms q = refl
+led_alike to_body ms q = refl
+led_alike (to_empty span) ms q = refl
+
+alike : (items : Items) (ms : List Mark) (q : Pen) → Alike (lay items (with_marks ms (quiet q))) (layout items q)
 alike (a ⊕ b) ms q =
     let x = alike a ms q in
     let y = alike b x.marks (layout a q) in
     record { marks = y.marks; same = ap (λ p. lay b p) x.same ∙ y.same }
 alike (name span n) ms q =
     let w = printed_name q.style.tables n in
-    let marks : List Mark = (name_mark span w (spaced (with_marks ms q))).marks in
-    record { marks = marks; same = in_steps (is_apart q.ending q.code) (name_text q.style.ascii w) (name_ending (has_escapes q.style.ascii w)) marks q }
-alike (private_name span w) ms q = record { marks = (name_mark span (35 ∷ printed_private q.style.tables q.classes w) (with_marks ms q)).marks; same = refl }
+    let marks : List Mark = (name_mark span w (spaced (with_marks ms (quiet q)))).marks in
+    record { marks = marks; same = in_steps (is_apart q.ending q.code) (name_text q.style.ascii w) (name_ending (has_escapes q.style.ascii w)) marks (quiet q) }
+alike (private_name span w) ms q = record { marks = (name_mark span (35 ∷ printed_private q.style.tables q.classes w) (with_marks ms (quiet q))).marks; same = refl }
 alike (template_part part tagged span raw) ms q =
     let text = template_text tagged q.style.minified q.style.ascii raw in
-    let marks : List Mark = (piece_mark part span (written (part_opening part) other_end (with_marks ms q))).marks in
-    record { marks = marks; same = ap (λ code. record q { code = code; ending = other_end; start = nowhere; marks = marks }) (append_assoc q.code (part_opening part) (text ++ part_closing part) ∙ ap (λ t. q.code ++ t) (piece_text part text)) }
+    let marks : List Mark = (piece_mark part span (written (part_opening part) other_end (with_marks ms (quiet q)))).marks in
+    record { marks = marks; same = ap (λ code. record (quiet q) { code = code; ending = other_end; start = nowhere; marks = marks }) (append_assoc q.code (part_opening part) (text ++ part_closing part) ∙ ap (λ t. q.code ++ t) (piece_text part text)) }
 alike (deeper items) ms q =
     let x = alike items ms (record q { depth = deeper_level q.style.minified q.depth }) in
     record { marks = x.marks; same = ap {A = Pen} (λ p. record p { depth = q.depth }) x.same }
@@ -88,30 +137,63 @@ alike (wrapped_at_start own opener items) ms q = let test : Bool = own || is_bar
 alike (parentheses_unless_minified items) ms q = let test : Bool = not q.style.minified in around test items q (alike items ms (written_if test (opening Round) q))
 alike (unless_minified items) ms q = either_alike q.style.minified (record { marks = ms; same = refl }) (alike items ms q)
 alike (where_same m n a b) ms q = either_alike (are_same q.style.tables m n) (alike a ms q) (alike b ms q)
-alike (mark span) ms q = record { marks = (lay (mark span) (with_marks ms q)).marks; same = refl }
-alike (end_mark span) ms q = record { marks = (lay (end_mark span) (with_marks ms q)).marks; same = refl }
-alike (link_mark span) ms q = record { marks = (lay (link_mark span) (with_marks ms q)).marks; same = refl }
+alike (mark span) ms q = record { marks = (lay (mark span) (with_marks ms (quiet q))).marks; same = refl }
+alike (end_mark span) ms q = record { marks = (lay (end_mark span) (with_marks ms (quiet q))).marks; same = refl }
+alike (link_mark span) ms q = record { marks = (lay (link_mark span) (with_marks ms (quiet q))).marks; same = refl }
 alike (marked_word span w) ms q =
-    let marks : List Mark = (span_mark span (spaced (with_marks ms q))).marks in
-    record { marks = marks; same = in_steps (is_apart q.ending q.code) w other_end marks q }
+    let marks : List Mark = (span_mark span (spaced (with_marks ms (quiet q)))).marks in
+    record { marks = marks; same = in_steps (is_apart q.ending q.code) w other_end marks (quiet q) }
 alike (marked_operator span p) ms q =
-    let marks : List Mark = (span_mark span (parted p (with_marks ms q))).marks in
-    record { marks = marks; same = in_steps (joins q.ending q.code p) (punctuator_text p) (operator_end p) marks q }
+    let marks : List Mark = (span_mark span (parted p (with_marks ms (quiet q)))).marks in
+    record { marks = marks; same = in_steps (joins q.ending q.code p) (punctuator_text p) (operator_end p) marks (quiet q) }
 alike (marked_number span dot_is_its_own w) ms q =
-    let marks : List Mark = (span_mark span (spaced (with_marks ms q))).marks in
-    record { marks = marks; same = in_steps (is_apart q.ending q.code) w (number_ending dot_is_its_own) marks q }
+    let marks : List Mark = (span_mark span (spaced (with_marks ms (quiet q)))).marks in
+    record { marks = marks; same = in_steps (is_apart q.ending q.code) w (number_ending dot_is_its_own) marks (quiet q) }
 alike (marked_indentation span) ms q =
-    let marks : List Mark = (lay (marked_indentation span) (with_marks ms q)).marks in
-    record { marks = marks; same = ap (λ p. with_marks marks p) (indentation_alike q.style.minified ms q) }
-alike indentation ms q = record { marks = ms; same = indentation_alike q.style.minified ms q }
-alike statement_end ms q = record { marks = ms; same = end_alike q.style.minified ms q }
+    let marks : List Mark = (lay (marked_indentation span) (with_marks ms (quiet q))).marks in
+    record { marks = marks; same = ap (λ p. with_marks marks p) (indentation_alike q.style.minified ms (quiet q) ∙ ap (with_marks ms) (indentation_quiet q.style.minified q)) }
+alike indentation ms q = record { marks = ms; same = indentation_alike q.style.minified ms (quiet q) ∙ ap (with_marks ms) (indentation_quiet q.style.minified q) }
+alike statement_end ms q = record { marks = ms; same = end_alike q.style.minified ms (quiet q) ∙ ap (with_marks ms) (end_quiet q.style.minified q) }
+alike (comments all_of_them o) ms q = record { marks = ms; same = refl }
+alike (comments with_key_annotation o) ms q = record { marks = ms; same = refl }
+alike (comments then_space o) ms q = record { marks = ms; same = refl }
+alike (empty_body o) ms q = record { marks = ms; same = no_body o (last_byte o) (with_marks ms q) }
+alike (held o items) ms q =
+    let x = alike items ms q in
+    record { marks = x.marks; same = none_held (last_byte o) items (with_marks ms q) ∙ x.same }
+alike (lined_case start end lead items) ms q =
+    let x = alike items ms (led lead q) in
+    record { marks = x.marks; same = ap (lay items) (led_alike lead ms q) ∙ x.same }
+alike (caught start body items) ms q =
+    let x = alike items ms q in
+    record { marks = x.marks; same = ap (before_block false body) x.same }
 alike item ms q = record { marks = ms; same = refl }
 
-pub quiet_is_quiet : (items : Items) (p : Pen) → lay items p ≡ with_marks (lay items p).marks (layout items p)
-quiet_is_quiet items p =
+stored_alike : (items : Items) (q : Pen) → layout items (quiet q) ≡ quiet (layout items q)
+stored_alike (a ⊕ b) q = ap (λ p. layout b p) (stored_alike a q) ∙ stored_alike b (layout a q)
+stored_alike (deeper items) q = ap {A = Pen} (λ p. record p { depth = q.depth }) (stored_alike items (record q { depth = deeper_level q.style.minified q.depth }))
+stored_alike (in_class items) q = ap {A = Pen} (λ p. record p { classes = q.classes }) (stored_alike items (entered q))
+stored_alike (brackets b items) q = ap (λ p. written (closing b) other_end p) (stored_alike items (written (opening b) other_end q))
+stored_alike (wrapped test items) q = ap (λ p. written_if test (closing Round) p) (stored_alike items (written_if test (opening Round) q))
+stored_alike (wrapped_at_start own opener items) q = let test : Bool = own || is_barred opener q.start in ap (λ p. written_if test (closing Round) p) (stored_alike items (written_if test (opening Round) q))
+stored_alike (parentheses_unless_minified items) q = let test : Bool = not q.style.minified in ap (λ p. written_if test (closing Round) p) (stored_alike items (written_if test (opening Round) q))
+stored_alike (held o items) q = stored_alike items q
+stored_alike (lined_case start end lead items) q = ap (layout items) (led_quiet lead q) ∙ stored_alike items (led lead q)
+stored_alike (caught start body items) q = stored_alike items q
+stored_alike (unless_minified items) q = either_quiet q.style.minified (quiet q) (layout items (quiet q)) q (layout items q) refl (stored_alike items q)
+stored_alike (where_same m n a b) q = either_quiet (are_same q.style.tables m n) (layout a (quiet q)) (layout b (quiet q)) (layout a q) (layout b q) (stored_alike a q) (stored_alike b q)
+stored_alike indentation q = indentation_quiet q.style.minified q
+stored_alike (marked_indentation span) q = indentation_quiet q.style.minified q
+stored_alike statement_end q = end_quiet q.style.minified q
+stored_alike item q = refl
+
+pub quiet_is_quiet : (items : Items) (p : Pen) → p.store ≡ empty_store → lay items p ≡ with_marks (lay items p).marks (layout items p)
+quiet_is_quiet items p e =
+    let own : quiet p ≡ p = λ i. record p { store = sym e i } in
     let x = alike items p.marks p in
-    x.same ∙ ap (λ ms. with_marks ms (layout items p)) (sym (ap (λ q. q.marks) x.same))
+    let laid : lay items p ≡ with_marks x.marks (layout items p) = ap (lay items) (sym own) ∙ (x.same ∙ ap (with_marks x.marks) (sym (stored_alike items p) ∙ ap (layout items) own)) in
+    laid ∙ ap (λ ms. with_marks ms (layout items p)) (sym (ap (λ q. q.marks) laid))
 
 -- the text is the same
-pub same_text : (items : Items) (p : Pen) → (lay items p).code ≡ (layout items p).code
-same_text items p = ap (λ q. q.code) (quiet_is_quiet items p)
+pub same_text : (items : Items) (p : Pen) → p.store ≡ empty_store → (lay items p).code ≡ (layout items p).code
+same_text items p e = ap (λ q. q.code) (quiet_is_quiet items p e)

@@ -5,160 +5,31 @@ use Rattle.jsgen_syntax.specs.declared.span.Span.{Span}
 use Rattle.jsgen_tree.specs.Named.{printed_name}
 use Rattle.jsgen_model.specs.Punctuator.{Round, opening, closing, punctuator_text}
 use Rattle.std.proofs.lemmas.Bool.{and_parts, both_ways, leb-true, ltb-true}
-use Rattle.jsgen_model.specs.Items.{Items, TemplatePart, whole_part, head_part, middle_part, tail_part, nothing, ◌⊕◌, word, name, private_name, number, literal, regular_expression, template_part, string, first_string, directive, punctuator, operator, member_dot, soft_space, soft_line, hard_space, indentation, body_space, deeper, in_class, brackets, wrapped, wrapped_at_start, parentheses_unless_minified, unless_minified, where_same, statement_end, due_semicolon, drop_semicolon, statement_begins, arrow_body_begins, default_export_begins, mark, end_mark, link_mark, marked_word, marked_operator, marked_number, marked_indentation, apart, comments, orphans, annotation}
+use Rattle.jsgen_model.specs.Items.{Items, TemplatePart, whole_part, head_part, middle_part, tail_part, nothing, ◌⊕◌, word, name, private_name, number, literal, regular_expression, template_part, string, first_string, directive, punctuator, operator, member_dot, soft_space, soft_line, hard_space, indentation, body_space, deeper, in_class, brackets, wrapped, wrapped_at_start, parentheses_unless_minified, unless_minified, where_same, statement_end, due_semicolon, drop_semicolon, statement_begins, arrow_body_begins, default_export_begins, mark, end_mark, link_mark, marked_word, marked_operator, marked_number, marked_indentation, apart, comments, orphans, orphan_lines, empty_body, held, lined_case, caught, all_of_them, Lead, to_block, to_body, to_empty, annotation}
 use Rattle.jsgen_map.specs.Marks.{Mark, Parted, last_offset, is_last, unless_last}
 use Rattle.std.specs.Prelude.{not as isnt}
 use Rattle.jsgen_model.specs.Marks.{size, is_empty, other_name_in, has_start_mark, has_end_mark, has_link_mark, ends_in_link}
 use Rattle.jsgen_model.specs.Layout.{Pen, Ending, other_end, operator_end, number_ending, joins, written, written_if, text_if, is_apart, is_barred, deeper_level, entered, indented, indent_or_space, at_indentation, end_statement, are_same, not}
-use Rattle.jsgen_model.specs.Lay.{lay, marked_if, name_mark, mark_behind, may_be_indented, has_piece_mark, parted, spaced, part_opening, piece_mark, span_mark}
+use Rattle.jsgen_model.specs.Lay.{lay, case_mark, stood, before_block, marked_if, name_mark, mark_behind, may_be_indented, has_piece_mark, parted, spaced, part_opening, piece_mark, span_mark}
 use Rattle.jsgen_model.specs.Private.{printed_private}
 use Rattle.jsgen_mark_laws.specs.Law.{Adds, ArePlaced, LeadsInto}
 use Rattle.jsgen_mark_laws.proofs.Sizes.{longer}
 use Rattle.jsgen_mark_laws.proofs.Marks.{ordered_append, parted_append, last_append}
+use Rattle.jsgen_mark_laws.proofs.Marked.{none, same, step_then, texted, written_step, written_if_step, indentation_step, end_step, one_of, marked_if_step, end_leads, link_leads, piece_leads, start_step, name_step, behind_step, spaced_step}
+use Rattle.jsgen_model.specs.Comments.{are_any}
+use Rattle.jsgen_model.specs.Groups.{has_orphans, group_at, comments_at, case_begun, case_ended, closing_group, last_byte, ending_at, without_ending}
+use Rattle.jsgen_mark_laws.proofs.Comments.{passes_comments, passes_orphans, passes_lines_of_orphans, passes_empty_body, passes_without, passes_closing, passes_begun, passes_ended, passes_space}
 
--- ---- marks that have their place
+-- the mark of an empty statement, where it stands on a line of its own in a case
+pub mark_step : (long : Bool) (lead : Lead) (p : Pen) → Adds p (case_mark long lead p)
+mark_step true to_block p = none p
+mark_step true to_body p = none p
+mark_step true (to_empty span) p = start_step span None p
+mark_step false lead p = none p
 
-pub placed_append : (code : List ℕ) (source : Option (List ℕ)) (ms ns : List Mark) → ArePlaced code source ms → ArePlaced code source ns → ArePlaced code source (ms ++ ns)
-placed_append code source [] ns h k = k
-placed_append code source (m ∷ ms) ns h k = (h.0, placed_append code source ms ns h.1 k)
-
-placed_longer : (code text : List ℕ) (source : Option (List ℕ)) (ms : List Mark) → ArePlaced code source ms → ArePlaced (code ++ text) source ms
-placed_longer code text source [] h = tt
-placed_longer code text source (m ∷ ms) h = (
-  record {
-    before = h.0.before;
-    rest = h.0.rest ++ text;
-    is = ap (λ x. x ++ text) h.0.is ∙ append_assoc h.0.before h.0.rest text;
-    bytes = h.0.bytes;
-    leads = h.0.leads;
-  },
-  placed_longer code text source ms h.1,
-)
-
--- in what they had before a step, they have it behind it
-pub placed_on : {p q : Pen} (s : Adds p q) (ms : List Mark) → ArePlaced p.code p.style.source ms → ArePlaced q.code q.style.source ms
-placed_on {p} {q} s ms h =
-    subst (λ code. ArePlaced code q.style.source ms) (sym s.code)
-    (placed_longer p.code s.text q.style.source ms (subst (λ source. ArePlaced p.code source ms) (sym (ap (λ st. st.source) s.style)) h))
-
-pub step_then : {p q r : Pen} → Adds p q → Adds q r → Adds p r
-step_then {p} {q} {r} a b = record {
-  text = a.text ++ b.text;
-  code = b.code ∙ (ap (λ x. x ++ b.text) a.code ∙ append_assoc p.code a.text b.text);
-  style = b.style ∙ a.style;
-  more = a.more ++ b.more;
-  marks = b.marks ∙ (ap (λ x. x ++ b.more) a.marks ∙ append_assoc p.marks a.more b.more);
-  ordered = ordered_append a.more b.more (size p.code) (size q.code) (size r.code) a.ordered b.ordered;
-  parted = parted_append (last_offset p.marks) a.more b.more a.parted (subst (λ l. Parted l b.more) (ap (λ ms. last_offset ms) a.marks ∙ last_append None p.marks a.more) b.parted);
-  placed = placed_append r.code r.style.source a.more b.more (placed_on b a.more a.placed) b.placed;
-}
-
--- text alone
-pub texted : (p q : Pen) (text : List ℕ) → q.code ≡ p.code ++ text → q.style ≡ p.style → q.marks ≡ p.marks → Adds p q
-texted p q text e f g = record {
-  text = text;
-  code = e;
-  style = f;
-  more = [];
-  marks = g ∙ sym (append-nil p.marks);
-  ordered = longer p.code q.code text e;
-  parted = tt;
-  placed = tt;
-}
-
--- neither
-pub same : (p q : Pen) → q.code ≡ p.code → q.style ≡ p.style → q.marks ≡ p.marks → Adds p q
-same p q e f g = texted p q [] (e ∙ sym (append-nil p.code)) f g
-
-pub none : (p : Pen) → Adds p p
-none p = same p p refl refl refl
-
-pub written_step : (t : List ℕ) (e : Ending) (p : Pen) → Adds p (written t e p)
-written_step t e p = texted p (written t e p) t refl refl refl
-
-pub written_if_step : (test : Bool) (t : List ℕ) (p : Pen) → Adds p (written_if test t p)
-written_if_step test t p = texted p (written_if test t p) (text_if test t) refl refl refl
-
-indented_step : (t : List ℕ) (p : Pen) → Adds p (indented t p)
-indented_step [] p = none p
-indented_step (c ∷ cs) p = written_step (c ∷ cs) other_end p
-
-or_space_step : (pending : Bool) (p : Pen) → Adds p (indent_or_space pending p)
-or_space_step true p = texted p (indent_or_space true p) (codes " ") refl refl refl
-or_space_step false p = indented_step (replicate (p.depth * p.style.width) p.style.indent) p
-
-indentation_step : (minified : Bool) (p : Pen) → Adds p (at_indentation minified p)
-indentation_step true p = none p
-indentation_step false p = or_space_step p.pending_space p
-
-end_step : (minified : Bool) (p : Pen) → Adds p (end_statement minified p)
-end_step true p = same p (end_statement true p) refl refl refl
-end_step false p = written_step (codes ";\n") other_end p
-
-one_of : (test : Bool) {p a b : Pen} → Adds p a → Adds p b → Adds p (if test then a else b)
-one_of true h k = h
-one_of false h k = k
-
--- ---- marks
-
-marked_step : (o : ℕ) (called : Option (List ℕ)) (p : Pen) → LeadsInto p.style.source o → Adds p (marked_if true o called p)
-marked_step o called p leads = go (is_last (last_offset p.marks) o) refl
-  where
-    m : Mark
-    m = record { bytes = size p.code; offset = o; name = called }
-
-    go : (b : Bool) → is_last (last_offset p.marks) o ≡ b → Adds p (record p { marks = unless_last b m p.marks })
-    go true e = same p (record p { marks = p.marks }) refl refl refl
-    go false e = record {
-      text = [];
-      code = sym (append-nil p.code);
-      style = refl;
-      more = m ∷ [];
-      marks = refl;
-      ordered = (omega arith, omega arith);
-      parted = (e, tt);
-      placed = (record { before = p.code; rest = []; is = sym (append-nil p.code); bytes = refl; leads = leads }, tt);
-    }
-
-pub marked_if_step : (b : Bool) (o : ℕ) (called : Option (List ℕ)) (p : Pen) → (b ≡ true → LeadsInto p.style.source o) → Adds p (marked_if b o called p)
-marked_if_step true o called p leads = marked_step o called p (leads refl)
-marked_if_step false o called p leads = none p
-
--- where they have marks, a span's start, its last byte and what follows it lie in the source
-start_leads : (source : Option (List ℕ)) (span : Span) → has_start_mark source span ≡ true → LeadsInto source span.start
-start_leads None span h = tt
-start_leads (Some source) span h = leb-true span.start (length source) (and_parts (isnt (is_empty span)) (nat_le span.start (length source)) h).1
-
-end_leads : (source : Option (List ℕ)) (span : Span) → has_end_mark source span ≡ true → LeadsInto source (span.end - 1)
-end_leads None span h = tt
-end_leads (Some source) span h = let within = leb-true span.end (length source) (and_parts (isnt (is_empty span)) (nat_le span.end (length source)) h).1 in omega (arith, within)
-
-link_leads : (source : Option (List ℕ)) (span : Span) (code : List ℕ) → has_link_mark source span code ≡ true → LeadsInto source span.end
-link_leads None span code h = tt
-link_leads (Some source) span code h =
-    let before = ltb-true span.end (length source) (and_parts (ends_in_link code) (nat_lt span.end (length source)) (and_parts (isnt (is_empty span)) (ends_in_link code && nat_lt span.end (length source)) h).1).1 in
-    omega (arith, before)
-
-piece_leads : (part : TemplatePart) (source : Option (List ℕ)) (span : Span) → has_piece_mark part source span ≡ true → LeadsInto source span.start
-piece_leads whole_part source span h = absurd (both_ways false refl h)
-piece_leads head_part source span h = absurd (both_ways false refl h)
-piece_leads middle_part source span h = start_leads source span h
-piece_leads tail_part source span h = start_leads source span h
-
-start_step : (span : Span) (called : Option (List ℕ)) (p : Pen) → Adds p (marked_if (has_start_mark p.style.source span) span.start called p)
-start_step span called p = marked_if_step (has_start_mark p.style.source span) span.start called p (start_leads p.style.source span)
-
-pub name_step : (span : Span) (w : List ℕ) (p : Pen) → Adds p (name_mark span w p)
-name_step span w p = start_step span (other_name_in p.style.source span w) p
-
-behind_step : (test : Bool) (span : Span) (p : Pen) → Adds p (mark_behind test span p)
-behind_step true span p = start_step span None p
-behind_step false span p = none p
-
-pub spaced_step : (p : Pen) → Adds p (spaced p)
-spaced_step p = written_if_step (is_apart p.ending p.code) (codes " ") p
-
--- ---- items
+-- comments before a block, and the space behind them
+pub block_step : (before : Bool) (o : ℕ) (p : Pen) → Adds p (before_block before o p)
+block_step before o p = step_then (passes_comments all_of_them o p).adds (passes_space (stood before o p) (comments_at all_of_them o p)).adds
 
 pub lay_steps : (items : Items) (p : Pen) → Adds p (lay items p)
 lay_steps nothing p = none p
@@ -235,6 +106,19 @@ lay_steps drop_semicolon p = same p (lay drop_semicolon p) refl refl refl
 lay_steps statement_begins p = same p (lay statement_begins p) refl refl refl
 lay_steps arrow_body_begins p = same p (lay arrow_body_begins p) refl refl refl
 lay_steps default_export_begins p = same p (lay default_export_begins p) refl refl refl
-lay_steps (comments manner offset) p = none p
-lay_steps (orphans offset) p = none p
+lay_steps (comments manner o) p = (passes_comments manner o p).adds
+lay_steps (orphans o) p = (passes_orphans o p).adds
+lay_steps (orphan_lines o) p = (passes_lines_of_orphans o p).adds
+lay_steps (empty_body o) p = (passes_empty_body o p).adds
+lay_steps (held o items) p =
+    let p1 : Pen = without_ending (last_byte o) p in
+    step_then (passes_without (last_byte o) p).adds (step_then (lay_steps items p1) (passes_closing (ending_at (last_byte o) p) (lay items p1)).adds)
+lay_steps (lined_case start end lead items) p =
+    let long : Bool = has_orphans start p in
+    let p1 : Pen = case_begun long lead start p in
+    let p2 : Pen = case_mark long lead p1 in
+    step_then (passes_begun long lead start p).adds (step_then (mark_step long lead p1) (step_then (lay_steps items p2) (passes_ended long p.depth end (lay items p2)).adds))
+lay_steps (caught start body items) p =
+    let p1 : Pen = comments_at all_of_them start p in
+    step_then (passes_comments all_of_them start p).adds (step_then (lay_steps items p1) (block_step (are_any (group_at start p)) body (lay items p1)))
 lay_steps (annotation test kind offset) p = none p

@@ -3,6 +3,7 @@ use Rattle.std.specs.Prelude.{◌≡◌, ℕ, ◌≤◌, List, [], ◌∷◌, �
 use Rattle.jsgen_model.specs.Items.{Items}
 use Rattle.jsgen_map.specs.Marks.{Mark, Ordered, Parted, last_offset}
 use Rattle.jsgen_model.specs.Marks.{size}
+use Rattle.jsgen_model.specs.Comments.{empty_store}
 use Rattle.jsgen_model.specs.Layout.{Pen, layout}
 use Rattle.jsgen_model.specs.Lay.{lay}
 use Rattle.jsgen_mark_laws.specs.Names.{names_of, Stand}
@@ -59,9 +60,9 @@ NamesStand = (items : Items) (pen : Pen) (source : List ℕ) → pen.style.sourc
 abbrev pub with_marks : List Mark → Pen → Pen
 with_marks marks pen = record pen { marks = marks }
 
--- with marks or without, the text and all that matters to what follows is the same
+-- where no comment waits, the text and all that matters to what follows is that of the layout, with marks or without
 abbrev pub QuietIsQuiet : Type 0
-QuietIsQuiet = (items : Items) (pen : Pen) → lay items pen ≡ with_marks (lay items pen).marks (layout items pen)
+QuietIsQuiet = (items : Items) (pen : Pen) → pen.store ≡ empty_store → lay items pen ≡ with_marks (lay items pen).marks (layout items pen)
 
 -- the same pen but for the source
 abbrev pub with_source : Option (List ℕ) → Pen → Pen

@@ -8,9 +8,15 @@ use Rattle.jsgen_model.specs.Punctuator.{Punctuator, Bracket}
 pub data Opener : Type 0 where
   a_brace a_declaration : Opener
 
--- which comments at an offset a row prints: the group, or the group where it holds a property-key annotation
+-- which comments at an offset a row prints, and what stands behind them: the group; the group where it holds a property-key annotation,
+-- with what is due behind it; and the group with a space, in place of any that is due
 pub data Manner : Type 0 where
-  all_of_them with_key_annotation : Manner
+  all_of_them with_key_annotation then_space : Manner
+
+-- what leads to the one statement of a case: to a block, to an empty statement of a span, or to any other
+pub data Lead : Type 0 where
+  to_block to_body : Lead
+  to_empty : Span → Lead
 
 -- what an annotation says of a call or a function: it is pure, or it has no side effects
 pub data Annotation : Type 0 where
@@ -91,8 +97,18 @@ pub data Items : Type 0 where
   marked_indentation : Span → Items
   -- the space before a word, where a mark stands between them
   apart : Items
-  -- the comments that belong to an offset, and those that belong to smaller ones and stand nowhere else
+  -- the comments that belong to an offset, and those that belong to smaller ones and outlive their places
   comments : Manner → ℕ → Items
   orphans : ℕ → Items
+  -- the same on lines of their own, in braces in which nothing else stands
+  orphan_lines : ℕ → Items
+  -- the inside of a body that ends before an offset, in which nothing stands but comments at its last byte
+  empty_body : ℕ → Items
+  -- the comments at the last byte before an offset, which are taken before the items, and are printed behind them
+  held : ℕ → Items → Items
+  -- the one statement of a case by its start, and by the end of the case: behind what leads to it, or on a line of its own, where an orphan waits before it
+  lined_case : ℕ → ℕ → Lead → Items → Items
+  -- a `catch` by its start, and by that of its block, before which a space is due where comments stood at either
+  caught : ℕ → ℕ → Items → Items
   -- an annotation, where the test holds, of what has this offset
   annotation : Bool → Annotation → ℕ → Items

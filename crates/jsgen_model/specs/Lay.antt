@@ -1,14 +1,16 @@
--- The text and the marks that items give, from a pen: `layout` has the text alone.
-use Rattle.std.specs.Prelude.{ℕ, List, ◌∷◌, ◌++◌, ◌-◌, nat_lt, Bool, false, Option, None, ◌&&◌, ◌||◌, codes, if◌then◌else◌}
+-- The text, the comments and the marks that items give, from a pen: `layout` has the text alone, as it is without comments.
+use Rattle.std.specs.Prelude.{ℕ, List, ◌∷◌, ◌++◌, ◌-◌, nat_lt, Bool, true, false, Option, None, ◌&&◌, ◌||◌, codes, if◌then◌else◌}
 use Rattle.jsgen_syntax.specs.Escapes.{name_text, has_escapes}
 use Rattle.jsgen_syntax.specs.Raw.{template_text}
 use Rattle.jsgen_syntax.specs.declared.span.Span.{Span}
 use Rattle.jsgen_tree.specs.Named.{printed_name}
 use Rattle.jsgen_model.specs.Punctuator.{Punctuator, Round, opening, closing, punctuator_text}
-use Rattle.jsgen_model.specs.Items.{Items, TemplatePart, whole_part, head_part, middle_part, tail_part, ◌⊕◌, name, private_name, template_part, deeper, in_class, brackets, wrapped, wrapped_at_start, parentheses_unless_minified, unless_minified, where_same, mark, end_mark, link_mark, marked_word, marked_operator, marked_number, marked_indentation, indentation}
+use Rattle.jsgen_model.specs.Items.{Items, TemplatePart, whole_part, head_part, middle_part, tail_part, ◌⊕◌, name, private_name, template_part, deeper, in_class, brackets, wrapped, wrapped_at_start, parentheses_unless_minified, unless_minified, where_same, mark, end_mark, link_mark, marked_word, marked_operator, marked_number, marked_indentation, indentation, comments, orphans, orphan_lines, empty_body, held, lined_case, caught, Lead, to_empty, all_of_them}
 use Rattle.jsgen_model.specs.Marks.{one_more_if, size, other_name_in, has_start_mark, has_end_mark, has_link_mark}
 use Rattle.jsgen_model.specs.Layout.{Pen, other_end, operator_end, written, written_if, is_apart, joins, number_ending, name_ending, is_barred, deeper_level, entered, with_private_name, are_same, not, layout}
 use Rattle.jsgen_model.specs.Private.{printed_private}
+use Rattle.jsgen_model.specs.Comments.{are_any}
+use Rattle.jsgen_model.specs.Groups.{comments_at, orphans_before, has_orphans, orphan_lines_at, empty_body_at, group_at, last_byte, ending_at, without_ending, closing_group, case_begun, case_ended, space_behind}
 
 -- ---- marks
 
@@ -74,6 +76,21 @@ part_closing head_part = codes "${"
 part_closing middle_part = codes "${"
 part_closing tail_part = codes "`"
 
+-- ---- comments
+
+-- on a line of its own an empty statement has its mark
+abbrev pub case_mark : Bool → Lead → Pen → Pen
+case_mark true (to_empty s) pen = span_mark s pen
+case_mark long lead pen = pen
+
+-- comments stand there, or stood there before
+abbrev pub stood : Bool → ℕ → Pen → Bool
+stood before o pen = before || are_any (group_at o pen)
+
+-- the start of a block behind `catch`
+abbrev pub before_block : Bool → ℕ → Pen → Pen
+before_block before o pen = space_behind (stood before o pen) (comments_at all_of_them o pen)
+
 -- ---- the whole
 
 -- the pen after the items: of two, after the second from where the first ends
@@ -97,5 +114,12 @@ lay (marked_word span w) pen = written w other_end (span_mark span (spaced pen))
 lay (marked_operator span p) pen = written (punctuator_text p) (operator_end p) (span_mark span (parted p pen))
 lay (marked_number span dot_is_its_own w) pen = written w (number_ending dot_is_its_own) (span_mark span (spaced pen))
 lay (marked_indentation span) pen = mark_behind (may_be_indented pen) span (layout indentation pen)
--- what has no mark is as in the text
+lay (comments manner o) pen = comments_at manner o pen
+lay (orphans o) pen = orphans_before o pen
+lay (orphan_lines o) pen = orphan_lines_at o pen
+lay (empty_body o) pen = empty_body_at o pen
+lay (held o items) pen = closing_group (ending_at (last_byte o) pen) (lay items (without_ending (last_byte o) pen))
+lay (lined_case start end lead items) pen = case_ended (has_orphans start pen) pen.depth end (lay items (case_mark (has_orphans start pen) lead (case_begun (has_orphans start pen) lead start pen)))
+lay (caught start body items) pen = before_block (are_any (group_at start pen)) body (lay items (comments_at all_of_them start pen))
+-- what has no mark and no comment is as in the text
 lay item pen = layout item pen

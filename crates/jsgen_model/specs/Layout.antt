@@ -14,8 +14,9 @@ use Rattle.jsgen_tree.specs.Options.{Options}
 use Rattle.jsgen_tree.specs.Job.{Tables}
 use Rattle.jsgen_tree.specs.Named.{Named, printed_name}
 use Rattle.jsgen_model.specs.Punctuator.{Punctuator, plus, plus_plus, minus, minus_minus, bang, equal_equal, equal_equal_equal, punctuator_text, Round, opening, closing}
-use Rattle.jsgen_model.specs.Items.{Items, TemplatePart, whole_part, head_part, middle_part, tail_part, nothing, ◌⊕◌, word, name, private_name, number, literal, regular_expression, template_part, string, first_string, directive, punctuator, operator, member_dot, soft_space, soft_line, hard_space, indentation, body_space, deeper, in_class, brackets, wrapped, wrapped_at_start, Opener, a_brace, a_declaration, parentheses_unless_minified, where_same, statement_end, due_semicolon, drop_semicolon, statement_begins, arrow_body_begins, default_export_begins, mark, end_mark, link_mark, marked_word, comments, orphans, annotation, unless_minified, marked_operator, marked_number, marked_indentation, apart}
+use Rattle.jsgen_model.specs.Items.{Items, TemplatePart, whole_part, head_part, middle_part, tail_part, nothing, ◌⊕◌, word, name, private_name, number, literal, regular_expression, template_part, string, first_string, directive, punctuator, operator, member_dot, soft_space, soft_line, hard_space, indentation, body_space, deeper, in_class, brackets, wrapped, wrapped_at_start, Opener, a_brace, a_declaration, parentheses_unless_minified, where_same, statement_end, due_semicolon, drop_semicolon, statement_begins, arrow_body_begins, default_export_begins, mark, end_mark, link_mark, marked_word, comments, orphans, annotation, unless_minified, marked_operator, marked_number, marked_indentation, apart, orphan_lines, empty_body, held, lined_case, caught, Lead, to_block, to_body, to_empty}
 use Rattle.jsgen_map.specs.Marks.{Mark}
+use Rattle.jsgen_model.specs.Comments.{Store, empty_store}
 use Rattle.jsgen_model.specs.Private.{classes_within, printed_private}
 
 -- what never changes: whether the text is minified and whether it is ASCII, the quote of pretty text and of directives, what a level of indentation is made of, the tables by which names are printed, and the bytes of the source, where a source map is wanted
@@ -61,6 +62,8 @@ pub record Pen : Type 0 where
   pub next_class : ℕ
   -- the marks of a source map so far
   pub marks : List Mark
+  -- the comments that are still to be printed
+  pub store : Store
 
 -- the code goes on with this text, which ends so
 abbrev pub written : List ℕ → Ending → Pen → Pen
@@ -236,6 +239,14 @@ first_text style units = if style.minified then quoted Backtick style.ascii unit
 abbrev pub directive_quoted : Style → List ℕ → List ℕ
 directive_quoted style raw = quote_char (directive_quote style.quote raw) ∷ (directive_text style.ascii raw ++ quote_char (directive_quote style.quote raw) ∷ [])
 
+-- ---- cases
+
+-- what leads to the one statement of a case
+abbrev pub led : Lead → Pen → Pen
+led to_block pen = written_if (not pen.style.minified) (codes " ") pen
+led to_body pen = record pen { pending_space = true }
+led (to_empty s) pen = pen
+
 -- ---- the whole
 
 -- the pen after the items: of two, after the second from where the first ends
@@ -274,7 +285,7 @@ layout drop_semicolon pen = with_semicolon false pen
 layout statement_begins pen = record pen { start = statement }
 layout arrow_body_begins pen = record pen { start = arrow_body }
 layout default_export_begins pen = record pen { start = default_export }
--- none of the text are marks, which `lay` has, and comments and annotations, which aren't printed yet
+-- none of the text are marks and comments, which `lay` has, and annotations, which aren't printed yet
 layout (marked_word span w) pen = written (space_if (is_apart pen.ending pen.code) ++ w) other_end pen
 layout (marked_operator span p) pen = written (space_if (joins pen.ending pen.code p) ++ punctuator_text p) (operator_end p) pen
 layout (marked_number span dot_is_its_own w) pen = written (space_if (is_apart pen.ending pen.code) ++ w) (number_ending dot_is_its_own) pen
@@ -285,11 +296,16 @@ layout (end_mark span) pen = pen
 layout (link_mark span) pen = pen
 layout (comments manner offset) pen = pen
 layout (orphans offset) pen = pen
+layout (orphan_lines offset) pen = pen
+layout (empty_body offset) pen = pen
+layout (held offset items) pen = layout items pen
+layout (lined_case start end lead items) pen = layout items (led lead pen)
+layout (caught start body items) pen = layout items pen
 layout (annotation test kind offset) pen = pen
 
 -- before anything is printed
 abbrev pub empty_pen : Style → ℕ → Pen
-empty_pen style depth = record { style = style; code = []; depth = depth; pending_space = false; pending_semicolon = false; ending = other_end; start = statement; classes = []; next_class = 0; marks = [] }
+empty_pen style depth = record { style = style; code = []; depth = depth; pending_space = false; pending_semicolon = false; ending = other_end; start = statement; classes = []; next_class = 0; marks = []; store = empty_store }
 
 -- the style of these options and tables
 abbrev pub style_of : Options → Tables → Style

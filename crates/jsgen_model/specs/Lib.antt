@@ -3,7 +3,10 @@ pub mod Items
 pub mod Private
 pub mod Spans
 pub mod Marks
+pub mod Comments
 pub mod Layout
+pub mod Groups
+pub mod Ends
 pub mod Lay
 pub mod Printing
 pub mod Quotes

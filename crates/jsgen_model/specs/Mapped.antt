@@ -1,22 +1,17 @@
 -- The source map of a job, by the marks of its layout.
 use Rattle.std.specs.Prelude.{List, [], ℕ, Some, map}
-use Rattle.std.specs.Str.{encode_utf8_all}
 use Rattle.jsgen_tree.specs.Job.{JobData}
 use Rattle.jsgen_map.specs.Marks.{Mark, names_from, token_of}
 use Rattle.jsgen_map.specs.declared.source_map.Token.{Token}
 use Rattle.jsgen_place.specs.Place.{among_statements}
-use Rattle.jsgen_model.specs.Layout.{Pen, empty_pen, style_of}
+use Rattle.jsgen_model.specs.Layout.{Pen, style_of}
 use Rattle.jsgen_model.specs.Lay.{lay}
-use Rattle.jsgen_model.specs.Spell.{spell, text_bytes}
-use Rattle.jsgen_model.specs.Valid.{source_of}
-
--- the bytes of the source of a job's program
-abbrev pub source_bytes : JobData → List ℕ
-source_bytes job = encode_utf8_all (source_of job.program)
+use Rattle.jsgen_model.specs.Spell.{spell, first_pen, text_bytes}
+pub use Rattle.jsgen_model.specs.Spell.{source_bytes}
 
 -- before anything is printed, where marks lead to the source
 abbrev pub mapped_pen : JobData → Pen
-mapped_pen job = empty_pen (record (style_of job.options job.tables) { source = Some (source_bytes job) }) job.options.initial_indent
+mapped_pen job = record (first_pen job) { style = record (style_of job.options job.tables) { source = Some (source_bytes job) } }
 
 abbrev pub marks_of : JobData → List Mark
 marks_of job = (lay (spell job.program among_statements) (mapped_pen job)).marks

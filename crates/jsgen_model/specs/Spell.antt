@@ -35,10 +35,13 @@ use Rattle.jsgen_tree.specs.Nodes as tree
 use Rattle.jsgen_model.specs.Numbers.{takes_no_dot}
 use Rattle.jsgen_model.specs.Punctuator.{ellipsis, comma, semicolon, equal, minus, Round, Square, Brace, colon, question, question_dot, arrow, star}
 use Rattle.jsgen_model.specs.Quotes.{is_require_call, is_definition_call, is_key_of_exports, is_export_mark}
-use Rattle.jsgen_model.specs.Items.{Items, TemplatePart, whole_part, head_part, middle_part, tail_part, nothing, ◌⊕◌, word, name, private_name, number, template_part, with_key_annotation, string, marked_number, first_string, directive, punctuator, operator, member_dot, brackets, soft_space, soft_line, hard_space, body_space, deeper, in_class, indentation, wrapped, wrapped_at_start, a_brace, a_declaration, parentheses_unless_minified, where_same, statement_end, due_semicolon, drop_semicolon, statement_begins, arrow_body_begins, unless_minified, literal, default_export_begins, end_mark, link_mark, marked_operator, marked_indentation}
+use Rattle.jsgen_model.specs.Items.{Items, TemplatePart, whole_part, head_part, middle_part, tail_part, nothing, ◌⊕◌, word, name, private_name, number, template_part, with_key_annotation, string, marked_number, first_string, directive, punctuator, operator, member_dot, brackets, soft_space, soft_line, hard_space, body_space, deeper, in_class, indentation, wrapped, wrapped_at_start, a_brace, a_declaration, parentheses_unless_minified, where_same, statement_end, due_semicolon, drop_semicolon, statement_begins, arrow_body_begins, unless_minified, literal, default_export_begins, end_mark, link_mark, marked_operator, marked_indentation, orphans, orphan_lines, empty_body, held, lined_case, caught, then_space, Lead, to_block, to_body, to_empty}
 use Rattle.jsgen_tree.specs.Nodes as tree
 use Rattle.jsgen_model.specs.Lay.{lay}
-use Rattle.jsgen_model.specs.Layout.{empty_pen, style_of}
+use Rattle.jsgen_model.specs.Comments.{kept}
+use Rattle.jsgen_model.specs.Ends.{ended}
+use Rattle.jsgen_model.specs.Valid.{source_of}
+use Rattle.jsgen_model.specs.Layout.{Pen, empty_pen, style_of}
 use Rattle.jsgen_model.specs.Operators.{operator_item, logical_item, unary_sign, behind_unary, update_item, assignment_item, marked}
 -- generated from tools/nodes/table.txt: names
 use Rattle.jsgen_tree.specs.Values.{reg_exp_literal_pattern, reg_exp_literal_flags, yield_expression_delegate}
@@ -129,9 +132,9 @@ abbrev pub items_if : Bool → Items → Items
 items_if true items = items
 items_if false items = nothing
 
--- among statements a declaration has indentation and an end
-abbrev pub as_statement : Bool → Items → Items
-as_statement test items = items_if test indentation ⊕ (items ⊕ items_if test statement_end)
+-- among statements a declaration has comments, indentation and an end; the number is where it begins
+abbrev pub as_statement : Bool → ℕ → Items → Items
+as_statement test start items = items_if test (comments all_of_them start ⊕ indentation) ⊕ (items ⊕ items_if test statement_end)
 
 -- ---- the first statement of a body
 
@@ -145,7 +148,7 @@ string_statement (tree.expression_statement a expression) = string_in (without_p
 string_statement t = None
 
 abbrev pub unless_string : Span → Span → Option (List ℕ) → Items → Items
-unless_string line own (Some units) items = marked_indentation line ⊕ (mark own ⊕ (first_string units ⊕ statement_end))
+unless_string line own (Some units) items = comments all_of_them line.start ⊕ (marked_indentation line ⊕ (mark own ⊕ (first_string units ⊕ statement_end)))
 unless_string line own None items = items
 
 -- where the string stands
@@ -169,6 +172,11 @@ empty_braces s = mark s ⊕ (brackets Brace (end_mark s) ⊕ drop_semicolon)
 abbrev pub braces : Span → Trees → Items → Items
 braces s no_trees items = empty_braces s
 braces s ts items = filled_braces s items
+
+-- braces round statements, behind which orphans may stand
+abbrev pub block_braces : Span → Trees → Items → Items
+block_braces s no_trees items = mark s ⊕ (brackets Brace (orphan_lines s.end ⊕ end_mark s) ⊕ drop_semicolon)
+block_braces s ts items = filled_braces s (items ⊕ orphans s.end)
 
 -- among statements a block is a line of its own
 abbrev pub block_items : Bool → Items → Items
@@ -201,7 +209,7 @@ consequent_items own shapes.Empty false inner whole else_follows = punctuator se
 consequent_items own s false inner whole else_follows = body_space ⊕ (whole ⊕ body_end else_follows)
 consequent_items own s true inner whole else_follows = soft_space ⊕ (filled_braces own whole ⊕ braces_end else_follows)
 
--- what the head of a loop, a label or a case is followed by: a block goes on with the line, and any other statement stands behind one space
+-- what the head of a loop or a label is followed by: a block goes on with the line, and any other statement stands behind one space
 abbrev pub body_items : Shape → Items → Items → Items
 body_items shapes.Block inner whole = soft_space ⊕ (inner ⊕ soft_line)
 body_items shapes.Empty inner whole = punctuator semicolon ⊕ soft_line
@@ -215,8 +223,19 @@ alternate_items s inner whole = body_items s inner whole
 -- what stands between `do` and `while`, which has a span: a statement that is no block stands on a line of its own, with its semicolon
 abbrev pub do_items : Span → Shape → Items → Items → Items
 do_items own shapes.Block inner whole = soft_space ⊕ (inner ⊕ soft_space)
-do_items own shapes.Empty inner whole = mark own ⊕ (punctuator semicolon ⊕ (soft_line ⊕ indentation))
+do_items own shapes.Empty inner whole = comments all_of_them own.start ⊕ (mark own ⊕ (punctuator semicolon ⊕ (soft_line ⊕ indentation)))
 do_items own s inner whole = soft_line ⊕ (deeper (whole ⊕ due_semicolon) ⊕ indentation)
+
+-- the same of the one statement of a case: what leads to it, and the statement
+abbrev pub lead_to : Shape → Span → Lead
+lead_to shapes.Block own = to_block
+lead_to shapes.Empty own = to_empty own
+lead_to s own = to_body
+
+abbrev pub led_items : Shape → Items → Items → Items
+led_items shapes.Block inner whole = inner ⊕ soft_line
+led_items shapes.Empty inner whole = punctuator semicolon ⊕ soft_line
+led_items s inner whole = whole
 
 -- what stands behind the colon of a case: one statement as a body, or any other number on lines of their own
 abbrev pub case_items : Trees → Items → Items → Items
@@ -288,7 +307,7 @@ object_inside ts items = on_lines true items
 
 -- a string that is a key is never in backticks
 abbrev pub key_text : Tree → Items → Items
-key_text (tree.string_literal a) items = mark a.span ⊕ string false (string_literal_value a)
+key_text (tree.string_literal a) items = comments with_key_annotation a.span.start ⊕ (mark a.span ⊕ string false (string_literal_value a))
 key_text key items = items
 
 -- a key stands in brackets where it is computed, and where it is a negative number, which is no key by itself (ECMA-262, 13.2.5)
@@ -389,11 +408,11 @@ abbrev pub parameter_items : Bool → Items → Items
 parameter_items true items = parentheses_unless_minified items
 parameter_items false items = brackets Round items
 
--- a declaration among statements is a line of its own, and is never in parentheses
-abbrev pub function_items : FunctionKind → Bool → Place → Items → Items
-function_items function_kinds.Declaration pife place items = block_items place.in_list items
+-- a declaration among statements is a line of its own, and is never in parentheses; the number is where it begins
+abbrev pub function_items : FunctionKind → Bool → Place → ℕ → Items → Items
+function_items function_kinds.Declaration pife place start items = items_if place.in_list (comments all_of_them start) ⊕ block_items place.in_list items
 -- an expression stands in parentheses where it is marked so, and where a statement or a default export begins with it
-function_items function_kinds.Expression pife place items = wrapped_at_start pife a_declaration items
+function_items function_kinds.Expression pife place start items = wrapped_at_start pife a_declaration items
 
 -- the words before a function's name (ECMA-262, 15.2, 15.5, 15.6 and 15.8); the tests tell that it is `async`, and a generator. Of two
 -- marks of one span, one behind the other, the second is left out
@@ -410,10 +429,10 @@ abbrev pub method_words : Tree → Items
 method_words (tree.function a id params body) = items_if (function_is_async a) (key_word (codes "async")) ⊕ items_if (function_generator a) (punctuator star)
 method_words t = nothing
 
--- the braces of a function's body, in which an empty one has nothing
+-- the braces of a function's body, in which an empty one has comments alone; those at its last byte stand at its end
 abbrev pub body_braces : Span → Trees → Trees → Items → Items
-body_braces s no_trees no_trees items = empty_braces s
-body_braces s directives statements items = filled_braces s items
+body_braces s no_trees no_trees items = mark s ⊕ (brackets Brace (empty_body s.end ⊕ end_mark s) ⊕ drop_semicolon)
+body_braces s directives statements items = filled_braces s (held s.end (items ⊕ orphans s.end))
 
 -- where an arrow function's body is an expression, it begins behind the arrow
 abbrev pub body_begins : NodeType → Items
@@ -595,14 +614,16 @@ default_items false declaration expression = default_export_begins ⊕ (expressi
 
 abbrev mutual
   pub spell : Tree → Place → Items
-  spell (tree.program a _ hashbang directives body) place = spell_if_given hashbang place ⊕ (spell_directives directives ⊕ (spell_body body ⊕ due_semicolon))
-  spell (tree.directive a) place = indentation ⊕ (mark a.span ⊕ (directive (as_text (directive_directive a)) ⊕ (punctuator semicolon ⊕ soft_line)))
+  spell (tree.program a _ hashbang directives body) place =
+      comments all_of_them 0 ⊕ (spell_if_given hashbang place ⊕ (spell_directives directives ⊕ (spell_body body ⊕ (orphans a.span.end ⊕ (due_semicolon ⊕ comments all_of_them a.span.end)))))
+  spell (tree.directive a) place =
+      comments all_of_them a.span.start ⊕ (indentation ⊕ (mark a.span ⊕ (directive (as_text (directive_directive a)) ⊕ (punctuator semicolon ⊕ soft_line))))
   spell (tree.binding_identifier a) place = name a.span (binding_named a)
   spell (tree.identifier_reference a) place = name a.span (reference_named a)
   spell (tree.boolean_literal a) place = mark a.span ⊕ word (truth_word (boolean_literal_value a))
   spell (tree.numeric_literal a) place = mark a.span ⊕ number_items (numeric_literal_kind a) a place
   spell (tree.big_int_literal a) place = big_integer_items a.span (big_int_literal_value a) (behind_minus (big_int_literal_value a)) place
-  spell (tree.string_literal a) place = mark a.span ⊕ string (not place.plain_quotes) (string_literal_value a)
+  spell (tree.string_literal a) place = comments with_key_annotation a.span.start ⊕ (mark a.span ⊕ string (not place.plain_quotes) (string_literal_value a))
   spell (tree.binary a left right) place =
       operation (binary_wraps (binary_expression_operator a) place) (operator_item (binary_expression_operator a))
       (spell left (quoted_plainly (is_export_mark (binary_expression_operator a) left) (left_operand (left_level (binary_expression_operator a) left) (within (binary_wraps (binary_expression_operator a) place) place))))
@@ -611,35 +632,37 @@ abbrev mutual
       operation (logical_wraps (logical_expression_operator a) place) (logical_item (logical_expression_operator a))
       (spell left (left_operand (unmixed (logical_expression_operator a) left (logical_lower_level (logical_expression_operator a))) (within (logical_wraps (logical_expression_operator a) place) place)))
       (spell right (child (unmixed (logical_expression_operator a) right (logical_level (logical_expression_operator a))) (within (logical_wraps (logical_expression_operator a) place) place)))
-  spell (tree.block a body) place = block_items place.in_list (braces a.span body (spell_statements body))
+  spell (tree.block a body) place =
+      items_if place.in_list (comments all_of_them a.span.start) ⊕ block_items place.in_list (block_braces a.span body (spell_statements body))
   spell (tree.if_statement a test consequent alternate) place =
-      items_if place.in_list indentation ⊕ (marked_word a.span (codes "if") ⊕ (soft_space ⊕ (brackets Round (spell test (in_brackets Lowest))
+      items_if place.in_list (comments all_of_them a.span.start ⊕ indentation) ⊕ (marked_word a.span (codes "if") ⊕ (soft_space ⊕ (brackets Round (spell test (in_brackets Lowest))
       ⊕ (consequent_items (span_of consequent) (shape consequent) (ends_open consequent) (spell consequent within_statement) (spell consequent among_statements) (is_given alternate)
       ⊕ spell_alternate alternate))))
   spell (tree.for_statement a init test update body) place =
-      indentation ⊕ (marked_word a.span (codes "for") ⊕ (soft_space ⊕ (brackets Round (spell_if_given init loop_head
+      comments all_of_them a.span.start ⊕ (indentation ⊕ (marked_word a.span (codes "for") ⊕ (soft_space ⊕ (brackets Round (spell_if_given init loop_head
       ⊕ (punctuator semicolon ⊕ (spell_apart test (in_brackets Lowest) ⊕ (punctuator semicolon ⊕ spell_apart update (in_brackets Lowest)))))
-      ⊕ body_items (shape body) (spell body within_statement) (spell body among_statements))))
+      ⊕ body_items (shape body) (spell body within_statement) (spell body among_statements)))))
   spell (tree.for_in_statement a left right body) place =
-      indentation ⊕ (marked_word a.span (codes "for") ⊕ (soft_space ⊕ (brackets Round (spell left (left_place (type_of left))
+      comments all_of_them a.span.start ⊕ (indentation ⊕ (marked_word a.span (codes "for") ⊕ (soft_space ⊕ (brackets Round (spell left (left_place (type_of left))
       ⊕ (soft_space ⊕ (word (codes "in") ⊕ (soft_space ⊕ spell right (in_brackets Lowest)))))
-      ⊕ body_items (shape body) (spell body within_statement) (spell body among_statements))))
+      ⊕ body_items (shape body) (spell body within_statement) (spell body among_statements)))))
   spell (tree.for_of_statement a left right body) place =
-      indentation ⊕ (marked_word a.span (codes "for") ⊕ (items_if (for_of_statement_is_await a) (hard_space ⊕ word (codes "await")) ⊕ (soft_space
+      comments all_of_them a.span.start ⊕ (indentation ⊕ (marked_word a.span (codes "for") ⊕ (items_if (for_of_statement_is_await a) (hard_space ⊕ word (codes "await")) ⊕ (soft_space
       ⊕ (brackets Round (before_of (for_of_statement_is_await a) (looked_up_in left) (spell left (left_place (type_of left)))
       ⊕ (soft_space ⊕ (word (codes "of") ⊕ (soft_space ⊕ spell right (in_brackets Comma)))))
-      ⊕ body_items (shape body) (spell body within_statement) (spell body among_statements)))))
+      ⊕ body_items (shape body) (spell body within_statement) (spell body among_statements))))))
   spell (tree.do_while_statement a body test) place =
-      indentation ⊕ (marked_word a.span (codes "do") ⊕ (do_items (span_of body) (shape body) (spell body within_statement) (spell body among_statements)
-      ⊕ (word (codes "while") ⊕ (soft_space ⊕ (brackets Round (spell test (in_brackets Lowest)) ⊕ statement_end)))))
+      comments all_of_them a.span.start ⊕ (indentation ⊕ (marked_word a.span (codes "do") ⊕ (do_items (span_of body) (shape body) (spell body within_statement) (spell body among_statements)
+      ⊕ (word (codes "while") ⊕ (soft_space ⊕ (brackets Round (spell test (in_brackets Lowest)) ⊕ statement_end))))))
   spell (tree.switch_statement a discriminant cases) place =
-      indentation ⊕ (marked_word a.span (codes "switch") ⊕ (soft_space ⊕ (brackets Round (spell discriminant (in_brackets Lowest))
-      ⊕ (soft_space ⊕ (braces a.span cases (spell_statements cases) ⊕ soft_line)))))
+      comments all_of_them a.span.start ⊕ (indentation ⊕ (marked_word a.span (codes "switch") ⊕ (soft_space ⊕ (brackets Round (spell discriminant (in_brackets Lowest))
+      ⊕ (soft_space ⊕ (braces a.span cases (spell_cases cases) ⊕ soft_line))))))
   spell (tree.switch_case a test consequent) place =
-      indentation ⊕ (mark a.span ⊕ (spell_test test (in_brackets Lowest) ⊕ (punctuator colon ⊕ case_items consequent (spell_only consequent) (spell_statements consequent))))
+      comments all_of_them a.span.start ⊕ (indentation ⊕ (mark a.span ⊕ (spell_test test (in_brackets Lowest) ⊕ (punctuator colon ⊕ case_items consequent (spell_only a.span.end consequent) (spell_statements consequent ⊕ orphans a.span.end)))))
   spell (tree.try_statement a block handler finalizer) place =
-      indentation ⊕ (marked_word a.span (codes "try") ⊕ (soft_space ⊕ (spell block within_statement ⊕ (spell_if_given handler within_statement ⊕ (spell_finalizer finalizer ⊕ soft_line)))))
-  spell (tree.catch_clause a param body) place = soft_space ⊕ (word (codes "catch") ⊕ (spell_caught param (child Lowest place) ⊕ (soft_space ⊕ spell body within_statement)))
+      comments all_of_them a.span.start ⊕ (indentation ⊕ (marked_word a.span (codes "try") ⊕ (soft_space ⊕ (spell block within_statement ⊕ (spell_if_given handler within_statement ⊕ (spell_finalizer finalizer ⊕ soft_line))))))
+  spell (tree.catch_clause a param body) place =
+      soft_space ⊕ (caught a.span.start (span_of body).start (word (codes "catch") ⊕ (spell_caught param (child Lowest place) ⊕ soft_space)) ⊕ spell body within_statement)
   spell (tree.static_member a object property) place = linked_items object (spell object (linked place)) ⊕ (name_link (static_member_expression_optional a) ⊕ spell property (child Lowest place))
   spell (tree.computed_member a object expression) place = linked_items object (spell object (linked place)) ⊕ (bracket_link (computed_member_expression_optional a) ⊕ brackets Square (spell expression (quoted_plainly place.plain_quotes (in_brackets Lowest))))
   spell (tree.call a callee arguments) place =
@@ -681,7 +704,7 @@ abbrev mutual
       ⊕ (parameter_items (is_name_alone params) (spell params (child Comma (within true place)))
       ⊕ (soft_space ⊕ (punctuator arrow ⊕ (soft_space ⊕ (body_begins (type_of body) ⊕ spell body (child Comma (within (arrow_wraps (arrow_function_expression_pife a) place) place))))))))
   spell (tree.function a id params body) place =
-      function_items (function_kind a) (function_pife a) place (function_words a.span (function_is_async a) (function_generator a) ⊕ (spell_if_given id (child Lowest place)
+      function_items (function_kind a) (function_pife a) place a.span.start (function_words a.span (function_is_async a) (function_generator a) ⊕ (spell_if_given id (child Lowest place)
       ⊕ (brackets Round (spell params (with_calls (child Comma place))) ⊕ spell_apart body within_statement)))
   spell (tree.function_body a directives statements) place =
       body_braces a.span directives statements (spell_directives directives ⊕ spell_body statements)
@@ -702,7 +725,7 @@ abbrev mutual
   -- what a class is made of has its private names; what it extends hasn't (ECMA-262, 15.7)
   spell (tree.class_body a body) place = in_class (braces a.span body (spell_elements_of_class body (member place)))
   spell (tree.static_block a body) place =
-      element_items place.in_list a.span.start (mark a.span ⊕ (key_word (codes "static") ⊕ braces a.span body (spell_statements body))) soft_line
+      element_items place.in_list a.span.start (mark a.span ⊕ (key_word (codes "static") ⊕ block_braces a.span body (spell_statements body))) soft_line
   spell (tree.method_definition a key value) place =
       element_items place.in_list a.span.start (mark a.span ⊕ (items_if (method_definition_is_static a) (key_word (codes "static")) ⊕ (method_kind_word (method_definition_kind a)
       ⊕ (method_words value ⊕ (key_items (method_definition_computed a) key (spell key (in_brackets Comma)) ⊕ spell_method value place))))) soft_line
@@ -733,7 +756,7 @@ abbrev mutual
       module_word a.span (codes "export") ⊕ (soft_space ⊕ (spaced_braces specifiers (spell_list specifiers plainly) ⊕ (soft_space ⊕ (word (codes "from")
       ⊕ (soft_space ⊕ (spell source plainly ⊕ (spell_attributes false with_attributes ⊕ statement_end)))))))
   spell (tree.export_specifier a local exported) place =
-      spell local plainly ⊕ unless_same local exported (as_name (spell exported plainly))
+      comments then_space (span_of local).start ⊕ (spell local plainly ⊕ unless_same local exported (as_name (comments then_space (span_of exported).start ⊕ spell exported plainly)))
   spell (tree.export_all_declaration a exported source with_attributes) place =
       module_word a.span (codes "export") ⊕ (soft_space ⊕ (punctuator star ⊕ (spell_exported exported ⊕ (word (codes "from")
       ⊕ (soft_space ⊕ (spell source plainly ⊕ (spell_attributes true with_attributes ⊕ statement_end)))))))
@@ -742,7 +765,7 @@ abbrev mutual
       ⊕ default_items (is_declared declaration) (spell declaration within_statement) (spell declaration (in_brackets Comma)))))
   -- generated from tools/nodes/table.txt: clauses
   spell (tree.variable_declaration a declarations) place =
-      as_statement place.in_list (mark a.span ⊕ (word (declaration_word (variable_declaration_kind a)) ⊕ (soft_space
+      as_statement place.in_list a.span.start (mark a.span ⊕ (word (declaration_word (variable_declaration_kind a)) ⊕ (soft_space
       ⊕ spell_list declarations (child Lowest place))))
   spell (tree.variable_declarator a id init) place = spell id (child Lowest place) ⊕ spell_value init (child Comma place)
   spell (tree.expression_statement a expression) place =
@@ -818,14 +841,20 @@ abbrev mutual
   -- the statements of a body
   pub spell_body : Trees → Items
   spell_body no_trees = nothing
-  spell_body (more t ts) = due_semicolon ⊕ (first_statement t (spell t among_statements) ⊕ spell_statements ts)
+  spell_body (more t ts) = orphans (span_of t).start ⊕ (due_semicolon ⊕ (first_statement t (spell t among_statements) ⊕ spell_statements ts))
   spell_body (hole ts) = spell_body ts
 
-  -- a list of statements or of cases, each after the semicolon that the one before may have left
+  -- a list of statements, each after orphans and the semicolon that the one before may have left
   pub spell_statements : Trees → Items
   spell_statements no_trees = nothing
-  spell_statements (more t ts) = due_semicolon ⊕ (spell t among_statements ⊕ spell_statements ts)
+  spell_statements (more t ts) = orphans (span_of t).start ⊕ (due_semicolon ⊕ (spell t among_statements ⊕ spell_statements ts))
   spell_statements (hole ts) = spell_statements ts
+
+  -- a list of cases, each after the semicolon that the one before may have left
+  pub spell_cases : Trees → Items
+  spell_cases no_trees = nothing
+  spell_cases (more t ts) = due_semicolon ⊕ (spell t among_statements ⊕ spell_cases ts)
+  spell_cases (hole ts) = spell_cases ts
 
   -- the members of a class, each after the semicolon that the one before may have left
   pub spell_elements_of_class : Trees → Place → Items
@@ -917,11 +946,11 @@ abbrev mutual
   spell_alternate absent = nothing
   spell_alternate (given t) = due_semicolon ⊕ (word (codes "else") ⊕ alternate_items (shape t) (spell t within_statement) (spell t among_statements))
 
-  -- the first statement of a case that has no other
-  pub spell_only : Trees → Items
-  spell_only no_trees = nothing
-  spell_only (more t ts) = body_items (shape t) (spell t within_statement) (spell t among_statements)
-  spell_only (hole ts) = nothing
+  -- the first statement of a case that has no other; the number is where the case ends
+  pub spell_only : ℕ → Trees → Items
+  spell_only end no_trees = nothing
+  spell_only end (more t ts) = lined_case (span_of t).start end (lead_to (shape t) (span_of t)) (led_items (shape t) (spell t within_statement) (spell t among_statements))
+  spell_only end (hole ts) = nothing
 
   -- what a case begins with
   pub spell_test : Maybe → Place → Items
@@ -951,9 +980,27 @@ abbrev mutual
   spell_value absent place = nothing
   spell_value (given t) place = soft_space ⊕ (punctuator equal ⊕ (soft_space ⊕ spell t place))
 
--- the characters of the text of a job's program, whose first line is at the level that the options ask for
+-- ---- the text of a program
+
+abbrev pub comments_in : Tree → Trees
+comments_in (tree.program a comment_rows hashbang directives body) = comment_rows
+comments_in t = no_trees
+
+-- the bytes of the source of a job's program
+abbrev pub source_bytes : JobData → List ℕ
+source_bytes job = encode_utf8_all (source_of job.program)
+
+-- before anything is printed of a job's program, whose first line is at the level that the options ask for
+abbrev pub first_pen : JobData → Pen
+first_pen job = record (empty_pen (style_of job.options job.tables) job.options.initial_indent) { store = kept job.options.comments (source_bytes job) (comments_in job.program) }
+
+-- behind the program, up to its end
+abbrev pub whole_from : JobData → Pen → Pen
+whole_from job pen = ended job.options.comments.legal (source_bytes job) (comments_in job.program) (lay (spell job.program among_statements) pen)
+
+-- the characters of the text of a job's program
 abbrev pub printed : JobData → List ℕ
-printed job = (lay (spell job.program among_statements) (empty_pen (style_of job.options job.tables) job.options.initial_indent)).code
+printed job = (whole_from job (first_pen job)).code
 
 -- and its bytes in UTF-8
 abbrev pub text_bytes : JobData → List ℕ

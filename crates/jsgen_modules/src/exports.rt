@@ -3,10 +3,12 @@ ghost use Rattle.std.specs.Prelude.{◌≡◌, option_map};
 ghost use Rattle.jsgen_tree.specs.Tree.{optional, type_of};
 ghost use Rattle.jsgen_tree.specs.Rows.{export_declaration_row, export_named_declaration_row, export_from_declaration_row, export_specifier_row, export_all_declaration_row, in_module_export_name};
 ghost use Rattle.jsgen_place.specs.Place.{plainly};
+ghost use Rattle.jsgen_tree.specs.Tree.{span_of};
+ghost use Rattle.jsgen_model.specs.Items.{◌⊕◌, comments, then_space};
 ghost use Rattle.jsgen_model.specs.Spell.{spell, spell_exported, exported_end, unless_same, as_name};
 ghost use Rattle.jsgen_printer.specs.Steps.{Lays};
 
-use crate::names::{exports_as, print_module_export_name, print_plain_string};
+use crate::names::{exports_as, print_module_export_name, print_name_comments, print_plain_string};
 use crate::parts::{begin_module_word, print_attributes, print_spaced_braces};
 use jsgen_inside::PrintInside;
 use jsgen_lists::PrintMember;
@@ -91,13 +93,14 @@ pub fn print_export_specifier(node: &ExportSpecifier, p: &mut Printer<'_>, place
     ensures { Lays p.old p.new (spell (export_specifier_row node.now) place) }
 {
     let _ = place;
+    print_name_comments(&node.local, p);
     print_module_export_name(&node.local, p);
     print_as_exported(&node.local, &node.exported, p);
 }
 
 // The name of the export, where the two differ.
 fn print_as_exported(local: &ModuleExportName, exported: &ModuleExportName, p: &mut Printer<'_>)
-    ensures { Lays p.old p.new (unless_same (in_module_export_name local.now) (in_module_export_name exported.now) (as_name (spell (in_module_export_name exported.now) plainly))) }
+    ensures { Lays p.old p.new (unless_same (in_module_export_name local.now) (in_module_export_name exported.now) (as_name (comments then_space (span_of (in_module_export_name exported.now)).start ⊕ spell (in_module_export_name exported.now) plainly))) }
 {
     if exports_as(local, exported, p) {
         return;
@@ -105,6 +108,7 @@ fn print_as_exported(local: &ModuleExportName, exported: &ModuleExportName, p: &
     p.print_soft_space();
     p.print_word("as");
     p.print_soft_space();
+    print_name_comments(exported, p);
     print_module_export_name(exported, p);
 }
 

@@ -5,7 +5,9 @@ ghost use Rattle.jsgen_syntax.specs.Units.{js_units};
 ghost use Rattle.jsgen_tree.specs.Job.{Tables};
 ghost use Rattle.jsgen_tree.specs.Named.{printed_name};
 ghost use Rattle.jsgen_tree.specs.Rows.{identifier_name_row, string_literal_row, binding_identifier_row, in_module_export_name};
+ghost use Rattle.jsgen_tree.specs.Tree.{span_of};
 ghost use Rattle.jsgen_place.specs.Place.{plainly};
+ghost use Rattle.jsgen_model.specs.Items.{comments, then_space};
 ghost use Rattle.jsgen_model.specs.Spell.{spell, string_named, export_named};
 ghost use Rattle.jsgen_printer.specs.Printer.{pen_of};
 ghost use Rattle.jsgen_printer.specs.Steps.{Lays};
@@ -22,8 +24,27 @@ use jsgen_tree::{BindingIdentifier, ModuleExportName, StringLiteral};
 pub fn print_plain_string(node: &StringLiteral, p: &mut Printer<'_>)
     ensures { Lays p.old p.new (spell (string_literal_row node.now) plainly) }
 {
+    p.print_key_comments(node.span.start);
     p.print_mark(node.span);
     p.print_string(&node.value, false);
+}
+
+/// The comments that belong to a name, with a space behind them.
+pub fn print_name_comments(name: &ModuleExportName, p: &mut Printer<'_>)
+    ensures { Lays p.old p.new (comments then_space (span_of (in_module_export_name name.now)).start) }
+{
+    let start = start_of(name);
+    p.print_spaced_comments(start);
+}
+
+fn start_of(name: &ModuleExportName) -> u32
+    ensures { result ≡ (span_of (in_module_export_name name.now)).start }
+{
+    match name {
+        ModuleExportName::IdentifierName(node) => node.span.start,
+        ModuleExportName::IdentifierReference(node) => node.span.start,
+        ModuleExportName::StringLiteral(node) => node.span.start,
+    }
 }
 
 /// A name, or a string that is never in backticks.

@@ -7,7 +7,7 @@ use Rattle.jsgen_tree.specs.Nodes as tree
 use Rattle.jsgen_tree.specs.Named.{Named, as_written}
 use Rattle.jsgen_tree.specs.Inside.{without_parentheses, is_proto, is_negative_number}
 use Rattle.jsgen_model.specs.Punctuator.{colon}
-use Rattle.jsgen_model.specs.Items.{Items, nothing, ◌⊕◌, mark, string, punctuator, soft_space, unless_minified}
+use Rattle.jsgen_model.specs.Items.{Items, nothing, ◌⊕◌, mark, string, punctuator, soft_space, unless_minified, comments, with_key_annotation}
 use Rattle.jsgen_model.specs.Spell.{string_in, key_text, items_unless, unless_said, before_value, before_bound, before_target}
 use Rattle.jsgen_printer.specs.Printer.{pen_of}
 use Rattle.jsgen_printer.specs.Steps.{Lays}
@@ -24,7 +24,7 @@ no_string (tree.string_literal a) h = absurd (both_ways true h refl)
 no_string t h = refl
 
 -- the text of a key, by the string that it is and where it stands
-pub key_by_string : (t : Tree) (items : Items) → option_map_or (λ v. mark (span_of t) ⊕ string false v) (string_in t) items ≡ key_text t items
+pub key_by_string : (t : Tree) (items : Items) → option_map_or (λ v. comments with_key_annotation (span_of t).start ⊕ (mark (span_of t) ⊕ string false v)) (string_in t) items ≡ key_text t items
 key_by_string (tree.string_literal a) items = refl
 key_by_string t items = refl
 

@@ -276,7 +276,9 @@ fn print_key_expression<N: PrintNode>(key: &ExpressionNode<N>, p: &mut Printer<'
 {
     match key_string(key.get()) {
         Some(value) => {
-            p.print_mark(key.get().span());
+            let span = key.get().span();
+            p.print_key_comments(span.start);
+            p.print_mark(span);
             p.print_string(value, false);
         }
         None => key.get().print(p, place),

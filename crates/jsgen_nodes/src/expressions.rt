@@ -85,6 +85,7 @@ pub fn print_big_int_literal(node: &BigIntLiteral, p: &mut Printer<'_>, place: P
 pub fn print_string_literal(node: &StringLiteral, p: &mut Printer<'_>, place: Place)
     ensures { Lays p.old p.new (spell (string_literal_row node.now) place) }
 {
+    p.print_key_comments(node.span.start);
     p.print_mark(node.span);
     p.print_string(&node.value, !place.plain_quotes);
 }

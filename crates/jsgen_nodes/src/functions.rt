@@ -4,8 +4,8 @@ ghost use Rattle.jsgen_syntax.specs.declared.precedence.Precedence.TheVariants.{
 ghost use Rattle.jsgen_tree.specs.Tree.{type_of, trees};
 ghost use Rattle.jsgen_tree.specs.Rows.{formal_parameters_row, formal_parameter_row, formal_parameter_rest_row, arrow_function_expression_row, in_arrow_function_body, function_row, function_body_row, binding_identifier_row, directive_row, in_statement};
 ghost use Rattle.jsgen_place.specs.Place.{child, within};
-ghost use Rattle.jsgen_model.specs.Punctuator.{Round, star};
-ghost use Rattle.jsgen_model.specs.Items.{marked_word, punctuator, brackets, soft_space, hard_space, parentheses_unless_minified, ◌⊕◌, a_declaration};
+ghost use Rattle.jsgen_model.specs.Punctuator.{Round, Brace, star};
+ghost use Rattle.jsgen_model.specs.Items.{marked_word, punctuator, brackets, soft_space, hard_space, parentheses_unless_minified, ◌⊕◌, a_declaration, mark, end_mark, empty_body, drop_semicolon, held, orphans};
 ghost use Rattle.jsgen_model.specs.Spell.{spell, items_if, key_word, function_words, method_words, is_name_alone, parameter_items, body_begins, spell_method, spell_directives, spell_body, filled_braces};
 ghost use Rattle.jsgen_printer.specs.Steps.{Lays};
 ghost use Rattle.jsgen_questions.specs.Names.{is_name_parameter};
@@ -19,7 +19,7 @@ use crate::statements::{Statements, print_directives};
 use jsgen_inside::print_binding_identifier;
 use jsgen_lists::{
     PrintMember, close_braces, open_braces, print_apart, print_body, print_comma_between,
-    print_empty_braces, print_if_given, print_key_word, print_list,
+    print_if_given, print_key_word, print_list,
 };
 use jsgen_place::Place;
 use jsgen_printer::{Bracket, Printer};
@@ -207,6 +207,7 @@ pub fn print_function<N: PrintNode>(node: &Function<N>, p: &mut Printer<'_>, pla
 {
     match node.kind {
         FunctionKind::Declaration => {
+            p.print_comments_if(place.in_list, node.span.start);
             p.print_indentation_if(place.in_list);
             print_from_word(node, p, place);
             p.print_soft_line_if(place.in_list);
@@ -310,10 +311,22 @@ pub fn print_function_body<N: PrintNode>(node: &FunctionBody<N>, p: &mut Printer
 {
     let _ = place;
     if are_empty(&node.directives, &node.statements) {
-        print_empty_braces(node.span, p);
+        print_empty_body(node.span, p);
     } else {
         print_filled_body(node, p);
     }
+}
+
+// Braces in which nothing stands but comments.
+fn print_empty_body(span: Span, p: &mut Printer<'_>)
+    ensures { Lays p.old p.new (mark span ⊕ (brackets Brace (empty_body span.end ⊕ end_mark span) ⊕ drop_semicolon)) }
+{
+    p.print_mark(span);
+    p.print_opening(Bracket::Brace);
+    p.print_empty_body(span.end);
+    p.print_end_mark(span);
+    p.print_closing(Bracket::Brace);
+    p.drop_semicolon();
 }
 
 fn are_empty<N>(directives: &[Directive], statements: &[StatementNode<N>]) -> bool
@@ -323,11 +336,22 @@ fn are_empty<N>(directives: &[Directive], statements: &[StatementNode<N>]) -> bo
 }
 
 fn print_filled_body<N: PrintNode>(node: &FunctionBody<N>, p: &mut Printer<'_>)
-    ensures { Lays p.old p.new (filled_braces node.now.span (spell_directives (trees (map directive_row node.now.directives.items))
-        ⊕ spell_body (trees (map (in_statement N.plain) node.now.statements.items)))) }
+    ensures { Lays p.old p.new (filled_braces node.now.span (held node.now.span.end ((spell_directives (trees (map directive_row node.now.directives.items))
+        ⊕ spell_body (trees (map (in_statement N.plain) node.now.statements.items))) ⊕ orphans node.now.span.end))) }
 {
     let depth = open_braces(node.span, p);
+    print_inside(node, p);
+    close_braces(node.span, p, depth);
+}
+
+// What stands in the braces, and the comments at the last byte behind it.
+fn print_inside<N: PrintNode>(node: &FunctionBody<N>, p: &mut Printer<'_>)
+    ensures { Lays p.old p.new (held node.now.span.end ((spell_directives (trees (map directive_row node.now.directives.items))
+        ⊕ spell_body (trees (map (in_statement N.plain) node.now.statements.items))) ⊕ orphans node.now.span.end)) }
+{
+    let held = p.hold_comments(node.span.end);
     print_directives(&node.directives, p);
     print_body::<_, Statements>(&node.statements, p);
-    close_braces(node.span, p, depth);
+    p.print_orphans(node.span.end);
+    p.print_held(&held);
 }

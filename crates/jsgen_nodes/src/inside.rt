@@ -6,7 +6,7 @@ use crate::collections::print_key_if;
 use crate::functions::{print_behind_name, print_method_words};
 use crate::statements::Statements;
 use jsgen_inside::{Nested, PrintInClass, PrintInside};
-use jsgen_lists::{print_braces, print_value};
+use jsgen_lists::{print_block_braces, print_value};
 use jsgen_place::Place;
 use jsgen_printer::Printer;
 use jsgen_syntax::Span;
@@ -54,6 +54,6 @@ impl<N: PrintNode> PrintInClass<N> for InClass {
     }
 
     fn print_block(span: Span, statements: &[StatementNode<N>], p: &mut Printer<'_>) {
-        print_braces::<_, Statements>(span, statements, p);
+        print_block_braces::<_, Statements>(span, statements, p);
     }
 }

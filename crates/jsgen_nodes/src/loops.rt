@@ -33,6 +33,7 @@ pub fn print_for_statement<N: PrintNode>(node: &ForStatement<N>, p: &mut Printer
     let _ = place;
     let first = Place::loop_head();
     let within = Place::in_brackets(Precedence::Lowest);
+    p.print_comments(node.span.start);
     p.print_indentation();
     p.print_marked_word(node.span, "for");
     p.print_soft_space();
@@ -70,6 +71,7 @@ pub fn print_do_while_statement<N: PrintNode>(
     ensures { Lays p.old p.new (spell (do_while_statement_row N.plain node.now) place) }
 {
     let _ = place;
+    p.print_comments(node.span.start);
     p.print_indentation();
     p.print_marked_word(node.span, "do");
     print_do_body(&node.body, p);
@@ -95,7 +97,9 @@ fn print_do_body<N: PrintNode>(body: &StatementNode<N>, p: &mut Printer<'_>)
             p.print_soft_space();
         }
         Shape::Empty => {
-            p.print_mark(statement.span());
+            let span = statement.span();
+            p.print_comments(span.start);
+            p.print_mark(span);
             p.print_semicolon();
             p.print_soft_line();
             p.print_indentation();
@@ -113,6 +117,7 @@ pub fn print_for_in_statement<N: PrintNode>(
     ensures { Lays p.old p.new (spell (for_in_statement_row N.plain node.now) place) }
 {
     let _ = place;
+    p.print_comments(node.span.start);
     p.print_indentation();
     p.print_marked_word(node.span, "for");
     p.print_soft_space();
@@ -136,6 +141,7 @@ pub fn print_for_of_statement<N: PrintNode>(
     ensures { Lays p.old p.new (spell (for_of_statement_row N.plain node.now) place) }
 {
     let _ = place;
+    p.print_comments(node.span.start);
     p.print_indentation();
     p.print_marked_word(node.span, "for");
     print_await_if(node.is_await, p);

@@ -13,7 +13,7 @@ use crate::PrintNode;
 use crate::inside::Inside;
 use jsgen_inside::{print_body, shape_of};
 use jsgen_lists::{
-    PrintMember, PrintStatement, close_braces, open_braces, print_braces, print_if_given,
+    PrintMember, PrintStatement, close_braces, open_braces, print_block_braces, print_if_given,
 };
 use jsgen_modules::print_hashbang;
 use jsgen_place::{Place, Shape};
@@ -24,10 +24,13 @@ use jsgen_tree::{BlockStatement, Directive, Hashbang, IfStatement, Program, Stat
 pub fn print_program<N: PrintNode>(node: &Program<N>, p: &mut Printer<'_>, place: Place)
     ensures { Lays p.old p.new (spell (program_row N.plain node.now) place) }
 {
+    p.print_comments(0);
     print_if_given::<_, Hashbangs>(&node.hashbang, p, place);
     print_directives(&node.directives, p);
     jsgen_lists::print_body::<_, Statements>(&node.body, p);
+    p.print_orphans(node.span.end);
     p.print_due_semicolon();
+    p.print_comments(node.span.end);
 }
 
 /// The first line of a program.
@@ -53,6 +56,7 @@ pub fn print_directive(node: &Directive, p: &mut Printer<'_>, place: Place)
     ensures { Lays p.old p.new (spell (directive_row node.now) place) }
 {
     let _ = place;
+    p.print_comments(node.span.start);
     p.print_indentation();
     p.print_mark(node.span);
     p.print_directive(node.directive.as_str());
@@ -65,7 +69,9 @@ fn print_first_statement<N: PrintNode>(statement: &N, p: &mut Printer<'_>, place
 {
     match statement.string_statement() {
         Some(value) => {
-            p.print_marked_indentation(statement.span());
+            let line = statement.span();
+            p.print_comments(line.start);
+            p.print_marked_indentation(line);
             p.print_mark(statement.inside_span());
             p.print_first_string(value);
             p.print_statement_end();
@@ -79,6 +85,10 @@ pub struct Statements;
 
 impl<N: PrintNode> PrintStatement<StatementNode<N>> for Statements {
     ghost plain = { in_statement N.plain };
+
+    fn start(statement: &StatementNode<N>) -> u32 {
+        statement.get().span().start
+    }
 
     fn print_statement(statement: &StatementNode<N>, p: &mut Printer<'_>, place: Place) {
         statement.get().print(p, place);
@@ -97,15 +107,16 @@ pub fn print_block_statement<N: PrintNode>(
 )
     ensures { Lays p.old p.new (spell (block_statement_row N.plain node.now) place) }
 {
+    p.print_comments_if(place.in_list, node.span.start);
     p.print_indentation_if(place.in_list);
-    print_braces::<_, Statements>(node.span, &node.body, p);
+    print_block_braces::<_, Statements>(node.span, &node.body, p);
     p.print_soft_line_if(place.in_list);
 }
 
 pub fn print_if_statement<N: PrintNode>(node: &IfStatement<N>, p: &mut Printer<'_>, place: Place)
     ensures { Lays p.old p.new (spell (if_statement_row N.plain node.now) place) }
 {
-    p.print_indentation_if(place.in_list);
+    p.begin_line_if(place.in_list, node.span.start);
     p.print_marked_word(node.span, "if");
     p.print_soft_space();
     p.print_opening(Bracket::Round);

@@ -1,23 +1,14 @@
 -- What a step adds stands behind the code before.
-use Rattle.std.proofs.Common.{ℕ, Bool, true, false, ◌||◌, List, [], ◌∷◌, if◌then◌else◌}
+use Rattle.std.proofs.Common.{ℕ, Bool, true, false, ◌||◌, List, if◌then◌else◌}
 use Rattle.jsgen_model.specs.Punctuator.{Round, opening, closing, punctuator_text}
-use Rattle.jsgen_model.specs.Items.{Items, ◌⊕◌, name, marked_word, marked_operator, marked_number, marked_indentation, template_part, indentation, deeper, brackets, wrapped, wrapped_at_start, parentheses_unless_minified, where_same, statement_end, in_class, unless_minified}
-use Rattle.jsgen_model.specs.Lay.{lay, part_opening}
-use Rattle.jsgen_model.specs.Layout.{Pen, written, written_if, text_if, other_end, indented, indent_or_space, at_indentation, end_statement, deeper_level, entered, are_same, is_barred, not}
+use Rattle.jsgen_model.specs.Items.{Items, ◌⊕◌, name, marked_word, marked_operator, marked_number, marked_indentation, template_part, indentation, deeper, brackets, wrapped, wrapped_at_start, parentheses_unless_minified, where_same, statement_end, in_class, unless_minified, comments, orphans, orphan_lines, empty_body, held, lined_case, caught, all_of_them}
+use Rattle.jsgen_model.specs.Comments.{are_any}
+use Rattle.jsgen_model.specs.Groups.{last_byte, ending_at, without_ending, has_orphans, case_begun, comments_at, group_at}
+use Rattle.jsgen_model.specs.Lay.{lay, part_opening, case_mark}
+use Rattle.jsgen_model.specs.Layout.{Pen, written, written_if, text_if, other_end, end_statement, deeper_level, entered, are_same, is_barred, not}
 use Rattle.jsgen_model.specs.Printing.{IsPrefix}
+use Rattle.jsgen_printer.proofs.Comments.{indentation_adds, comments_add, orphans_add, orphan_lines_add, empty_body_adds, ending_adds, closing_adds, case_adds, case_end_adds, block_adds}
 use Rattle.jsgen_printer.proofs.Prefixes.{whole_prefix, prefix_append, more_prefix, prefix_of_prefix}
-
-indented_appends : (text : List ℕ) (pen : Pen) → IsPrefix pen.code (indented text pen).code
-indented_appends [] pen = whole_prefix pen.code
-indented_appends (c ∷ cs) pen = prefix_append pen.code (c ∷ cs)
-
-space_appends : (pending : Bool) (pen : Pen) → IsPrefix pen.code (indent_or_space pending pen).code
-space_appends true pen = prefix_append pen.code _
-space_appends false pen = indented_appends _ pen
-
-indentation_appends : (minified : Bool) (pen : Pen) → IsPrefix pen.code (at_indentation minified pen).code
-indentation_appends true pen = whole_prefix pen.code
-indentation_appends false pen = space_appends pen.pending_space pen
 
 end_appends : (minified : Bool) (pen : Pen) → IsPrefix pen.code (end_statement minified pen).code
 end_appends true pen = whole_prefix pen.code
@@ -44,10 +35,22 @@ layout_appends (name span n) pen = more_prefix _ (prefix_append pen.code _)
 layout_appends (marked_word span w) pen = more_prefix w (prefix_append pen.code _)
 layout_appends (marked_operator span p) pen = more_prefix (punctuator_text p) (prefix_append pen.code _)
 layout_appends (marked_number span dot_is_its_own w) pen = more_prefix w (prefix_append pen.code _)
-layout_appends (marked_indentation span) pen = indentation_appends pen.style.minified pen
+layout_appends (marked_indentation span) pen = (indentation_adds pen.style.minified pen).text
 layout_appends (template_part part tagged span raw) pen = more_prefix _ (prefix_append pen.code (part_opening part))
-layout_appends indentation pen = indentation_appends pen.style.minified pen
+layout_appends indentation pen = (indentation_adds pen.style.minified pen).text
 layout_appends statement_end pen = end_appends pen.style.minified pen
+layout_appends (comments manner o) pen = (comments_add manner o pen).text
+layout_appends (orphans o) pen = (orphans_add o pen).text
+layout_appends (orphan_lines o) pen = (orphan_lines_add o pen).text
+layout_appends (empty_body o) pen = (empty_body_adds o pen).text
+layout_appends (held o a) pen = prefix_of_prefix (prefix_of_prefix (ending_adds (last_byte o) pen).text (layout_appends a (without_ending (last_byte o) pen))) (closing_adds (ending_at (last_byte o) pen) (lay a (without_ending (last_byte o) pen))).text
+layout_appends (lined_case start end lead a) pen =
+    let long = has_orphans start pen in
+    let begun : Pen = case_mark long lead (case_begun long lead start pen) in
+    prefix_of_prefix (prefix_of_prefix (case_adds long lead start pen).text (layout_appends a begun)) (case_end_adds long pen.depth end (lay a begun)).text
+layout_appends (caught start body a) pen =
+    let begun : Pen = comments_at all_of_them start pen in
+    prefix_of_prefix (prefix_of_prefix (comments_add all_of_them start pen).text (layout_appends a begun)) (block_adds (are_any (group_at start pen)) body (lay a begun)).text
 layout_appends item pen = search (whole_prefix, prefix_append)
 
 -- what leads to the pen before leads to the pen behind the items

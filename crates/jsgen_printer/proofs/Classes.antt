@@ -13,15 +13,18 @@ use Rattle.std.proofs.lemmas.Str.{IsUtf8-string_bytes}
 use Rattle.jsgen_syntax.specs.Escapes.{name_text, has_escapes}
 use Rattle.jsgen_tree.specs.Characters.{characters}
 use Rattle.jsgen_tree.proofs.Texts.{same_characters}
-use Rattle.jsgen_model.specs.Items.{Items, ◌⊕◌, indentation, marked_indentation, deeper, in_class, brackets, wrapped, wrapped_at_start, parentheses_unless_minified, unless_minified, where_same, statement_end}
+use Rattle.jsgen_model.specs.Items.{Items, ◌⊕◌, indentation, marked_indentation, deeper, in_class, brackets, wrapped, wrapped_at_start, parentheses_unless_minified, unless_minified, where_same, statement_end, comments, orphans, orphan_lines, empty_body, held, lined_case, caught, all_of_them}
 use Rattle.jsgen_model.specs.Punctuator.{Round, opening}
-use Rattle.jsgen_model.specs.Lay.{lay}
-use Rattle.jsgen_model.specs.Layout.{Pen, nowhere, written, written_if, other_end, name_ending, with_private_name, entered, indented, indent_or_space, at_indentation, end_statement, deeper_level, are_same, is_barred, not}
+use Rattle.jsgen_model.specs.Comments.{are_any}
+use Rattle.jsgen_model.specs.Groups.{last_byte, ending_at, without_ending, has_orphans, case_begun, comments_at, group_at}
+use Rattle.jsgen_model.specs.Lay.{lay, case_mark}
+use Rattle.jsgen_model.specs.Layout.{Pen, nowhere, written, written_if, other_end, name_ending, with_private_name, entered, end_statement, deeper_level, are_same, is_barred, not}
 use Rattle.jsgen_model.specs.Private.{name_in, has_table}
 use Rattle.jsgen_printer.specs.Printer.{pen_of, name_written, within_outer}
 use Rattle.jsgen_printer.specs.Steps.{Goes, Lays}
 use Rattle.jsgen_printer.specs.declared.printer.Printer.{Printer}
 use Rattle.jsgen_printer.proofs.Appends.{layout_appends}
+use Rattle.jsgen_printer.proofs.Comments.{indentation_adds, comments_add, orphans_add, orphan_lines_add, empty_body_adds, ending_adds, closing_adds, case_adds, case_end_adds, block_adds}
 use Rattle.jsgen_printer.proofs.Prefixes.{whole_prefix}
 use Rattle.jsgen_printer.proofs.Sequence.{goes_then, goes_laid, items_go}
 use Rattle.jsgen_printer.proofs.Texts.{ascii_chars}
@@ -43,18 +46,6 @@ behind_hash w pen = rw (ascii_chars (codes "#") refl) (ap (λ code. record pen {
 
 -- ---- within a class
 
-indented_keeps : (text : List ℕ) (pen : Pen) → (indented text pen).classes ≡ pen.classes
-indented_keeps [] pen = refl
-indented_keeps (c ∷ cs) pen = refl
-
-space_keeps : (pending : Bool) (pen : Pen) → (indent_or_space pending pen).classes ≡ pen.classes
-space_keeps true pen = refl
-space_keeps false pen = indented_keeps _ pen
-
-indentation_keeps : (minified : Bool) (pen : Pen) → (at_indentation minified pen).classes ≡ pen.classes
-indentation_keeps true pen = refl
-indentation_keeps false pen = space_keeps pen.pending_space pen
-
 end_keeps : (minified : Bool) (pen : Pen) → (end_statement minified pen).classes ≡ pen.classes
 end_keeps true pen = refl
 end_keeps false pen = refl
@@ -74,9 +65,21 @@ keeps_classes (wrapped_at_start test opener a) pen = keeps_classes a (written_if
 keeps_classes (parentheses_unless_minified a) pen = keeps_classes a (written_if (not pen.style.minified) (opening Round) pen)
 keeps_classes (where_same m n a b) pen = either_keeps (are_same pen.style.tables m n) pen.classes (lay a pen) (lay b pen) (keeps_classes a pen) (keeps_classes b pen)
 keeps_classes (unless_minified a) pen = either_keeps pen.style.minified pen.classes pen (lay a pen) refl (keeps_classes a pen)
-keeps_classes indentation pen = indentation_keeps pen.style.minified pen
-keeps_classes (marked_indentation span) pen = indentation_keeps pen.style.minified pen
+keeps_classes indentation pen = (indentation_adds pen.style.minified pen).classes
+keeps_classes (marked_indentation span) pen = (indentation_adds pen.style.minified pen).classes
 keeps_classes statement_end pen = end_keeps pen.style.minified pen
+keeps_classes (comments manner o) pen = (comments_add manner o pen).classes
+keeps_classes (orphans o) pen = (orphans_add o pen).classes
+keeps_classes (orphan_lines o) pen = (orphan_lines_add o pen).classes
+keeps_classes (empty_body o) pen = (empty_body_adds o pen).classes
+keeps_classes (held o a) pen = (closing_adds (ending_at (last_byte o) pen) (lay a (without_ending (last_byte o) pen))).classes ∙ (keeps_classes a (without_ending (last_byte o) pen) ∙ (ending_adds (last_byte o) pen).classes)
+keeps_classes (lined_case start end lead a) pen =
+    let long = has_orphans start pen in
+    let begun : Pen = case_mark long lead (case_begun long lead start pen) in
+    (case_end_adds long pen.depth end (lay a begun)).classes ∙ (keeps_classes a begun ∙ (case_adds long lead start pen).classes)
+keeps_classes (caught start body a) pen =
+    let begun : Pen = comments_at all_of_them start pen in
+    (block_adds (are_any (group_at start pen)) body (lay a begun)).classes ∙ (keeps_classes a begun ∙ (comments_add all_of_them start pen).classes)
 keeps_classes item pen = refl
 
 take_whole : (cs : List ℕ) → take (length cs) cs ≡ cs

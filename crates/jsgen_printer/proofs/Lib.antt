@@ -3,10 +3,14 @@ pub mod Appends
 pub mod Attempts
 pub mod Bangs
 pub mod Classes
+pub mod Commented
+mod Comments
 pub mod Handed
 pub mod Marked
 pub mod Numbers
 pub mod Operators
+mod Lines
+pub mod Onward
 mod Patterns
 mod Templates
 pub mod Prefixes

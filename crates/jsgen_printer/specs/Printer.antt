@@ -1,5 +1,5 @@
 -- What a printer stands for: a pen of the layout.
-use Rattle.std.specs.Prelude.{ℕ, List, [], ◌∷◌, Bool, false, nat_lt, take, map, reverse, Option, Some, None}
+use Rattle.std.specs.Prelude.{ℕ, List, [], ◌∷◌, Bool, true, false, nat_lt, take, map, reverse, Option, Some, None}
 use Rattle.std.specs.List.{list_all}
 use Rattle.std.specs.Str.{chars}
 use Rattle.jsgen_syntax.specs.Buffer.{buffer_bytes, indent_byte, indent_width}
@@ -14,6 +14,13 @@ use Rattle.jsgen_model.specs.Items.{Items, word, operator}
 use Rattle.jsgen_model.specs.Operators.{operator_item, unary_sign, update_item}
 use Rattle.jsgen_map.specs.Marks as marks
 use Rattle.jsgen_map.specs.Plain.{mark_plain}
+use Rattle.jsgen_comments.specs.Plain.{group_plain, store_of}
+use Rattle.jsgen_comments.specs.declared.comments.Comments.{Comments}
+use Rattle.jsgen_comments.specs.declared.comments.Group.{Group}
+use Rattle.jsgen_model.specs.Comments.{Comment, Store, empty_store}
+use Rattle.jsgen_model.specs.Groups.{case_ended}
+use Rattle.jsgen_printer.specs.declared.printer.comments.Lead.{Lead}
+use Rattle.jsgen_printer.specs.declared.printer.comments.Lead.TheVariants as leads
 use Rattle.jsgen_printer.specs.declared.marks.Marks.{Marks}
 use Rattle.jsgen_printer.specs.declared.printer.Printer.{Printer}
 use Rattle.jsgen_printer.specs.declared.printer.Bracket.{Bracket}
@@ -77,6 +84,32 @@ abbrev pub source_plain : Option Marks → Option (List ℕ)
 source_plain None = None
 source_plain (Some m) = Some m.source.now
 
+-- the comments that are still to be printed
+abbrev pub store_plain : Option Comments → Store
+store_plain None = empty_store
+store_plain (Some c) = store_of c
+
+-- comments that have left the store, if any
+abbrev pub group_of : Option Group → List Comment
+group_of None = []
+group_of (Some g) = group_plain g
+
+-- what leads to the one statement of a case
+abbrev pub lead_of : Lead → items.Lead
+lead_of leads.Block = items.to_block
+lead_of (leads.Empty s) = items.to_empty s
+lead_of leads.Body = items.to_body
+
+-- the level of a case, where its one statement stands on a line of its own
+abbrev pub level_if : Bool → ℕ → Option ℕ
+level_if true depth = Some depth
+level_if false depth = None
+
+-- the pen behind the one statement of a case
+abbrev pub case_behind : Option ℕ → ℕ → Pen → Pen
+case_behind None end pen = pen
+case_behind (Some depth) end pen = case_ended true depth end pen
+
 -- the pen, whose code is the characters of the buffer's bytes
 unfoldable pub pen_of : Printer → Pen
 pen_of p = record {
@@ -90,6 +123,7 @@ pen_of p = record {
   classes = reverse p.classes.items;
   next_class = p.next_class;
   marks = marks_plain p.marks;
+  store = store_plain p.comments;
 }
 
 -- the same pen, by whose tables names are printed from here on
@@ -99,6 +133,10 @@ by_tables tables pen = record pen { style = record pen.style { tables = tables }
 -- the same pen, behind whose marks others may follow
 abbrev pub by_marks : Marks → Pen → Pen
 by_marks m pen = record pen { style = record pen.style { source = Some m.source.now }; marks = map mark_plain m.list.items }
+
+-- the same pen, with these comments to be printed
+abbrev pub by_store : Store → Pen → Pen
+by_store store pen = record pen { store = store }
 
 -- the pen behind a text that was handed in; an empty one leaves what the code ends in as it is
 abbrev pub unless_empty : List ℕ → Pen → Pen → Pen

@@ -10,6 +10,7 @@ use crate::marks::Marks;
 use crate::operator::Operator;
 
 mod classes;
+mod comments;
 mod handed;
 mod marks;
 mod modules;
@@ -18,6 +19,8 @@ mod numbers;
 mod patterns;
 mod templates;
 
+pub use comments::Lead;
+use jsgen_comments::Comments;
 use jsgen_syntax::{
     AssignmentOperator, BinaryOperator, CodeBuffer, JsStr, LogicalOperator, Quote, Span,
     UnaryOperator, UpdateOperator,
@@ -79,6 +82,9 @@ pub struct Printer<'a> {
     next_class: usize,
     // where a source map is wanted
     marks: Option<Marks<'a>>,
+    // where any are to be printed
+    comments: Option<Comments<'a>>,
+    alloc: Global,
     has_failed: bool,
     ghost indents: { width ≡ indent_width code },
 }
@@ -123,6 +129,8 @@ impl<'a> Printer<'a> {
             classes: Vec::new(alloc),
             next_class: 0,
             marks: None,
+            comments: None,
+            alloc,
             has_failed: false,
         }
     }

@@ -11,7 +11,7 @@ use Rattle.jsgen_model.specs.Layout.{Pen, other_end, layout, written, deeper_lev
 use Rattle.jsgen_model.specs.Grammar.{Allowed, ReadsStatements}
 use Rattle.jsgen_model.specs.Grammar as grammar
 use Rattle.jsgen_model.specs.Normal.{nothing_of}
-use Rattle.jsgen_model.specs.Spell.{spell_statements, filled_braces, empty_braces, braces}
+use Rattle.jsgen_model.specs.Spell.{spell_statements, filled_braces, empty_braces, braces, block_braces}
 use Rattle.jsgen_token_laws.proofs.Last.{Last, Open, line_of, Knows}
 use Rattle.jsgen_token_laws.proofs.Writes.{Writes, wrote_none, wrote_both, wrote_and_none, same_writes}
 use Rattle.jsgen_token_laws.proofs.Steps.{Gap, gap, soft_line_written, indentation_written, within_brackets, brackets_written}
@@ -72,10 +72,16 @@ empty_written s x n e p l k =
     }
 
 -- round any row, the empty one too
-pub braces_written : {names : Tables} {R : Bool → Tokens → Trees → Type 0} → R true done no_trees → (s : Span) (ss : Trees) → StandsAt names R (SameTrees names ss) (spell_statements ss) → (p : Pen) (l : Last) → p.pending_semicolon ≡ false → Knows names p l → GoodBraces names R (SameTrees names ss) p l (layout (braces s ss (spell_statements ss)) p)
-braces_written n s no_trees row p l z k = empty_written s no_trees n refl p l k
-braces_written n s (more t ss) row p l z k = filled_written s (spell_statements (more t ss)) row p l z k
-braces_written n s (hole ss) row p l z k = filled_written s (spell_statements (hole ss)) row p l z k
+pub braces_written : {names : Tables} {R : Bool → Tokens → Trees → Type 0} → R true done no_trees → (s : Span) (ss : Trees) (items : Items) → StandsAt names R (SameTrees names ss) items → (p : Pen) (l : Last) → p.pending_semicolon ≡ false → Knows names p l → GoodBraces names R (SameTrees names ss) p l (layout (braces s ss items) p)
+braces_written n s no_trees items row p l z k = empty_written s no_trees n refl p l k
+braces_written n s (more t ss) items row p l z k = filled_written s items row p l z k
+braces_written n s (hole ss) items row p l z k = filled_written s items row p l z k
+
+-- and round statements, where comments may stand too
+pub block_written : {names : Tables} {R : Bool → Tokens → Trees → Type 0} → R true done no_trees → (s : Span) (ss : Trees) (items : Items) → StandsAt names R (SameTrees names ss) items → (p : Pen) (l : Last) → p.pending_semicolon ≡ false → Knows names p l → GoodBraces names R (SameTrees names ss) p l (layout (block_braces s ss items) p)
+block_written n s no_trees items row p l z k = empty_written s no_trees n refl p l k
+block_written n s (more t ss) items row p l z k = filled_written s items row p l z k
+block_written n s (hole ss) items row p l z k = filled_written s items row p l z k
 
 -- ---- blocks
 
@@ -95,7 +101,7 @@ pub good_block : {names : Tables} (c : Allowed) (a : Atoms) (ss : Trees) → Row
 good_block {names} c a ss row = record { among = indented_line (items ⊕ soft_line) (before_blank items soft_line alone soft_line_written); within = λ h. alone }
   where
     items : Items
-    items = braces a.span ss (spell_statements ss)
+    items = block_braces a.span ss (spell_statements ss)
 
     alone : StatedAt names c (tree.block a ss) items
-    alone p l z y k = block_of false (λ us e. ap (λ ts. tree.block (nothing_of 0) ts) e) (braces_written grammar.no_statement a.span ss row p l z k)
+    alone p l z y k = block_of false (λ us e. ap (λ ts. tree.block (nothing_of 0) ts) e) (block_written grammar.no_statement a.span ss (spell_statements ss) row p l z k)

@@ -51,5 +51,6 @@ pub mod Functions
 pub mod Methods
 pub mod Arrows
 pub mod Induction
+pub mod Quiet
 pub mod Reading
 pub mod Normals

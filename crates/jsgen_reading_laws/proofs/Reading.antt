@@ -1,5 +1,5 @@
 -- The whole path: from a valid job to its text, the text's tokens and their reading.
-use Rattle.std.proofs.Common.{◌≡◌, ℕ, true, false, List, chars, encode_utf8_all, refl, sym, ap, subst}
+use Rattle.std.proofs.Common.{◌≡◌, ℕ, true, false, List, chars, encode_utf8_all, refl, sym, ap, subst, ◌∙◌}
 use Rattle.std.specs.Str.{IsUtf8}
 use Rattle.std.proofs.lemmas.Str.{chars-encodes}
 use Rattle.jsgen_syntax.specs.Buffer.{indent_code}
@@ -12,11 +12,12 @@ use Rattle.jsgen_tree.specs.Tree.{Tree, absent, no_trees, type_of}
 use Rattle.jsgen_tree.specs.Nodes as tree
 use Rattle.jsgen_model.specs.Tokens.{◌⧺◌}
 use Rattle.jsgen_place.specs.Place.{among_statements}
-use Rattle.jsgen_model.specs.Items.{◌⊕◌, due_semicolon}
+use Rattle.jsgen_model.specs.Items.{Items, ◌⊕◌, due_semicolon}
 use Rattle.jsgen_model.specs.Layout.{Pen, layout, empty_pen, style_of}
 use Rattle.jsgen_model.specs.Grammar as grammar
 use Rattle.jsgen_model.specs.Normal.{nothing_of}
-use Rattle.jsgen_model.specs.Spell.{spell, spell_body, spell_directives, printed, text_bytes}
+use Rattle.jsgen_model.specs.Lay.{lay}
+use Rattle.jsgen_model.specs.Spell.{spell, spell_body, spell_directives, first_pen, printed, text_bytes}
 use Rattle.jsgen_model.specs.Valid.{IsValid, surroundings_of}
 use Rattle.jsgen_model.specs.Plain.{IsPlain, IsQuiet}
 use Rattle.jsgen_model.specs.Reading.{IsReadAs}
@@ -29,6 +30,7 @@ use Rattle.jsgen_reading_laws.proofs.Families.{IsProgram}
 use Rattle.jsgen_reading_laws.proofs.Valid.{is_program, program_valid}
 use Rattle.jsgen_reading_laws.proofs.Families as family
 use Rattle.jsgen_reading_laws.proofs.Ends.{due_ends}
+use Rattle.jsgen_reading_laws.proofs.Quiet.{no_comment, no_licence}
 use Rattle.jsgen_reading_laws.proofs.Prologue.{whole_body}
 use Rattle.jsgen_reading_laws.proofs.Induction.{body_stated}
 
@@ -42,7 +44,7 @@ style_indents options tables = by options.indent_char
 
 -- ---- the whole
 
--- the text without its marks
+-- the text without its marks and comments
 abbrev quiet_text : JobData → List ℕ
 quiet_text job = (layout (spell job.program among_statements) (empty_pen (style_of job.options job.tables) job.options.initial_indent)).code
 
@@ -63,7 +65,9 @@ read_as options tables t (family.a_program {a} {comments} {directives} {body} v 
 
 pub printed_is_read : (job : JobData) → type_of job.program ≡ types.Program → IsValid job → IsPlain job.program → IsQuiet job → IsReadAs (printed job) job
 printed_is_read job s v p q =
-    let same = same_text (spell job.program among_statements) (empty_pen (style_of job.options job.tables) job.options.initial_indent) in
+    let items : Items = spell job.program among_statements in
+    let whole : printed job ≡ (lay items (first_pen job)).code = ap (λ (pen : Pen). pen.code) (no_licence job q (lay items (first_pen job))) in
+    let same = whole ∙ (same_text items (first_pen job) (no_comment job q) ∙ ap (λ store. (layout items (record (first_pen job) { store = store })).code) (no_comment job q)) in
     subst (λ text. IsReadAs text job) (sym same) (read_as job.options job.tables job.program (program_valid 0 (surroundings_of job) refl job.program p (ap is_program s) v))
 
 -- the bytes spell the characters that they were made of

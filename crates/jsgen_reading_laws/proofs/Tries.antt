@@ -24,7 +24,7 @@ use Rattle.jsgen_reading_laws.proofs.Ends.{ends_itself}
 use Rattle.jsgen_reading_laws.proofs.Stands.{StatedAt, Stated, stated_among, SameTree, before_blank, indented_line}
 use Rattle.jsgen_reading_laws.proofs.Rows.{RowAt}
 use Rattle.jsgen_reading_laws.proofs.Bindings.{Bound}
-use Rattle.jsgen_reading_laws.proofs.Blocks.{GoodBraces, braces_written}
+use Rattle.jsgen_reading_laws.proofs.Blocks.{GoodBraces, block_written}
 use Rattle.jsgen_reading_laws.proofs.Parentheses.{InsideAt, headed}
 
 -- Between two pens stand tokens that are read so, of which a brace is the last. No semicolon was due before, and none is after.
@@ -54,7 +54,7 @@ BlockOf names c t = (p : Pen) (l : Last) → p.pending_semicolon ≡ false → K
 
 pub some_block : {names : Tables} (c : Allowed) (a : Atoms) (ss : Trees) → RowAt names c (spell_statements ss) ss → BlockOf names c (tree.block a ss)
 some_block c a ss row p l z k =
-    let g = braces_written grammar.no_statement a.span ss row p l z k in
+    let g = block_written grammar.no_statement a.span ss (spell_statements ss) row p l z k in
     record { tokens = g.tokens; writes = g.writes; semicolon = g.semicolon; reading = g.reading; reads = g.reads; same = ap (λ ts. tree.block (nothing_of 0) ts) g.same }
 
 -- what is written already, and a block behind a blank

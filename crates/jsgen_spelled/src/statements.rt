@@ -19,7 +19,7 @@ pub fn print_variable_declaration<N, L: PrintInside<N>>(
 )
     ensures { Lays p.old p.new (spell (variable_declaration_row L.plain node.now) place) }
 {
-    p.print_indentation_if(place.in_list);
+    p.begin_line_if(place.in_list, node.span.start);
     p.print_mark(node.span);
     p.print_word(node.kind.as_str());
     p.print_soft_space();

@@ -22,9 +22,12 @@ IsCheck words = map string_bytes words ≡ codes "check" ∷ []
 abbrev pub IsMap : List (String Global) → Type 0
 IsMap words = map string_bytes words ≡ codes "map" ∷ []
 
+abbrev pub IsLegal : List (String Global) → Type 0
+IsLegal words = map string_bytes words ≡ codes "legal" ∷ []
+
 -- they ask for a text
 abbrev pub IsWriting : List (String Global) → Type 0
-IsWriting words = IsPrint words ⊎ IsMap words
+IsWriting words = IsPrint words ⊎ IsMap words ⊎ IsLegal words
 
 -- the words are a command
 abbrev pub IsCommand : List (String Global) → Type 0

@@ -5,8 +5,9 @@ ghost use Rattle.jsgen_model.specs.Plain.{IsPlain, IsQuiet};
 ghost use Rattle.jsgen_tool.specs.Headline.{HoldsJob, Prints};
 ghost use Rattle.jsgen_jobs.specs.Job.{AnswersBy, Tells};
 ghost use Rattle.jsgen_jobs.specs.MapText.{map_bytes};
+ghost use Rattle.jsgen_jobs.specs.LegalText.{legal_bytes};
 ghost use Rattle.jsgen_model.specs.Spell.{text_bytes};
-ghost use Rattle.jsgen_tool.specs.Answers.{IsPrint, IsMap, IsWriting, IsCommand, InputRow, TellsRule, OutputRow, SourceCount, OutCount, Due};
+ghost use Rattle.jsgen_tool.specs.Answers.{IsPrint, IsMap, IsLegal, IsWriting, IsCommand, InputRow, TellsRule, OutputRow, SourceCount, OutCount, Due};
 ghost use Rattle.jsgen_device.specs.Device.{Rose};
 ghost use Rattle.jsgen_tool.specs.Transfer.{TakesAtMost, limit};
 ghost use Rattle.jsgen_tool.specs.Lines.{Says, line_of};
@@ -74,6 +75,21 @@ impl<P: PrintJobs> TextOfJobs for Maps<P> {
     }
 }
 
+// Of each job the lines of its licences that stand in a file of their own.
+struct Licences<P> {
+    printer: P,
+}
+
+impl<P: PrintJobs> TextOfJobs for Licences<P> {
+    ghost judged = { P.judged };
+
+    ghost wanted = { legal_bytes };
+
+    fn text_of(alloc: Global, bytes: &[u8]) -> Result<String, JobFault> {
+        P::legal_job(alloc, bytes)
+    }
+}
+
 fn write<T: TextOfJobs, S: Source, K: Sink>(alloc: Global, source: &mut S, out: &mut K) -> Status
     ensures usage { result ≡ Status.Usage → ⊥ }
     ensures read { SourceCount result (S.faults source.old) (S.faults source.new) }
@@ -138,6 +154,7 @@ fn work<P: PrintJobs, S: Source, K: Sink>(
     ensures rule { IfSome (S.left source.old) (TellsRule P.judged result) }
     ensures output { IsPrint words.now → OutputRow text_bytes result (S.left source.old) (K.got out.old) (K.got out.new) }
     ensures map { IsMap words.now → OutputRow map_bytes result (S.left source.old) (K.got out.old) (K.got out.new) }
+    ensures legal { IsLegal words.now → OutputRow legal_bytes result (S.left source.old) (K.got out.old) (K.got out.new) }
     ensures kept { (IsWriting words.now → ⊥) → (result ≡ Status.WriteFault → ⊥) × (out.new ≡ out.old) }
     ensures memory { result ≡ Status.NotJob InputFault.Memory → ⊥ }
     ensures taken { TakesAtMost (limit + 1) (S.left source.old) (S.left source.new) }
@@ -149,6 +166,9 @@ fn work<P: PrintJobs, S: Source, K: Sink>(
     if is_word(words, "map") {
         return write::<Maps<P>, S, K>(alloc, source, out);
     }
+    if is_word(words, "legal") {
+        return write::<Licences<P>, S, K>(alloc, source, out);
+    }
     if is_word(words, "check") {
         return check::<P, S>(alloc, source);
     }
@@ -156,9 +176,10 @@ fn work<P: PrintJobs, S: Source, K: Sink>(
 }
 
 /// Reads a job from the source, writes what the words ask for to `out`, and says on `err` what went wrong: for `print` the
-/// job's text, for `map` the lines of its source map, and for `check` nothing, so that the status alone tells whether the job keeps
-/// the rules. A text is complete before its first byte is written. Where several things are wrong, the first of these is
-/// answered: the words, reading, the length, the job, the rules, writing.
+/// job's text, for `map` the lines of its source map, for `legal` those of its licences that stand in a file of their own, and for
+/// `check` nothing, so that the status alone tells whether the job keeps the rules. A text is complete before its first byte is
+/// written. Where several things are wrong, the first of these is answered: the words, reading, the length, the job, the rules,
+/// writing.
 pub fn run<P: PrintJobs, S: Source, K: Sink>(
     alloc: Global,
     words: &[String],
@@ -173,6 +194,7 @@ pub fn run<P: PrintJobs, S: Source, K: Sink>(
     ensures rule { IfSome (S.left source.old) (TellsRule P.judged result) }
     ensures output { IsPrint words.now → OutputRow text_bytes result (S.left source.old) (K.got out.old) (K.got out.new) }
     ensures map { IsMap words.now → OutputRow map_bytes result (S.left source.old) (K.got out.old) (K.got out.new) }
+    ensures legal { IsLegal words.now → OutputRow legal_bytes result (S.left source.old) (K.got out.old) (K.got out.new) }
 
     // Where the words ask for no text, nothing is written.
     ensures kept { (IsWriting words.now → ⊥) → (result ≡ Status.WriteFault → ⊥) × (out.new ≡ out.old) }

@@ -116,7 +116,7 @@ impl Default for CommentOptions {
     }
 }
 
-/// How a program is printed. So far `comments` and `source_map_path` are kept and change no text.
+/// How a program is printed. `source_map_path` changes no text.
 #[derive(Debug, PartialEq, Eq, Drop)]
 pub struct CodegenOptions {
     /// Strings of pretty text, and directives, stand in single quotes.

@@ -98,7 +98,7 @@ pub struct Program<N = Node> {
     /// The text that spans speak of.
     pub source: String,
     pub kind: SourceKind,
-    /// The comments of the source. None is printed yet.
+    /// The comments of the source.
     pub comments: Vec<Comment>,
     /// The first line of the source, where it begins with `#!`.
     pub hashbang: Option<Box<Hashbang>>,

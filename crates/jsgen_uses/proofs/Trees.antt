@@ -38,9 +38,12 @@ none_within : (found : List TreeFault) (f : TreeFault) → found ≡ [] → Cont
 none_within [] f h (i, within, is) = omega arith
 none_within (g ∷ gs) f h c = cc
 
-unfree_where : (message name : List ℕ) (f : TreeFault) (free : Bool) → is_free_name name ≡ free → Contains (job_breaches (log_job message name)) f → free ≡ false
-unfree_where message name f true h found = absurd (none_within (job_breaches (log_job message name)) f (breaches_where message name true h) found)
-unfree_where message name f false h found = refl
+pub is_broken : (found : List TreeFault) (f : TreeFault) → Contains found f → found ≡ [] → ⊥
+is_broken found f within none = none_within found f none within
+
+unfree_where : (message name : List ℕ) (free : Bool) → is_free_name name ≡ free → (job_breaches (log_job message name) ≡ [] → ⊥) → free ≡ false
+unfree_where message name true h broken = absurd (broken (breaches_where message name true h))
+unfree_where message name false h broken = refl
 
 -- ---- of what the code was handed
 
@@ -62,7 +65,7 @@ is_free o n t message name options tables same none =
     let P : JobData → Type 0 = λ job. job_breaches job ≡ [] in
     free_where message name (is_free_name name) refl (subst P (same_job o n t message name options tables same) none)
 
-pub is_unfree : (o : Options) (n : Tables) (t : Tree) (message name : List ℕ) (f : TreeFault) → o ≡ default_options → n ≡ no_tables → t ≡ log_program message name → Contains (job_breaches (job_with o n t)) f → is_free_name name ≡ false
-is_unfree o n t message name f options tables same found =
-    let P : JobData → Type 0 = λ job. Contains (job_breaches job) f in
-    unfree_where message name f (is_free_name name) refl (subst P (same_job o n t message name options tables same) found)
+pub is_unfree : (o : Options) (n : Tables) (t : Tree) (message name : List ℕ) → o ≡ default_options → n ≡ no_tables → t ≡ log_program message name → (job_breaches (job_with o n t) ≡ [] → ⊥) → is_free_name name ≡ false
+is_unfree o n t message name options tables same broken =
+    let P : JobData → Type 0 = λ job. job_breaches job ≡ [] → ⊥ in
+    unfree_where message name (is_free_name name) refl (subst P (same_job o n t message name options tables same) broken)

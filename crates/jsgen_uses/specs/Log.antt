@@ -8,6 +8,7 @@ use Rattle.jsgen_tree.specs.Nodes as tree
 use Rattle.jsgen_tree.specs.Options.{default_options}
 use Rattle.jsgen_tree.specs.Job.{JobData, no_tables}
 use Rattle.jsgen_model.specs.Reading.{IsReadAs}
+use Rattle.jsgen_model.specs.Valid.{IsValid}
 
 -- what a node holds that stands in no source
 abbrev pub holds : List Atom → Atoms
@@ -52,3 +53,7 @@ log_job message name = record { options = default_options; tables = no_tables; p
 -- the code is read, by the written grammar, as that program
 abbrev pub ReadsAsLogCall : List ℕ → List ℕ → List ℕ → Type 0
 ReadsAsLogCall message name code = IsReadAs code (log_job message name)
+
+-- a rule is broken
+abbrev pub IsBroken : JobData → Type 0
+IsBroken job = IsValid job → ⊥

@@ -5,7 +5,11 @@ ghost use Rattle.jsgen_syntax.specs.Name.{is_free_name};
 ghost use Rattle.jsgen_tree.specs.Plain.{node_plain, program_plain};
 ghost use Rattle.jsgen_tree.specs.Rows.{in_expression};
 ghost use Rattle.jsgen_uses.specs.declared.log.LogError.TheVariants as errors;
-ghost use Rattle.jsgen_uses.specs.Log.{console_log, log_call, log_program, ReadsAsLogCall};
+ghost use Rattle.jsgen.specs.Codegen.{has_printed, job_for};
+ghost use Rattle.jsgen_model.specs.Plain.{IsPlain, IsQuiet};
+ghost use Rattle.jsgen_model.specs.Reading.{IsReadAs};
+ghost use Rattle.jsgen_model.specs.Valid.{IsValid};
+ghost use Rattle.jsgen_uses.specs.Log.{console_log, log_call, log_program, IsBroken, ReadsAsLogCall};
 
 use crate::build::{call, member, only, reference, statement, string};
 use jsgen::tree::{ExpressionNode, Program};
@@ -70,9 +74,19 @@ pub fn log_statement(alloc: Global, message: &str, name: &str) -> Result<String,
 {
     plain_by_types();
     let program = log_program(alloc, message, name)?;
-    let printer = Codegen::new(alloc);
-    if let Err(_) = printer.check(&program) {
+    code_of(Codegen::new(alloc), &program)
+}
+
+// The code of a program that keeps the rules under the printer's options, and by its tables.
+fn code_of<'a>(printer: Codegen<'a>, program: &'a Program) -> Result<String, LogError>
+    requires { has_printed printer ≡ false }
+    ensures reads { IfOk result (λ code. IsPlain (program_plain program.now) → IsQuiet (job_for printer.entry (program_plain program.now))
+        → IsReadAs (chars (string_bytes code)) (job_for printer.entry (program_plain program.now))) }
+    ensures taken { OnOk result (IsValid (job_for printer.entry (program_plain program.now))) }
+    ensures refused { IsErrOf result LogError.Name → IsBroken (job_for printer.entry (program_plain program.now)) }
+{
+    if let Err(_) = printer.check(program) {
         return Err(LogError::Name);
     }
-    Ok(printer.build(&program)?.code)
+    Ok(printer.build(program)?.code)
 }

@@ -1,6 +1,7 @@
 // The converter, over trees of acorn and over trees that are made by hand. These tests need no built program.
 import assert from "node:assert/strict";
 import { test } from "node:test";
+import { commentsOf } from "../comments.mjs";
 import { NotRead, jobOf } from "../convert.mjs";
 import { parsed } from "../parser.mjs";
 
@@ -56,10 +57,13 @@ test("comments have their places in the source, which stands in the job", () => 
 test("comments have what they say", () => {
   const contentOf = (comment) => commentRows(`${comment}\nf()`)[0].content;
   const said = {
-    "// a": "normal", "/***/": "normal", "/**/": "normal", "/** a */": "jsdoc", "//! a": "legal", "/*! a */": "legal",
-    "/* @license */": "legal", "/** @preserve */": "jsdoclegal", "/* @__PURE__ */": "pure", "/*#__PURE__*/": "pure",
-    "/* @__NO_SIDE_EFFECTS__ */": "nosideeffects", "/* webpackChunkName: 'a' */": "webpack", "/* @vite-ignore */": "vite",
-    "/* @__KEY__ */": "propertykey", "/* v8 ignore next */": "coverage", "/* c8 ignore file */": "coveragefile",
+    "// a": "normal", "/***/": "normal", "/*****/": "normal", "/**/": "normal", "//* a": "normal", "/** a */": "jsdoc", "/**\na */": "jsdoc",
+    "//! a": "legal", "/*! a */": "legal", "/* @license */": "legal", "// a @preserve": "legal", "/** @preserve */": "jsdoclegal",
+    "/* @__PURE__ */": "pure", "/*#__PURE__*/": "pure", "//#__PURE__ a": "pure", "/* __PURE__ */": "normal",
+    "/* @__NO_SIDE_EFFECTS__ */": "nosideeffects", "/*#__NO_SIDE_EFFECTS__ a*/": "nosideeffects", "/* @__KEY__ */": "propertykey",
+    "/* webpackChunkName: 'a' */": "webpack", "/* webpack */": "normal", "/* @vite-ignore */": "vite",
+    "/* v8 ignore next */": "coverage", "/* istanbul ignore if */": "coverage", "/* node:coverage disable */": "coverage",
+    "/* c8 ignore file */": "coveragefile", "/* c8 */": "normal", "//# sourceMappingURL=a": "normal",
   };
   for (const [comment, content] of Object.entries(said)) assert.equal(contentOf(comment), content, comment);
 });
@@ -69,6 +73,60 @@ test("a comment belongs to the next token, behind other comments", () => {
   assert.deepEqual(starts("/*a*/ //b\n /*c*/ d"), [17, 17, 17]);
   assert.deepEqual(starts("/*a*//*b*/d/*c*/"), [10, 10, 16]);
   assert.deepEqual(starts("#!/bin/node // a\n/*b*/c"), [22]);
+  assert.deepEqual(starts("`/*a*/${/*b*/c}`"), [13]);
+  assert.deepEqual(starts("// a"), [4]);
+  assert.deepEqual(starts("a;\n// b\n"), [8]);
+});
+
+// The comments that lead, by what they say.
+function leading(source) {
+  return commentRows(source).filter((row) => row.leading).map(({ span: [start, end] }) => source.slice(start, end).replace(/[/*]/g, "").trim()).join(" ");
+}
+
+test("a comment that ends the line of the code before it doesn't lead, nor does one before it there", () => {
+  assert.equal(leading("a; // b"), "");
+  assert.equal(leading("a; /*b*/\nc"), "");
+  assert.equal(leading("a; /*b*/ c"), "b");
+  assert.equal(leading("a; /*b*/ // c\n/*d*/ e"), "d");
+  assert.equal(leading("a; /*b*/ /*c*/\n// d\ne"), "d");
+  assert.equal(leading("a; /*b\n*/ c"), "b");
+  assert.equal(leading("a; /*b\n*/ // c\nd"), "");
+  assert.equal(leading("// a\n/*b*/\nc"), "a b");
+  assert.equal(leading("{ // a\n// b\n}"), "b");
+  assert.equal(leading("#!/bin/node\n// a\nb"), "a");
+});
+
+test("a line comment behind `=` or `(` leads", () => {
+  assert.equal(leading("const a = // b\nc"), "b");
+  assert.equal(leading("const a/*b*/= // c\nd"), "b c");
+  assert.equal(leading("f( // a\nb)"), "a");
+  assert.equal(leading("f( /*a*/ // b\n /*c*/ d)"), "a b c");
+  assert.equal(leading("f( /*a*/\nb)"), "");
+  for (const code of ["a == ", "a >= ", "a = b => ", "a += ", "a, ", "a ? b : "]) assert.equal(leading(`${code}// c\nd`), "", code);
+});
+
+test("a comment is preceded by the line ends behind the token before it, and by the text's start", () => {
+  const told = (source) => commentRows(source).map((row) => `${row.preceded_by_newline ? "<" : ""}${row.followed_by_newline ? ">" : ""}`);
+  assert.deepEqual(told("/*a*/ b"), ["<"]);
+  assert.deepEqual(told("a; /*b*/ c /*d*/\n/*e*/ /*f*/ g"), ["", ">", "<", "<"]);
+  assert.deepEqual(told("a // b\n// c\n\n/*d*/"), [">", "<>", "<"]);
+  assert.deepEqual(told("a\u2028/*b*/\r\nc"), ["<>"]);
+});
+
+test("comments behind the last token belong to the text's end, where the program ends then", () => {
+  const source = "a\n// é\n";
+  const program = { ...parsed(source), end: 1 };
+  const comments = [{ start: 2, end: 6 }];
+  const { rows } = jobOf(program, { source, comments });
+  assert.deepEqual([rows[0].attached_to, rows.at(-1).span], [8, [0, 8]]);
+  assert.deepEqual(jobOf(program, { source }).rows.at(-1).span, [0, 1]);
+});
+
+test("many comments take no longer than few, by the comment", () => {
+  const source = "// a\n".repeat(200_000);
+  const comments = Array.from({ length: 200_000 }, (_, at) => ({ start: 5 * at, end: 5 * at + 4 }));
+  const rows = commentsOf(source, comments);
+  assert.ok(rows.every(({ leading, attached_to }) => leading && attached_to === source.length));
 });
 
 test("directives are their raw text", () => {

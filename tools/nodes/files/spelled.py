@@ -172,7 +172,7 @@ class Clause:
         return f"wrapped (wraps {level} {self.place}) {atom(self.text(inner))}"
 
     def item_line(self, inner):
-        return f"as_statement {self.place}.in_list {atom(self.text(inner))}"
+        return f"as_statement {self.place}.in_list a.span.start {atom(self.text(inner))}"
 
 
 def clause(table, n):
@@ -364,7 +364,7 @@ class Body:
         return self.step_wrap(level, inner, within=False)
 
     def step_line(self, inner):
-        opened = self.step("print_indentation_if", "place.in_list")
+        opened = self.step("begin_line_if", "place.in_list", "node.span.start")
         inside = self.term(inner)
         closed = self.step("print_statement_end_if", "place.in_list")
         return chained([opened, atom(inside), closed], "⨾")

@@ -56,7 +56,7 @@ impl Printer<'_> {
     }
 
     // The code goes on with a text with a backslash in each `</script`.
-    fn print_tag_free(&mut self, text: &str)
+    pub(super) fn print_tag_free(&mut self, text: &str)
         ensures { Goes self.old self.new (written (tag_free (chars text.now)) other_end) }
     {
         if self.has_failed {

@@ -1,8 +1,8 @@
-// Marks of a source map, where one is wanted; and comments, which aren't printed yet, so that their steps add nothing.
+// Marks of a source map, where one is wanted.
 ghost use Rattle.std.specs.Prelude.{◌≡◌, ◌-◌, ◌∷◌, true, None, is_some, string_bytes};
 ghost use Rattle.std.specs.Option.{option_copied};
 ghost use Rattle.std.specs.Str.{chars, encode_utf8_all};
-ghost use Rattle.jsgen_model.specs.Items.{mark, end_mark, link_mark, marked_word, apart, comments, orphans, all_of_them, with_key_annotation};
+ghost use Rattle.jsgen_model.specs.Items.{mark, end_mark, link_mark, marked_word, apart};
 ghost use Rattle.jsgen_model.specs.Marks.{has_start_mark, has_end_mark, has_link_mark, closes_link, ends_in_link, other_name_in};
 ghost use Rattle.jsgen_model.specs.Spell.{items_if};
 ghost use Rattle.jsgen_model.specs.Lay.{marked_if, span_mark, name_mark};
@@ -189,27 +189,6 @@ impl<'a> Printer<'a> {
         self.print_if(apart, " ");
         self.print_mark(span);
         self.print_str(text, Ending::Other);
-    }
-
-    /// The comments that belong to this offset.
-    pub fn print_comments(&mut self, offset: u32)
-        ensures { Lays self.old self.new (comments all_of_them offset) }
-    {
-        let _ = offset;
-    }
-
-    /// The comments that belong to this offset, where one of them is a property-key annotation.
-    pub fn print_key_comments(&mut self, offset: u32)
-        ensures { Lays self.old self.new (comments with_key_annotation offset) }
-    {
-        let _ = offset;
-    }
-
-    /// The comments that belong to smaller offsets and stand nowhere else.
-    pub fn print_orphans(&mut self, offset: u32)
-        ensures { Lays self.old self.new (orphans offset) }
-    {
-        let _ = offset;
     }
 }
 

@@ -3,12 +3,13 @@ use Rattle.std.specs.Str.{encode_utf8_all}
 use Rattle.jsgen_map.specs.Plain.{mark_plain}
 use Rattle.jsgen_tree.specs.Plain.{program_plain}
 use Rattle.jsgen_place.specs.Place.{among_statements}
-use Rattle.jsgen_model.specs.Lay.{lay}
+use Rattle.jsgen_tree.specs.Options.{legal_plain}
+use Rattle.jsgen_comments.specs.Plain.{comment_plain}
 use Rattle.jsgen_model.specs.Layout.{Pen}
 use Rattle.jsgen_model.specs.Spell.{spell}
 use Rattle.jsgen_printer.specs.Printer.{pen_of, at_depth, marks_plain}
 use Rattle.jsgen.specs.Codegen.{mapped_from}
-use Rattle.jsgen.proofs.Maps.{begun, its_source, marks_from, not_none, same_map, same_marks}
+use Rattle.jsgen.proofs.Maps.{begun, its_source, marks_from, not_none, same_map, same_marks, whole}
 use Rattle.jsgen.proofs.mapped.print_mapped.Goals as goal
 
 pub map_of-requires-clause-source : goal.map_of-requires-clause-source
@@ -17,10 +18,12 @@ map_of-requires-clause-source c =
     let source = string_bytes c.args.program.now.source in
     let pen = pen_of c.args.printer in
     let depth = c.args.depth in
-    let whole : Pen = lay items (mapped_from depth source pen) in
+    let legal = legal_plain c.args.end.legal.now in
+    let cs = map (comment_plain source) c.args.end.licences.items in
+    let laid : Pen = whole items legal cs (mapped_from depth source pen) in
     let lent : c.new-marks.result.source.now ≡ source = ap (λ (s : Bor (List ℕ)). s.now) c.new-marks.ensures.source ∙ c.as_str.ensures.value in
-    let printed : pen_of c.in_ok-p.p ≡ whole = c.in_ok-p.ensures ∙ (ap (λ (q : Pen). lay items (at_depth depth q)) c.with_marks.ensures.pen ∙ ap (λ (q : Pen). lay items q) (begun c.new-marks.result source depth pen lent c.new-marks.ensures.list)) in
-    let its : c.in-Some.marks.source.now ≡ source = its_source items depth source pen (pen_of c.in_ok-p.p) c.into_parts-code.result.1 c.in-Some.marks c.in-Some.is c.into_parts-code.ensures.source printed in
+    let printed : pen_of c.in_ok-p.p ≡ laid = c.in_ok-p.ensures ∙ (ap (λ (q : Pen). whole items legal cs (at_depth depth q)) c.with_marks.ensures.pen ∙ ap (λ (q : Pen). whole items legal cs q) (begun c.new-marks.result source depth pen lent c.new-marks.ensures.list)) in
+    let its : c.in-Some.marks.source.now ≡ source = its_source items legal cs depth source pen (pen_of c.in_ok-p.p) c.into_parts-code.result.1 c.in-Some.marks c.in-Some.is c.into_parts-code.ensures.source printed in
     subst (λ (s : List ℕ). length s < 2 ^ 32) (sym its) c.requires.source
 
 pub map_of-requires-clause-marks : goal.map_of-requires-clause-marks
@@ -29,13 +32,15 @@ map_of-requires-clause-marks c =
     let source = string_bytes c.args.program.now.source in
     let pen = pen_of c.args.printer in
     let depth = c.args.depth in
-    let whole : Pen = lay items (mapped_from depth source pen) in
+    let legal = legal_plain c.args.end.legal.now in
+    let cs = map (comment_plain source) c.args.end.licences.items in
+    let laid : Pen = whole items legal cs (mapped_from depth source pen) in
     let lent : c.new-marks.result.source.now ≡ source = ap (λ (s : Bor (List ℕ)). s.now) c.new-marks.ensures.source ∙ c.as_str.ensures.value in
-    let printed : pen_of c.in_ok-p.p ≡ whole = c.in_ok-p.ensures ∙ (ap (λ (q : Pen). lay items (at_depth depth q)) c.with_marks.ensures.pen ∙ ap (λ (q : Pen). lay items q) (begun c.new-marks.result source depth pen lent c.new-marks.ensures.list)) in
-    let its : c.in-Some.marks.source.now ≡ source = its_source items depth source pen (pen_of c.in_ok-p.p) c.into_parts-code.result.1 c.in-Some.marks c.in-Some.is c.into_parts-code.ensures.source printed in
-    let text : c.deref.result.now ≡ encode_utf8_all whole.code = c.deref.ensures ∙ (c.into_parts-code.ensures.text ∙ ap (λ (q : Pen). encode_utf8_all q.code) printed) in
-    let marks : map mark_plain c.in-Some.marks.list.items ≡ whole.marks = ap marks_plain (sym c.in-Some.is) ∙ (c.into_parts-code.ensures.marks ∙ ap (λ (q : Pen). q.marks) printed) in
-    same_marks its marks (marks_from items depth source c.deref.result.now pen text c.deref.utf8)
+    let printed : pen_of c.in_ok-p.p ≡ laid = c.in_ok-p.ensures ∙ (ap (λ (q : Pen). whole items legal cs (at_depth depth q)) c.with_marks.ensures.pen ∙ ap (λ (q : Pen). whole items legal cs q) (begun c.new-marks.result source depth pen lent c.new-marks.ensures.list)) in
+    let its : c.in-Some.marks.source.now ≡ source = its_source items legal cs depth source pen (pen_of c.in_ok-p.p) c.into_parts-code.result.1 c.in-Some.marks c.in-Some.is c.into_parts-code.ensures.source printed in
+    let text : c.deref.result.now ≡ encode_utf8_all laid.code = c.deref.ensures ∙ (c.into_parts-code.ensures.text ∙ ap (λ (q : Pen). encode_utf8_all q.code) printed) in
+    let marks : map mark_plain c.in-Some.marks.list.items ≡ laid.marks = ap marks_plain (sym c.in-Some.is) ∙ (c.into_parts-code.ensures.marks ∙ ap (λ (q : Pen). q.marks) printed) in
+    same_marks its marks (marks_from items legal cs depth source c.deref.result.now pen text c.deref.utf8)
 
 pub returns-in_ok-map-in-Some-clause-map : goal.returns-in_ok-map-in-Some-clause-map
 returns-in_ok-map-in-Some-clause-map c =
@@ -43,12 +48,14 @@ returns-in_ok-map-in-Some-clause-map c =
     let source = string_bytes c.args.program.now.source in
     let pen = pen_of c.args.printer in
     let depth = c.args.depth in
-    let whole : Pen = lay items (mapped_from depth source pen) in
+    let legal = legal_plain c.args.end.legal.now in
+    let cs = map (comment_plain source) c.args.end.licences.items in
+    let laid : Pen = whole items legal cs (mapped_from depth source pen) in
     let lent : c.new-marks.result.source.now ≡ source = ap (λ (s : Bor (List ℕ)). s.now) c.new-marks.ensures.source ∙ c.as_str.ensures.value in
-    let printed : pen_of c.in_ok-p.p ≡ whole = c.in_ok-p.ensures ∙ (ap (λ (q : Pen). lay items (at_depth depth q)) c.with_marks.ensures.pen ∙ ap (λ (q : Pen). lay items q) (begun c.new-marks.result source depth pen lent c.new-marks.ensures.list)) in
-    let its : c.in-Some.marks.source.now ≡ source = its_source items depth source pen (pen_of c.in_ok-p.p) c.into_parts-code.result.1 c.in-Some.marks c.in-Some.is c.into_parts-code.ensures.source printed in
-    let text : c.deref.result.now ≡ encode_utf8_all whole.code = c.deref.ensures ∙ (c.into_parts-code.ensures.text ∙ ap (λ (q : Pen). encode_utf8_all q.code) printed) in
-    let marks : map mark_plain c.in-Some.marks.list.items ≡ whole.marks = ap marks_plain (sym c.in-Some.is) ∙ (c.into_parts-code.ensures.marks ∙ ap (λ (q : Pen). q.marks) printed) in
+    let printed : pen_of c.in_ok-p.p ≡ laid = c.in_ok-p.ensures ∙ (ap (λ (q : Pen). whole items legal cs (at_depth depth q)) c.with_marks.ensures.pen ∙ ap (λ (q : Pen). whole items legal cs q) (begun c.new-marks.result source depth pen lent c.new-marks.ensures.list)) in
+    let its : c.in-Some.marks.source.now ≡ source = its_source items legal cs depth source pen (pen_of c.in_ok-p.p) c.into_parts-code.result.1 c.in-Some.marks c.in-Some.is c.into_parts-code.ensures.source printed in
+    let text : c.deref.result.now ≡ encode_utf8_all laid.code = c.deref.ensures ∙ (c.into_parts-code.ensures.text ∙ ap (λ (q : Pen). encode_utf8_all q.code) printed) in
+    let marks : map mark_plain c.in-Some.marks.list.items ≡ laid.marks = ap marks_plain (sym c.in-Some.is) ∙ (c.into_parts-code.ensures.marks ∙ ap (λ (q : Pen). q.marks) printed) in
     let made = c.in_ok-map-in-Some.ensures in
     (made.path, made.content ∙ its, same_map text its marks made.map)
 
@@ -58,7 +65,9 @@ returns-in-None-clause-map c =
     let source = string_bytes c.args.program.now.source in
     let pen = pen_of c.args.printer in
     let depth = c.args.depth in
-    let whole : Pen = lay items (mapped_from depth source pen) in
+    let legal = legal_plain c.args.end.legal.now in
+    let cs = map (comment_plain source) c.args.end.licences.items in
+    let laid : Pen = whole items legal cs (mapped_from depth source pen) in
     let lent : c.new-marks.result.source.now ≡ source = ap (λ (s : Bor (List ℕ)). s.now) c.new-marks.ensures.source ∙ c.as_str.ensures.value in
-    let printed : pen_of c.in_ok-p.p ≡ whole = c.in_ok-p.ensures ∙ (ap (λ (q : Pen). lay items (at_depth depth q)) c.with_marks.ensures.pen ∙ ap (λ (q : Pen). lay items q) (begun c.new-marks.result source depth pen lent c.new-marks.ensures.list)) in
-    not_none items depth source pen (pen_of c.in_ok-p.p) c.into_parts-code.result.1 c.in-None.is c.into_parts-code.ensures.source printed
+    let printed : pen_of c.in_ok-p.p ≡ laid = c.in_ok-p.ensures ∙ (ap (λ (q : Pen). whole items legal cs (at_depth depth q)) c.with_marks.ensures.pen ∙ ap (λ (q : Pen). whole items legal cs q) (begun c.new-marks.result source depth pen lent c.new-marks.ensures.list)) in
+    not_none items legal cs depth source pen (pen_of c.in_ok-p.p) c.into_parts-code.result.1 c.in-None.is c.into_parts-code.ensures.source printed

@@ -9,7 +9,7 @@ pub loop-statement-preserved : goal.loop-statement-preserved
 loop-statement-preserved g l =
     let items = λ (ss : _). spell_statements (trees (map g.S.PrintStatement.plain ss)) in
     let left = left_as (items_left items l.args.statements.now l.loop-statement.statement-index l.statement-item.result l.loop-statement-test.true l.statement-item.is) l.loop-statement.invariant in
-    turn (turn left l.print_due_semicolon.ensures) (rw l.among_statements.ensures at l.print_statement.ensures)
+    turn (turn (turn left (rw l.start.ensures at l.print_orphans.ensures)) l.print_due_semicolon.ensures) (rw l.among_statements.ensures at l.print_statement.ensures)
 
 pub returns : goal.returns
 returns g l =

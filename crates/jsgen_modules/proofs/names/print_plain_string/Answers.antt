@@ -2,4 +2,4 @@ use Rattle.jsgen_printer.proofs.Sequence.{◌⨾◌}
 use Rattle.jsgen_modules.proofs.names.print_plain_string.Goals as goal
 
 pub returns : goal.returns
-returns c = c.print_mark.ensures ⨾ c.print_string.ensures
+returns c = c.print_key_comments.ensures ⨾ (c.print_mark.ensures ⨾ c.print_string.ensures)

@@ -3,4 +3,4 @@ use Rattle.jsgen_model.specs.Punctuator.{Round}
 use Rattle.jsgen_nodes.proofs.choices.print_switch_statement.Goals as goal
 
 pub returns : goal.returns
-returns g c = c.print_indentation.ensures ⨾ (c.print_marked_word.ensures ⨾ (c.print_soft_space.ensures ⨾ (in_brackets_laid Round c.print_opening.ensures (rw (c.in_brackets.ensures, c.get.ensures) at c.print.ensures) c.print_closing.ensures ⨾ (c.print_soft_space-2.ensures ⨾ ((rw c.deref.ensures.value at c.print_braces.ensures) ⨾ c.print_soft_line.ensures)))))
+returns g c = c.print_comments.ensures ⨾ (c.print_indentation.ensures ⨾ (c.print_marked_word.ensures ⨾ (c.print_soft_space.ensures ⨾ (in_brackets_laid Round c.print_opening.ensures (rw (c.in_brackets.ensures, c.get.ensures) at c.print.ensures) c.print_closing.ensures ⨾ (c.print_soft_space-2.ensures ⨾ ((rw c.deref.ensures.value at c.print_case_braces.ensures) ⨾ c.print_soft_line.ensures))))))

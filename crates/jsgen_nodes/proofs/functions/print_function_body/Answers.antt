@@ -16,7 +16,7 @@ returns-then-are_empty g c =
     let plain = g.N.PrintNode.plain in
     let node = c.args.node.now in
     let tested = rw (c.deref.ensures.value, c.deref-2.ensures.value) at c.are_empty.ensures in
-    rw (sym (empty_body directive_row (in_statement plain) node.directives.items node.statements.items node.span (inside plain node) (sym tested ∙ c.if-are_empty.true))) c.print_empty_braces.ensures
+    rw (sym (empty_body directive_row (in_statement plain) node.directives.items node.statements.items node.span (inside plain node) (sym tested ∙ c.if-are_empty.true))) c.print_empty_body.ensures
 
 pub returns-else-are_empty : goal.returns-else-are_empty
 returns-else-are_empty g c =

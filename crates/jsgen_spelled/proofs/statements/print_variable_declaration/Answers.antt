@@ -8,4 +8,4 @@ pub print_word-requires : goal.print_word-requires
 print_word-requires g c = rw c.as_str.ensures (declaration_word_is_ascii c.args.node.now.kind)
 
 pub returns : goal.returns
-returns g c = c.print_indentation_if.ensures ⨾ ((c.print_mark.ensures ⨾ ((rw c.as_str.ensures at c.print_word.ensures) ⨾ (c.print_soft_space.ensures ⨾ (rw (c.deref.ensures.value, c.child.ensures) at c.print_list.ensures)))) ⨾ c.print_statement_end_if.ensures)
+returns g c = c.begin_line_if.ensures ⨾ ((c.print_mark.ensures ⨾ ((rw c.as_str.ensures at c.print_word.ensures) ⨾ (c.print_soft_space.ensures ⨾ (rw (c.deref.ensures.value, c.child.ensures) at c.print_list.ensures)))) ⨾ c.print_statement_end_if.ensures)

@@ -12,6 +12,7 @@ returns g c = record {
   rule = c.work-status.ensures.rule;
   output = c.work-status.ensures.output;
   map = c.work-status.ensures.map;
+  legal = c.work-status.ensures.legal;
   kept = c.work-status.ensures.kept;
   due = λ is_command unread.
       due c.work-status.result _ _ _ _ _ (λ usage. c.work-status.ensures.usage.0 usage is_command) c.work-status.ensures.read c.work-status.ensures.write c.work-status.ensures.input unread;

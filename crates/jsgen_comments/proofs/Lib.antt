@@ -1,0 +1,5 @@
+pub mod Lines
+pub mod Seen
+pub mod Sources
+pub mod Store
+pub mod Wordings

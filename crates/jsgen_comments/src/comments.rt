@@ -1,0 +1,252 @@
+// What waits to be printed.
+ghost use Rattle.std.specs.Prelude.{IsTrue, ◌≡◌, [], ◌++◌, IfOk, map, option_map, not, length, ◌==◌};
+ghost use Rattle.std.specs.Option.{unwrap_or};
+ghost use Rattle.std.specs.List.{list_any, filter};
+ghost use Rattle.jsgen_tree.specs.Tree.{trees};
+ghost use Rattle.jsgen_tree.specs.Rows.{comment_row};
+ghost use Rattle.jsgen_tree.specs.Options.{comments_plain};
+ghost use Rattle.jsgen_model.specs.Comments.{empty_store, there, taken, are_any, kept, kept_at, is_wanted, outlives, outliving, without_outliving, orphans_below, left_below, has_orphans_below};
+ghost use Rattle.jsgen_model.specs.Groups.{is_key, is_key_annotation};
+ghost use Rattle.jsgen_comments.specs.Plain.{comment_plain, first_below, behind_first, group_plain, store_of};
+
+use jsgen_syntax::Memory;
+use jsgen_tree::{Comment, CommentContent, CommentOptions};
+use std::alloc::Global;
+use std::collections::{BTreeMap, BTreeSet};
+
+/// Comments of a source that have left the store together.
+#[derive(Drop)]
+pub struct Group<'a> {
+    pub source: &'a str,
+    pub comments: Vec<Comment>,
+}
+
+/// The comments that are still to be printed: in groups by the offsets that they belong to, and the offsets of groups that hold a
+/// comment which outlives its place.
+#[derive(Drop)]
+pub struct Comments<'a> {
+    source: &'a str,
+    groups: BTreeMap<u32, Vec<Comment>>,
+    orphans: BTreeSet<u32>,
+}
+
+impl<'a> Comments<'a> {
+    /// The comments of a program that these options keep.
+    pub fn of(
+        alloc: Global,
+        options: &CommentOptions,
+        source: &'a str,
+        comments: &[Comment],
+    ) -> Result<Comments<'a>, Memory>
+        ensures { IfOk result (λ c. store_of c ≡ kept (comments_plain options.now) source.now (trees (map comment_row comments.now))) }
+    {
+        let mut kept = Comments {
+            source,
+            groups: BTreeMap::new(alloc),
+            orphans: BTreeSet::new(alloc),
+        };
+        for comment in comments {
+            if comment.leading && is_wanted(options, comment.content) {
+                kept.add(alloc, *comment)?;
+            }
+        }
+        Ok(kept)
+    }
+
+    /// The source that they are comments of.
+    pub fn source(&self) -> &'a str
+        ensures { result ≡ self.now.source }
+    {
+        self.source
+    }
+
+    /// Whether none is still to be printed.
+    pub fn is_empty(&self) -> bool
+        ensures { IsTrue result → store_of self.now ≡ empty_store }
+    {
+        self.groups.is_empty() && self.orphans.is_empty()
+    }
+
+    /// Whether comments belong to this offset.
+    pub fn has(&self, offset: u32) -> bool
+        ensures { result ≡ are_any (there offset (store_of self.now).groups) }
+    {
+        match self.groups.get(&offset) {
+            Some(group) => is_any(group),
+            None => false,
+        }
+    }
+
+    /// Whether a property-key annotation belongs to this offset.
+    pub fn has_key_annotation(&self, offset: u32) -> bool
+        ensures { result ≡ list_any is_key_annotation (there offset (store_of self.now).groups) }
+    {
+        match self.groups.get(&offset) {
+            Some(group) => has_key(group),
+            None => false,
+        }
+    }
+
+    /// The comments that belong to this offset leave.
+    pub fn take(&mut self, offset: u32) -> Option<Group<'a>>
+        ensures group { unwrap_or (option_map group_plain result) [] ≡ there offset (store_of self.old).groups }
+        ensures store { store_of self.new ≡ taken offset (store_of self.old) }
+        ensures source { self.new.source ≡ self.old.source }
+    {
+        match self.groups.remove(&offset) {
+            Some(comments) => Some(Group {
+                source: self.source,
+                comments,
+            }),
+            None => None,
+        }
+    }
+
+    /// Whether a comment that outlives its place belongs to a smaller offset.
+    pub fn has_orphans(&self, offset: u32) -> bool
+        ensures { result ≡ has_orphans_below offset (store_of self.now) }
+    {
+        for orphan in &self.orphans {
+            if *orphan >= offset {
+                return false;
+            }
+            if self.has(*orphan) {
+                return true;
+            }
+        }
+        false
+    }
+
+    /// The comments that belong to smaller offsets and outlive their places leave, in their order. After want of memory it isn't told
+    /// what is left.
+    pub fn take_orphans(&mut self, alloc: Global, offset: u32) -> Result<Group<'a>, Memory>
+        ensures group { IfOk result (λ g. group_plain g ≡ orphans_below offset (store_of self.old)) }
+        ensures store { IfOk result (λ g. store_of self.new ≡ left_below offset (store_of self.old)) }
+        ensures source { self.new.source ≡ self.old.source }
+    {
+        let mut found = Vec::new(alloc);
+        while let Some(orphan) = self.pop_orphan(offset) {
+            self.move_outliving(alloc, orphan, &mut found)?;
+        }
+        Ok(Group {
+            source: self.source,
+            comments: found,
+        })
+    }
+
+    // One more comment, behind those that belong to the same offset.
+    fn add(&mut self, alloc: Global, comment: Comment) -> Result<(), Memory>
+        ensures added { IfOk result (λ _. store_of self.new ≡ kept_at comment.attached_to (comment_plain self.old.source.now comment) (store_of self.old)) }
+        ensures source { IfOk result (λ _. self.new.source ≡ self.old.source) }
+    {
+        let offset = comment.attached_to;
+        let mut group = match self.groups.remove(&offset) {
+            Some(group) => group,
+            None => Vec::new(alloc),
+        };
+        group.push(comment)?;
+        self.groups.insert(offset, group)?;
+        if outlives(comment.content) {
+            self.orphans.insert(offset)?;
+        }
+        Ok(())
+    }
+
+    // The first offset of a group that holds a comment which outlives its place leaves, where it is below this one.
+    fn pop_orphan(&mut self, offset: u32) -> Option<u32>
+        ensures first { result ≡ first_below offset self.old.orphans.keys }
+        ensures others { self.new.orphans.keys ≡ behind_first offset self.old.orphans.keys }
+        ensures source { self.new.source ≡ self.old.source }
+        ensures groups { self.new.groups ≡ self.old.groups }
+    {
+        let first = *self.orphans.first()?;
+        if first < offset {
+            self.orphans.pop_first()
+        } else {
+            None
+        }
+    }
+
+    // Of the comments at an offset those that outlive their places go to the end of the list.
+    fn move_outliving(
+        &mut self,
+        alloc: Global,
+        offset: u32,
+        found: &mut Vec<Comment>,
+    ) -> Result<(), Memory>
+        ensures source { self.new.source ≡ self.old.source }
+        ensures orphans { self.new.orphans ≡ self.old.orphans }
+        ensures found { IfOk result (λ _. map (comment_plain self.old.source.now) found.new.items ≡ map (comment_plain self.old.source.now) found.old.items ++ outliving (there offset (store_of self.old).groups)) }
+        ensures groups { IfOk result (λ _. store_of self.new ≡ record (store_of self.old) { groups = without_outliving offset (store_of self.old).groups }) }
+    {
+        let Some(group) = self.groups.remove(&offset) else {
+            return Ok(());
+        };
+        let others = part(alloc, &group, found)?;
+        if is_any(&others) {
+            self.groups.insert(offset, others)?;
+        }
+        Ok(())
+    }
+}
+
+// The comments of a group that outlive their places go to the end of the list, and the others are handed back.
+fn part(alloc: Global, group: &[Comment], found: &mut Vec<Comment>) -> Result<Vec<Comment>, Memory>
+    ensures found { IfOk result (λ _. found.new.items ≡ found.old.items ++ filter (λ c. outlives c.content) group.now) }
+    ensures others { IfOk result (λ others. others.items ≡ filter (λ c. not (outlives c.content)) group.now) }
+{
+    let mut others = Vec::new(alloc);
+    for comment in group {
+        if outlives(comment.content) {
+            found.push(*comment)?;
+        } else {
+            others.push(*comment)?;
+        }
+    }
+    Ok(others)
+}
+
+// Whether there is a comment.
+fn is_any(group: &[Comment]) -> bool
+    ensures { result ≡ not (length group.now == 0) }
+{
+    !group.is_empty()
+}
+
+// Whether a comment that says this is an annotation of a property's key.
+fn is_key(content: CommentContent) -> bool
+    ensures { result ≡ is_key content }
+{
+    matches!(content, CommentContent::PropertyKey)
+}
+
+// Whether one of them is.
+fn has_key(group: &[Comment]) -> bool
+    ensures { result ≡ list_any (λ c. is_key c.content) group.now }
+{
+    group.iter().any(|comment| is_key(comment.content))
+}
+
+// Whether the options want a comment that says this.
+fn is_wanted(options: &CommentOptions, content: CommentContent) -> bool
+    ensures { result ≡ is_wanted (comments_plain options.now) content }
+{
+    match content {
+        CommentContent::Normal => options.normal,
+        CommentContent::Legal => options.legal.is_inline(),
+        CommentContent::Jsdoc => options.jsdoc,
+        CommentContent::JsdocLegal => options.legal.is_inline() || options.jsdoc,
+        CommentContent::Pure | CommentContent::NoSideEffects => false,
+        _ => options.annotation,
+    }
+}
+
+// Whether a comment that says this is printed where what it belongs to is gone.
+fn outlives(content: CommentContent) -> bool
+    ensures { result ≡ outlives content }
+{
+    matches!(
+        content,
+        CommentContent::Legal | CommentContent::JsdocLegal | CommentContent::CoverageIgnoreFile
+    )
+}

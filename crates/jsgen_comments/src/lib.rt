@@ -1,0 +1,10 @@
+//! Comments that wait to be printed, in groups by the offsets that they belong to, and their texts.
+#![tactic(auto)]
+
+mod comments;
+mod legal;
+mod text;
+
+pub use comments::{Comments, Group};
+pub use legal::licences;
+pub use text::{first_line, text_of};

@@ -1,9 +1,0 @@
-use Rattle.std.proofs.Common.{sym, ◌∙◌}
-use Rattle.jsgen_lists.proofs.Braced.{no_braces, some_braces}
-use Rattle.jsgen_lists.proofs.braces.print_braces.Goals as goal
-
-pub returns-then-is_empty : goal.returns-then-is_empty
-returns-then-is_empty g c = rw (no_braces g.S.PrintStatement.plain c.args.span c.args.statements.now _ (sym c.is_empty.ensures ∙ c.if-is_empty.true)) c.print_empty_braces.ensures
-
-pub returns-else-is_empty : goal.returns-else-is_empty
-returns-else-is_empty g c = rw (some_braces g.S.PrintStatement.plain c.args.span c.args.statements.now _ (sym c.is_empty.ensures ∙ c.if-is_empty.false)) c.print_filled_braces.ensures

@@ -1,0 +1,5 @@
+use Rattle.jsgen_lists.proofs.Braced.{braces_laid}
+use Rattle.jsgen_lists.proofs.cases.print_filled_switch.Goals as goal
+
+pub returns : goal.returns
+returns g c = braces_laid c.args.span c.open_braces-depth.result c.open_braces-depth.ensures.level c.open_braces-depth.ensures.pen c.print_cases.ensures c.close_braces.ensures

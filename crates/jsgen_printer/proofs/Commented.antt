@@ -1,0 +1,54 @@
+-- Steps round comments that have left the store, and steps that depend on what waits there.
+use Rattle.std.proofs.Common.{◌≡◌, ℕ, Bool, true, false, Option, Some, None, List, refl, ap, subst, ◌∙◌}
+use Rattle.jsgen_model.specs.Comments.{Comment, are_any}
+use Rattle.jsgen_model.specs.Groups.{last_byte, ending_at, without_ending, closing_group, has_orphans, case_begun, case_ended, comments_at, group_at}
+use Rattle.jsgen_model.specs.Items.{Items, held, lined_case, caught, Lead, all_of_them}
+use Rattle.jsgen_model.specs.Lay.{lay, case_mark, before_block}
+use Rattle.jsgen_model.specs.Layout.{Pen}
+use Rattle.jsgen_printer.specs.Printer.{pen_of, level_if, case_behind}
+use Rattle.jsgen_printer.specs.Steps.{has_failed, Ends, Goes, Lays}
+use Rattle.jsgen_printer.specs.declared.printer.Printer.{Printer}
+use Rattle.jsgen_printer.proofs.Appends.{layout_appends}
+use Rattle.jsgen_printer.proofs.Comments.{ending_adds, closing_adds, case_adds, case_end_adds, comments_add, block_adds}
+use Rattle.jsgen_printer.proofs.Prefixes.{prefix_of_prefix}
+use Rattle.jsgen_printer.proofs.Sequence.{Appends, goes_laid, goes_then, items_go}
+
+-- a step by another function, which comes to the same where nothing has failed
+pub goes_there : {a b : Printer} {f : Pen → Pen} (g : Pen → Pen) → (has_failed a ≡ false → f (pen_of a) ≡ g (pen_of a)) → Goes a b f → Goes a b g
+goes_there {a} {b} g e h = record { stays = h.stays; goes = λ going. subst (λ whole. Ends (has_failed b) (pen_of a) (pen_of b) whole) (e going) (h.goes going) }
+
+-- a step, items, and a step
+goes_round : {a b c d : Printer} {f g : Pen → Pen} (i : Items) → Appends f → Appends g → Goes a b f → Lays b c i → Goes c d g → Goes a d (λ pen. g (lay i (f pen)))
+goes_round {a} {b} {c} {d} {f} {g} i more rest h inside k = goes_then (λ pen. prefix_of_prefix (more pen) (layout_appends i (f pen))) rest (goes_then more (λ pen. layout_appends i pen) h (items_go inside)) k
+
+-- what is held while items are printed, and closes them
+pub held_laid : {a b c d : Printer} {i : Items} (o : ℕ) (cs : List Comment) → cs ≡ ending_at (last_byte o) (pen_of a) → Goes a b (without_ending (last_byte o)) → Lays b c i → Goes c d (closing_group cs) → Lays a d (held o i)
+held_laid {a} {b} {c} {d} {i} o cs e h inside k =
+    goes_laid (held o i)
+    (ap (λ xs. closing_group xs (lay i (without_ending (last_byte o) (pen_of a)))) e)
+    (goes_round i (λ pen. (ending_adds (last_byte o) pen).text) (λ pen. (closing_adds cs pen).text) h inside k)
+
+-- behind the one statement of a case the level is back where it stands on a line of its own
+behind_case : (long : Bool) (depth end : ℕ) (pen : Pen) → case_behind (level_if long depth) end pen ≡ case_ended long depth end pen
+behind_case true depth end pen = refl
+behind_case false depth end pen = refl
+
+behind_adds : (level : Option ℕ) (end : ℕ) → Appends (case_behind level end)
+behind_adds None end pen = (case_end_adds false 0 end pen).text
+behind_adds (Some depth) end pen = (case_end_adds true depth end pen).text
+
+pub lined_case_laid : {a b c d : Printer} {i : Items} (start end : ℕ) (lead : Lead) (level : Option ℕ) → level ≡ level_if (has_orphans start (pen_of a)) (pen_of a).depth → Goes a b (λ pen. case_mark (has_orphans start pen) lead (case_begun (has_orphans start pen) lead start pen)) → Lays b c i → Goes c d (case_behind level end) → Lays a d (lined_case start end lead i)
+lined_case_laid {a} {b} {c} {d} {i} start end lead level e h inside k =
+    let pen = pen_of a in
+    let long = has_orphans start pen in
+    let inner : Pen = lay i (case_mark long lead (case_begun long lead start pen)) in
+    goes_laid (lined_case start end lead i)
+    (ap (λ l. case_behind l end inner) e ∙ behind_case long pen.depth end inner)
+    (goes_round i (λ pen. (case_adds (has_orphans start pen) lead start pen).text) (behind_adds level end) h inside k)
+
+-- a `catch` behind comments, and what stands before its block
+pub caught_laid : {a b c d : Printer} {i : Items} (start body : ℕ) (stood : Bool) → stood ≡ are_any (group_at start (pen_of a)) → Goes a b (comments_at all_of_them start) → Lays b c i → Goes c d (before_block stood body) → Lays a d (caught start body i)
+caught_laid {a} {b} {c} {d} {i} start body stood e h inside k =
+    goes_laid (caught start body i)
+    (ap (λ t. before_block t body (lay i (comments_at all_of_them start (pen_of a)))) e)
+    (goes_round i (λ pen. (comments_add all_of_them start pen).text) (λ pen. (block_adds stood body pen).text) h inside k)
