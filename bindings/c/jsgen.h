@@ -1,5 +1,6 @@
 /*
- * jsgen prints JavaScript: the bytes of a job go in, a syntax tree in JSON (docs/FORMAT.md), and its text comes out, in UTF-8.
+ * jsgen prints JavaScript: the bytes of a job go in, a syntax tree in JSON (docs/FORMAT.md), and its text, the lines of its source
+ * map or those of its licences come out, in UTF-8.
  *
  * Memory. Every pointer is the caller's, before the call and after it: nothing is kept, and a call reads and writes only
  * while it runs. No pointer is NULL, not even beside a length of 0. The buffer and the answer overlap neither each other nor the
@@ -57,7 +58,7 @@ enum jsgen_rule {
 
 /* What is told besides the status. A call writes all of it, with 0 for what the status and the rule don't speak of. */
 struct jsgen_answer {
-  size_t text_length; /* the bytes of the text, under JSGEN_BUFFER_TOO_SMALL and, of jsgen_print_job, JSGEN_DONE */
+  size_t text_length; /* the bytes of the text, under JSGEN_BUFFER_TOO_SMALL and, but of jsgen_check_job, JSGEN_DONE */
   size_t row;         /* rows and fields are counted from 0 */
   size_t field;
   uint32_t has_row;   /* 1 or 0 */
@@ -72,6 +73,16 @@ struct jsgen_answer {
  * Statuses: all six.
  */
 uint32_t jsgen_print_job(const uint8_t *job, size_t job_length, uint8_t *buffer, size_t buffer_length, struct jsgen_answer *answer);
+
+/*
+ * The same for the lines of its source map, as docs/FORMAT.md has them: none where no path is set for one.
+ */
+uint32_t jsgen_map_job(const uint8_t *job, size_t job_length, uint8_t *buffer, size_t buffer_length, struct jsgen_answer *answer);
+
+/*
+ * The same for the lines of its licences that stand in a file of their own: none where the options have them elsewhere.
+ */
+uint32_t jsgen_legal_job(const uint8_t *job, size_t job_length, uint8_t *buffer, size_t buffer_length, struct jsgen_answer *answer);
 
 /*
  * Says whether a job's tree keeps the rules, and prints nothing. What is wrong is told as by jsgen_print_job, and of several

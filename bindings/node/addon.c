@@ -29,12 +29,12 @@ static bool bytes_of(napi_env env, napi_callback_info info, uint8_t **bytes, siz
   return type == napi_uint8_array;
 }
 
-static napi_value object_of(napi_env env, uint32_t status, const struct jsgen_answer *answer, const uint8_t *code) {
+static napi_value object_of(napi_env env, uint32_t status, const struct jsgen_answer *answer, const uint8_t *bytes) {
   napi_value object, text;
   if (napi_create_object(env, &object) != napi_ok || !set_number(env, object, "status", status)) return failed(env, "no object");
   if (status == JSGEN_DONE) {
-    if (napi_create_string_utf8(env, (const char *)code, answer->text_length, &text) != napi_ok) return failed(env, "the code is too long for a string");
-    if (napi_set_named_property(env, object, "code", text) != napi_ok) return failed(env, "no object");
+    if (napi_create_string_utf8(env, (const char *)bytes, answer->text_length, &text) != napi_ok) return failed(env, "the text is too long for a string");
+    if (napi_set_named_property(env, object, "text", text) != napi_ok) return failed(env, "no object");
     return object;
   }
   bool is_set = set_number(env, object, "rule", answer->rule) && set_number(env, object, "start", answer->start) &&
@@ -43,8 +43,10 @@ static napi_value object_of(napi_env env, uint32_t status, const struct jsgen_an
   return is_set ? object : failed(env, "no object");
 }
 
-// printJob(bytes): { status, code }, or the numbers of a fault beside the status.
-static napi_value print_job(napi_env env, napi_callback_info info) {
+typedef uint32_t job_call(const uint8_t *job, size_t job_length, uint8_t *buffer, size_t buffer_length, struct jsgen_answer *answer);
+
+// What a call gives for the bytes of a job: { status, text }, or the numbers of a fault beside the status.
+static napi_value answered(napi_env env, napi_callback_info info, job_call *call) {
   uint8_t *job = NULL;
   size_t length = 0;
   if (!bytes_of(env, info, &job, &length)) {
@@ -54,25 +56,41 @@ static napi_value print_job(napi_env env, napi_callback_info info) {
   if (length == 0) job = (uint8_t *)"";
   // A text is hardly ever longer than its job; one that is tells how long it is.
   size_t capacity = length + 64;
-  uint8_t *code = malloc(capacity);
-  if (code == NULL) return failed(env, "out of memory");
+  uint8_t *text = malloc(capacity);
+  if (text == NULL) return failed(env, "out of memory");
   struct jsgen_answer answer;
-  uint32_t status = jsgen_print_job(job, length, code, capacity, &answer);
+  uint32_t status = call(job, length, text, capacity, &answer);
   if (status == JSGEN_BUFFER_TOO_SMALL) {
-    free(code);
+    free(text);
     capacity = answer.text_length;
-    code = malloc(capacity);
-    if (code == NULL) return failed(env, "out of memory");
-    status = jsgen_print_job(job, length, code, capacity, &answer);
+    text = malloc(capacity);
+    if (text == NULL) return failed(env, "out of memory");
+    status = call(job, length, text, capacity, &answer);
   }
-  napi_value object = object_of(env, status, &answer, code);
-  free(code);
+  napi_value object = object_of(env, status, &answer, text);
+  free(text);
   return object;
 }
 
-NAPI_MODULE_INIT() {
+static napi_value print_job(napi_env env, napi_callback_info info) {
+  return answered(env, info, jsgen_print_job);
+}
+
+static napi_value map_job(napi_env env, napi_callback_info info) {
+  return answered(env, info, jsgen_map_job);
+}
+
+static napi_value legal_job(napi_env env, napi_callback_info info) {
+  return answered(env, info, jsgen_legal_job);
+}
+
+static bool set_function(napi_env env, napi_value exports, const char *name, napi_callback call) {
   napi_value function;
-  if (napi_create_function(env, "printJob", NAPI_AUTO_LENGTH, print_job, NULL, &function) != napi_ok) return NULL;
-  if (napi_set_named_property(env, exports, "printJob", function) != napi_ok) return NULL;
-  return exports;
+  return napi_create_function(env, name, NAPI_AUTO_LENGTH, call, NULL, &function) == napi_ok && napi_set_named_property(env, exports, name, function) == napi_ok;
+}
+
+NAPI_MODULE_INIT() {
+  bool is_set = set_function(env, exports, "printJob", print_job) && set_function(env, exports, "mapJob", map_job) &&
+                set_function(env, exports, "legalJob", legal_job);
+  return is_set ? exports : NULL;
 }

@@ -31,13 +31,18 @@ function loaded() {
 export function printJob(job) {
   if (typeof job !== "string" && !(job instanceof Uint8Array)) throw new TypeError("a job is a string or a Uint8Array");
   const bytes = typeof job === "string" ? Buffer.from(job) : job;
-  return addon ? byAddon(bytes) : byProgram("print", bytes);
+  return answered("print", bytes);
 }
 
-function byAddon(bytes) {
-  const answer = addon.printJob(bytes);
+// What is asked of the bytes of a job by one of the program's words.
+function answered(word, bytes) {
+  return addon ? byAddon(word, bytes) : byProgram(word, bytes);
+}
+
+function byAddon(word, bytes) {
+  const answer = addon[`${word}Job`](bytes);
   if (answer.status !== 0) throw errorOf(answer);
-  return answer.code;
+  return answer.text;
 }
 
 function byProgram(word, bytes) {
@@ -60,15 +65,10 @@ export function print(program, settings = {}) {
     comments: source === undefined ? [] : (program.comments ?? program.program?.comments ?? []),
   });
   const bytes = Buffer.from(JSON.stringify(job));
-  const map = settings.sourceMap ? mapOf(bytes, options.source_map_path, source) : null;
+  const map = settings.sourceMap ? sourceMapOf(answered("map", bytes), { name: options.source_map_path, source }) : null;
   const printed = { code: printJob(bytes), map };
   const areApart = source !== undefined && /^(linked|external)$/.test(options.legal);
-  return areApart ? { ...printed, licences: licencesOf(byProgram("legal", bytes), source) } : printed;
-}
-
-// The map is the program's, also where the code is the addon's.
-function mapOf(bytes, name, source) {
-  return sourceMapOf(byProgram("map", bytes), { name, source });
+  return areApart ? { ...printed, licences: licencesOf(answered("legal", bytes), source) } : printed;
 }
 
 function optionsOf(settings) {

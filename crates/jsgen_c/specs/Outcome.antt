@@ -1,5 +1,6 @@
 -- What each outcome says of the bytes of a job and of the caller's buffer.
-use Rattle.std.specs.Prelude.{◌≡◌, ℕ, ◌<◌, List, ◌++◌, length, take, drop, Result, Ok, Err}
+use Rattle.std.specs.Prelude.{◌≡◌, ℕ, ◌<◌, List, ◌++◌, length, take, drop, String, string_bytes, Result, Ok, Err}
+use Rattle.std.specs.declared.alloc.Global.{Global}
 use Rattle.std.specs.Str.{chars, IsUtf8}
 use Rattle.jsgen_tree.specs.Job.{JobData}
 use Rattle.jsgen_model.specs.Plain.{IsPlain, IsQuiet}
@@ -8,7 +9,7 @@ use Rattle.jsgen_model.specs.Spell.{text_bytes}
 use Rattle.jsgen_check.specs.Verdict.{told}
 use Rattle.jsgen_jobs.specs.Job.{IsJobOf, IsSomeJob, IsFaulty}
 use Rattle.jsgen_jobs.specs.declared.JobFault.{JobFault}
-use Rattle.jsgen_jobs.specs.declared.JobFault.TheVariants.{NotJob, Refused, Memory}
+use Rattle.jsgen_jobs.specs.declared.JobFault.TheVariants.{Refused}
 use Rattle.jsgen_rows.specs.Job.{job_of}
 use Rattle.jsgen_tool.specs.Transfer.{IsWithin, limit}
 use Rattle.jsgen_c.specs.Numbers.{status_of, numbers_of}
@@ -33,11 +34,20 @@ abbrev pub HasFault : JobFault → List ℕ → Type 0
 HasFault (Refused fault) bytes = IsFaulty bytes (Refused fault) × ((job : JobData) → job_of bytes ≡ Ok job → told job ≡ Err fault)
 HasFault other bytes = IsFaulty bytes other
 
--- the text of a job that keeps the rules is put into the buffer, or the buffer is as it was
+-- what is wanted of a job that keeps the rules is put into the buffer, or the buffer is as it was
+abbrev pub Answered : (JobData → List ℕ) → Outcome → List ℕ → List ℕ → List ℕ → Type 0
+Answered wanted (Faulty fault) bytes old new = IsWithin bytes × HasFault fault bytes × (new ≡ old)
+Answered wanted TooLong bytes old new = (limit < length bytes) × (new ≡ old)
+Answered wanted placed bytes old new = IsWithin bytes × ((job : JobData) × IsJobOf job bytes × Placed placed (wanted job) old new)
+
+-- the text of its program
 abbrev pub Printed : Outcome → List ℕ → List ℕ → List ℕ → Type 0
-Printed (Faulty fault) bytes old new = IsWithin bytes × HasFault fault bytes × (new ≡ old)
-Printed TooLong bytes old new = (limit < length bytes) × (new ≡ old)
-Printed placed bytes old new = IsWithin bytes × ((job : JobData) × IsJobOf job bytes × Placed placed (text_bytes job) old new)
+Printed outcome bytes old new = Answered text_bytes outcome bytes old new
+
+-- an answer is put into a buffer, or is a fault
+abbrev pub Filled : Result (String Global) JobFault → Outcome → List ℕ → List ℕ → Type 0
+Filled (Ok text) outcome old new = Placed outcome (string_bytes text) old new
+Filled (Err fault) outcome old new = (outcome ≡ Faulty fault) × (new ≡ old)
 
 -- the verdict on a job, without its text
 abbrev pub Checked : Outcome → List ℕ → Type 0

@@ -7,10 +7,12 @@ mod fill;
 mod laws;
 mod outcome;
 
-ghost use Rattle.jsgen_c.specs.Outcome.{Tells, Printed, Checked, IsReadBack};
+ghost use Rattle.jsgen_jobs.specs.LegalText.{legal_bytes};
+ghost use Rattle.jsgen_jobs.specs.MapText.{map_bytes};
+ghost use Rattle.jsgen_c.specs.Outcome.{Tells, Answered, Printed, Checked, IsReadBack};
 
 use crate::answer::Answer;
-use crate::fill::{check, print};
+use crate::fill::{check, legal, map, print};
 use std::alloc::Global;
 
 /// Prints the program of a job into the buffer, and gives the status. What the other numbers of the answer are is told by it.
@@ -27,6 +29,37 @@ pub extern "C" fn jsgen_print_job(
     ensures reads { IsReadBack result answer.new job.now buffer.new }
 {
     let outcome = print(alloc, job, buffer);
+    *answer = outcome.answer();
+    outcome.status()
+}
+
+/// Writes the lines of a job's source map into the buffer: nothing where no path is set for one.
+#[unsafe(no_mangle)]
+pub extern "C" fn jsgen_map_job(
+    alloc: Global,
+    job: &[u8],
+    buffer: &mut [u8],
+    answer: &mut Answer,
+) -> u32
+    ensures mapped { Tells result answer.new (λ outcome. Answered map_bytes outcome job.now buffer.old buffer.new) }
+{
+    let outcome = map(alloc, job, buffer);
+    *answer = outcome.answer();
+    outcome.status()
+}
+
+/// Writes the lines of a job's licences that stand in a file of their own into the buffer: nothing where the options have them
+/// elsewhere.
+#[unsafe(no_mangle)]
+pub extern "C" fn jsgen_legal_job(
+    alloc: Global,
+    job: &[u8],
+    buffer: &mut [u8],
+    answer: &mut Answer,
+) -> u32
+    ensures licensed { Tells result answer.new (λ outcome. Answered legal_bytes outcome job.now buffer.old buffer.new) }
+{
+    let outcome = legal(alloc, job, buffer);
     *answer = outcome.answer();
     outcome.status()
 }

@@ -97,6 +97,30 @@ test("a buffer that is exactly large enough takes the text, and one a byte small
   }
 });
 
+// A licence that stands in a file of its own, and a map that is asked for.
+const LICENSED =
+  '{"options":{"source_map_path":"x.js","legal":"external"},"rows":[{"type":"Comment","kind":"block","content":"legal","leading":true,"attached_to":9,"span":[0,8]},{"type":"IdentifierReference","span":[9,10],"name":"a"},{"type":"ExpressionStatement","span":[9,11],"expression":1},{"type":"Program","span":[0,11],"source":"/*! L */\\na;","kind":"module","comments":[0],"body":[2]}]}';
+
+test("a map and licences come as lines, where they are asked for", { skip }, () => {
+  for (const [word, wanted] of [["print", "a;\n"], ["map", "0 0 1 0\n"], ["legal", "0 8\n"]]) {
+    const { length } = wanted;
+    const answer = asked([word, length], LICENSED);
+    assert.deepEqual([answer.status, answer.length, text(answer), answer.restAsItWas, answer.kept], [0, length, wanted, true, 0], word);
+    const small = asked([word, length - 1], LICENSED);
+    assert.deepEqual([small.status, small.length, small.restAsItWas, small.kept], [8, length, true, 0], word);
+    for (let failing = 1; failing <= answer.requests; failing++) {
+      const refused = asked([word, 100, failing], LICENSED);
+      assert.deepEqual([refused.status, refused.length, refused.restAsItWas, refused.kept], [6, 0, true, 0], `${word}, request ${failing}`);
+    }
+  }
+  for (const word of ["map", "legal"]) {
+    const none = asked([word, 0], first);
+    assert.deepEqual([none.status, none.length, none.restAsItWas], [0, 0, true], word);
+    assert.equal(line(asked([word, 100], "{}")), "not a job: Missing head field 4", word);
+    assert.equal(asked([word, 100], TEMPLATE).status, 1, word);
+  }
+});
+
 test("an empty text fits an empty buffer", { skip }, () => {
   const answer = asked(["print", 0], '{"rows":[{"type":"Program","kind":"module"}]}');
   assert.deepEqual([answer.status, answer.length, answer.restAsItWas], [0, 0, true]);

@@ -7,6 +7,7 @@ import { join } from "node:path";
 import { test } from "node:test";
 import { fileURLToPath } from "node:url";
 import { Worker } from "node:worker_threads";
+import { jobOf } from "../../estree/convert.mjs";
 import { packageOrNull } from "../../estree/packages.mjs";
 import { parsed } from "../../estree/parser.mjs";
 import { program, unbuilt, unmapped } from "../../estree/program.mjs";
@@ -20,6 +21,11 @@ const withoutAddon = addon === null && "the addon isn't built: node bindings/nod
 
 const SOURCE = 'import { a } from "b";\n\nexport class C extends a {\n  #d = 1;\n}\n';
 const FIRST = readFileSync(here("../../../examples/first.json"));
+
+function jobOfSource(source, options) {
+  const tree = parsed(source, { comments: true });
+  return Buffer.from(JSON.stringify(jobOf(tree, { source, options, comments: tree.comments })));
+}
 
 function faultOf(job) {
   try {
@@ -92,6 +98,13 @@ test("a map is made where it is asked for", { skip: withoutMaps }, () => {
   assert.deepEqual(print(parsed(source), { ...settings, options: { source_map_path: "x.js" } }).map, { ...map, sources: ["x.js"] });
   assert.equal(print(parsed(source), { ...settings, sourceMap: false }).map, null);
   assert.throws(() => print({ type: "Program", sourceType: "module", body: [{ type: "ExpressionStatement", expression: { type: "Identifier", name: "if" } }] }, settings), JsgenError);
+});
+
+test("the addon gives the lines of a map and of licences", { skip: withoutAddon }, () => {
+  const job = jobOfSource("/*! L */\na", { source_map_path: "x.js", legal: "external" });
+  assert.deepEqual(addon.printJob(job), { status: 0, text: "a;\n" });
+  assert.deepEqual(addon.mapJob(job), { status: 0, text: "0 0 1 0\n" });
+  assert.deepEqual(addon.legalJob(job), { status: 0, text: "0 8\n" });
 });
 
 test("the addon takes nothing but bytes", { skip: withoutAddon }, () => {

@@ -2,6 +2,8 @@
  * Makes one call and says on standard output, as JSON, what came of it. The job is standard input.
  *
  *   probe print ROOM [N]    jsgen_print_job with a buffer of ROOM bytes, where the Nth request for memory fails
+ *   probe map ROOM [N]      the same of jsgen_map_job
+ *   probe legal ROOM [N]    the same of jsgen_legal_job
  *   probe check [N]         jsgen_check_job
  *   probe threads COUNT     COUNT threads that print the job 200 times each, at once
  *   probe repeat COUNT      the job printed COUNT times, with the size of the process after the first tenth and at the end
@@ -94,14 +96,16 @@ static void tell_hex(const uint8_t *at, size_t length) {
   for (size_t i = 0; i < length; i++) printf("%02x", at[i]);
 }
 
-static int print(struct bytes job, size_t room, const char *failing) {
+typedef uint32_t job_call(const uint8_t *job, size_t job_length, uint8_t *buffer, size_t buffer_length, struct jsgen_answer *answer);
+
+static int answered(job_call *call, struct bytes job, size_t room, const char *failing) {
   uint8_t *all = room_for(room + 2 * GUARD);
   uint8_t *buffer = all + GUARD;
   struct jsgen_answer answer;
   memset(all, FILL, room + 2 * GUARD);
   memset(&answer, FILL, sizeof answer);
   begin_count(failing);
-  uint32_t status = jsgen_print_job(job.at, job.length, buffer, room, &answer);
+  uint32_t status = call(job.at, job.length, buffer, room, &answer);
   is_counted = false;
   size_t written = status == JSGEN_DONE ? answer.text_length : 0;
   bool is_within = written <= room;
@@ -207,10 +211,12 @@ int main(int count, char **words) {
   struct bytes job = standard_input();
   const char *first = count > 2 ? words[2] : NULL;
   const char *second = count > 3 ? words[3] : NULL;
-  if (count > 2 && strcmp(words[1], "print") == 0) return print(job, strtoull(first, NULL, 10), second);
+  if (count > 2 && strcmp(words[1], "print") == 0) return answered(jsgen_print_job, job, strtoull(first, NULL, 10), second);
+  if (count > 2 && strcmp(words[1], "map") == 0) return answered(jsgen_map_job, job, strtoull(first, NULL, 10), second);
+  if (count > 2 && strcmp(words[1], "legal") == 0) return answered(jsgen_legal_job, job, strtoull(first, NULL, 10), second);
   if (count > 1 && strcmp(words[1], "check") == 0) return check(job, first);
   if (count > 2 && strcmp(words[1], "threads") == 0) return threads(job, atoi(first));
   if (count > 2 && strcmp(words[1], "repeat") == 0) return repeat(job, atoi(first));
-  fprintf(stderr, "usage: probe print ROOM [N] | check [N] | threads COUNT | repeat COUNT\n");
+  fprintf(stderr, "usage: probe print ROOM [N] | map ROOM [N] | legal ROOM [N] | check [N] | threads COUNT | repeat COUNT\n");
   return 2;
 }
