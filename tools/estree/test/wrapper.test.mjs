@@ -14,6 +14,8 @@ echo "$$ $1" >>"$CALLS"
 case $1 in
   all) echo "== jsgen_syntax"; sleep "$PAUSE" ;;
   run) mkdir -p out; printf '#!/bin/sh\\necho "code of $1"\\n' >out/jsgen_cli; chmod +x out/jsgen_cli ;;
+  lib) mkdir -p out; echo 'int jsgen_print_job(void){return 7;}int other(void){return 1;}' | cc -fPIC -c -x c - -o out/a.o && ar rcs out/libjsgen_c.a out/a.o ;;
+  doc) echo "$KIT/page.md" ;;
   try)
     [ "$PAUSE" != broken ] || { echo "no such function" >&2; exit 1; }
     echo "code"
@@ -107,5 +109,28 @@ test("--unproved runs the program without its proofs, and says so", async () => 
     const call = started(folder, env, ["--unproved", "print"]);
     assert.equal(await call.ended, 70);
     assert.match(call.lines, /\nno such function\njsgen: the program could not be run\n$/);
+  });
+});
+
+test("--install puts the program, the header and the library into a folder, and builds what isn't built", { skip: spawnSync("cc", ["--version"]).status !== 0 && "there is no C compiler, cc" }, async () => {
+  await withWrapper("0", async (folder, env, calls) => {
+    const kit = join(folder, "kit");
+    mkdirSync(join(kit, "c"), { recursive: true });
+    mkdirSync(join(folder, "bindings", "c"), { recursive: true });
+    mkdirSync(join(folder, "crates", "jsgen_c", "src"), { recursive: true });
+    writeFileSync(join(folder, "bindings", "c", "jsgen.h"), "/* the header */\n");
+    spawnSync("ar", ["rcs", join(kit, "c", "liblibc_c.a")]);
+    const into = join(folder, "a b");
+    for (const turn of [1, 2]) {
+      const call = started(folder, { ...env, KIT: kit }, ["--install", into]);
+      assert.equal(await call.ended, 0, call.lines);
+      assert.equal(spawnSync(join(into, "bin", "jsgen"), ["print"]).stdout.toString(), "code of print\n", `turn ${turn}`);
+      assert.equal(readFileSync(join(into, "include", "jsgen.h"), "utf8"), "/* the header */\n");
+      const told = spawnSync("nm", ["-D", "--defined-only", join(into, "lib", "libjsgen.so")]).stdout.toString();
+      assert.match(told, /jsgen_print_job/);
+      assert.doesNotMatch(told, /other/);
+      assert.match(spawnSync("nm", [join(into, "lib", "libjsgen.a")]).stdout.toString(), /jsgen_print_job/);
+    }
+    assert.deepEqual(calls().map((line) => line.split(" ")[1]), ["all", "all", "run", "lib", "doc", "doc"]);
   });
 });
