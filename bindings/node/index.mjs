@@ -104,8 +104,9 @@ function commentOptions(comments) {
 
 function legalOf(legal) {
   if (["none", "inline", "eof", "external"].includes(legal)) return { legal };
-  if (typeof legal?.linked === "string") return { legal: "linked", legal_path: legal.linked };
-  throw new TypeError('comments.legal is "none", "inline", "eof", "external" or { linked: PATH }');
+  // The code names the path in a comment, which would end there.
+  if (typeof legal?.linked === "string" && !legal.linked.includes("*/")) return { legal: "linked", legal_path: legal.linked };
+  throw new TypeError('comments.legal is "none", "inline", "eof", "external" or { linked: PATH }, without */');
 }
 
 function indentOf(indent) {

@@ -41,6 +41,8 @@ export function takenComments(words, file) {
   if (placed) return { options: { ...options, legal: placed }, licences };
   if (!apart) throw new Refused("--legal wants none, inline, eof, linked=FILE or external=FILE");
   const path = apart === "linked" ? { legal_path: nameInMap(licences, file) } : {};
+  // The code names it in a comment, which would end there.
+  if (path.legal_path?.includes("*/")) throw new Refused("--legal linked=FILE takes no path that holds */");
   return { options: { ...options, legal: apart, ...path }, licences };
 }
 

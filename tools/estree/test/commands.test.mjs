@@ -72,6 +72,7 @@ test("print hands on the comments, and which of them are wanted", () => {
   for (const wrong of [["--legal"], ["--legal", "linked"], ["--legal", "linked="], ["--legal", "all"], ["--legal", "eof=a"]]) {
     assert.match(ran("print", [...wrong]).err, /^--legal wants none, inline, eof, linked=FILE or external=FILE\nusage: /);
   }
+  assert.match(ran("print", ["--legal", "linked=a*/b"]).err, /^--legal linked=FILE takes no path that holds \*\/\nusage: /);
 });
 
 test("print writes the licences into a file of their own", () => {
