@@ -68,7 +68,8 @@ class Rows {
     const row = { type };
     const start = startOf(node);
     if (this.byteAt && start !== undefined && endOf(node) > start) row.span = [this.byteAt(start), this.byteAt(endOf(node))];
-    for (const [name, value] of Object.entries(fields)) {
+    for (const name of Object.keys(fields)) {
+      const value = fields[name];
       const isAbsent = value === null || value === undefined || value === false || (Array.isArray(value) && value.length === 0);
       if (isAbsent && name !== needed) continue;
       if (!isField(type, name)) this.refuse(`${name} of ${type}`, node);
@@ -110,7 +111,7 @@ class Rows {
   // Comments have their spans in any case.
   comments(nodes) {
     if (nodes.length === 0) return [];
-    const byteAt = bytesAt(this.source);
+    const byteAt = this.byteAt ?? bytesAt(this.source);
     const places = nodes.map((node) => ({ start: startOf(node), end: endOf(node) }));
     return commentsOf(this.source, places).map((fields, at) => {
       const attached = byteAt(fields.attached_to);

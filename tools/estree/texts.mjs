@@ -15,22 +15,25 @@ export function isWholeNumber(text) {
 
 /** A string as a job has it: the text, or its units of UTF-16 where a surrogate has no partner. */
 export function unitsOf(text) {
-  const units = Array.from({ length: text.length }, (_, at) => text.charCodeAt(at));
-  return /\p{Surrogate}/u.test(text) ? units : text;
+  return /\p{Surrogate}/u.test(text) ? Array.from({ length: text.length }, (_, at) => text.charCodeAt(at)) : text;
 }
 
 /** A function from an offset in UTF-16 units of the text to one in bytes of UTF-8. */
 export function bytesAt(text) {
   if (!/[^\x00-\x7f]/.test(text)) return (offset) => offset;
   const bytes = new Uint32Array(text.length + 1);
-  let at = 0;
   let length = 0;
-  for (const character of text) {
-    bytes.fill(length, at, at + character.length);
-    at += character.length;
-    length += Buffer.byteLength(character);
+  for (let at = 0; at < text.length; at += 1) {
+    bytes[at] = length;
+    const point = text.codePointAt(at);
+    if (point > 0xffff) {
+      // The second unit of a pair has the offset of the first.
+      at += 1;
+      bytes[at] = length;
+    }
+    length += point < 0x80 ? 1 : point < 0x800 ? 2 : point <= 0xffff ? 3 : 4;
   }
-  bytes[at] = length;
+  bytes[text.length] = length;
   return (offset) => bytes[offset];
 }
 
