@@ -107,6 +107,36 @@ test("the addon gives the lines of a map and of licences", { skip: withoutAddon 
   assert.deepEqual(addon.legalJob(job), { status: 0, text: "0 8\n" });
 });
 
+// The jobs of node's own library, with their comments and a path for a map, minified every other one; none where this node hides it.
+function jobsOfNode() {
+  let natives = {};
+  try {
+    natives = process.binding("natives");
+  } catch {
+    return [];
+  }
+  const jobs = [];
+  for (const source of Object.values(natives).filter((text) => typeof text === "string")) {
+    try {
+      jobs.push(jobOfSource(source, { minify: jobs.length % 2 === 0, legal: "external", source_map_path: "a.js" }));
+    } catch {
+      // No module.
+    }
+  }
+  return jobs;
+}
+
+test("the addon gives for node's own library what the program gives", { skip: withoutAddon || unbuilt }, (t) => {
+  const jobs = jobsOfNode();
+  for (const job of jobs) {
+    for (const word of ["print", "map", "legal"]) {
+      const { status, stdout } = spawnSync(program(), [word], { input: job, maxBuffer: 2 ** 30 });
+      assert.deepEqual(addon[`${word}Job`](job), { status, text: stdout.toString() });
+    }
+  }
+  t.diagnostic(`${jobs.length} programs`);
+});
+
 test("the addon takes nothing but bytes", { skip: withoutAddon }, () => {
   for (const wrong of [undefined, null, "a", 5, {}, [1], new Uint16Array(2), new DataView(new ArrayBuffer(4))]) assert.throws(() => addon.printJob(wrong), TypeError);
   assert.throws(() => addon.printJob(), TypeError);
