@@ -5,6 +5,11 @@ const LINE_ENDS = /\r\n|[\n\r\u2028\u2029]/;
 const WHITE = /^[\s\u0085]+/;
 const DEFAULTS = { normal: true, jsdoc: true, annotation: true, legal: "inline" };
 
+/** Whether comments that say this are annotations of calls and functions, which stand in the text by what the tree says. */
+export function isAnnotation(content) {
+  return content === "pure" || content === "nosideeffects";
+}
+
 /** A comment's text without the white space that its lines begin with. */
 export function plain(text) {
   return text.split(LINE_ENDS).map((line) => line.replace(WHITE, "")).join("\n");

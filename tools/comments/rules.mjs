@@ -1,7 +1,9 @@
 // What is wrong with the comments of a printed text, by the rules of README.md.
+import { commentsOf } from "../estree/comments.mjs";
+import { jobOf } from "../estree/convert.mjs";
 import { difference, normal } from "../estree/normal.mjs";
 import { parsed } from "../estree/parser.mjs";
-import { commentsKept, plain } from "./kept.mjs";
+import { commentsKept, isAnnotation, plain } from "./kept.mjs";
 
 /**
  * The faults of a text that is printed for a source under these options: texts that begin with the rule that is broken. With how many
@@ -11,12 +13,31 @@ export function judged(source, printed, options = {}) {
   const tree = parsed(source, { comments: true });
   const other = parsed(printed, { comments: true });
   const { kept, licences } = commentsKept(source, tree, options);
-  const texts = other.comments.map(({ start, end }) => plain(printed.slice(start, end)));
+  const rows = commentsOf(printed, other.comments);
+  const texts = other.comments.filter((_, at) => !isAnnotation(rows[at].content)).map(({ start, end }) => plain(printed.slice(start, end)));
   const count = Math.max(0, texts.length - licences.length);
   const [inside, ending] = [texts.slice(0, count), texts.slice(count)];
   const found = difference(normal(tree), normal(other));
-  const faults = found ? [`program: ${found}`] : [...faultsOfEnd(licences, ending), ...faultsOfTexts(source, kept, inside)];
+  const faults = found
+    ? [`program: ${found}`]
+    : [...faultsOfEnd(licences, ending), ...faultsOfTexts(source, kept, inside), ...faultsOfPure(source, tree, printed, other, options)];
   return { faults, kept: kept.length, unprinted: Math.max(0, kept.length - inside.length) };
+}
+
+// As many calls are pure in the text as in the source, and no more functions; none where annotations aren't printed.
+function faultsOfPure(source, tree, printed, other, { annotation = true }) {
+  const had = pureIn(source, tree);
+  const has = pureIn(printed, other);
+  const wanted = annotation ? had.calls : 0;
+  const faults = has.calls === wanted ? [] : [`pure: ${has.calls} calls are pure in the text, and ${wanted} are to be`];
+  if (has.functions > (annotation ? had.functions : 0)) faults.push(`pure: ${has.functions} functions have no side effects in the text, and ${had.functions} in the source`);
+  return faults;
+}
+
+function pureIn(source, tree) {
+  const pure = jobOf(tree, { source, comments: tree.comments }).rows.filter((row) => row.pure);
+  const functions = pure.filter(({ type }) => /Function/.test(type)).length;
+  return { functions, calls: pure.length - functions };
 }
 
 // At the end stand the licences, each once.

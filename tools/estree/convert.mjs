@@ -48,12 +48,49 @@ function placeOf(node, source) {
   return ` in line ${before.length}, column ${before.at(-1).length + 1}`;
 }
 
+function isFunction(node) {
+  return /^(Function(Declaration|Expression)|ArrowFunctionExpression)$/.test(node?.type);
+}
+
+// The call that an expression is, or that its leftmost operand, its test or the first of a sequence is.
+function callIn(node) {
+  switch (node.type) {
+    case "CallExpression":
+    case "NewExpression":
+      return node;
+    case "ParenthesizedExpression":
+    case "ChainExpression":
+      return callIn(node.expression);
+    case "BinaryExpression":
+    case "LogicalExpression":
+      return callIn(node.left);
+    case "ConditionalExpression":
+      return callIn(node.test);
+    case "SequenceExpression":
+      return callIn(node.expressions[0]);
+    default:
+      return null;
+  }
+}
+
+// The function that a statement declares, exports, or gives the first of its constants.
+function functionIn(node) {
+  if (!node) return null;
+  if (isFunction(node)) return node;
+  if (/^Export(Named|Default)Declaration$/.test(node.type)) return functionIn(node.declaration);
+  const init = node.type === "VariableDeclaration" && node.kind === "const" && node.declarations[0].init;
+  return init && isFunction(withoutParentheses(init)) ? withoutParentheses(init) : null;
+}
+
 class Rows {
   constructor(source, spans, negative, names) {
     this.rows = [];
     this.source = source;
     this.negative = negative;
     this.names = names;
+    // annotations that are still to be met, by the offsets of what they stand before, and the nodes that they speak of
+    this.annotations = new Map();
+    this.pure = new Set();
     this.byteAt = spans && source !== undefined ? bytesAt(source) : null;
   }
 
@@ -116,9 +153,33 @@ class Rows {
     return commentsOf(this.source, places).map((fields, at) => {
       const attached = byteAt(fields.attached_to);
       const row = this.add("Comment", null, { ...fields, attached_to: attached }, "attached_to");
+      if (fields.leading && /^(pure|nosideeffects)$/.test(fields.content)) this.annotations.set(fields.attached_to, fields.content);
       this.rows[row].span = [byteAt(places[at].start), byteAt(places[at].end)];
       return row;
     });
+  }
+
+  // What the annotation before a node says; it is met then, whatever it says of the node.
+  meet(node) {
+    const start = startOf(node);
+    const content = this.annotations.get(start);
+    this.annotations.delete(start);
+    return content;
+  }
+
+  // Before an expression stands an annotation of the call that it is or begins with, or of the function that it is.
+  annotateExpression(node) {
+    const content = this.meet(node);
+    if (content === undefined) return;
+    const inside = withoutParentheses(node);
+    const meant = content === "pure" ? callIn(node) : isFunction(inside) ? inside : null;
+    if (meant) this.pure.add(meant);
+  }
+
+  // Before a statement one of the function that it declares, exports, or gives a constant.
+  annotateStatement(node) {
+    const declared = functionIn(node);
+    if (declared && this.annotations.get(startOf(node)) === "nosideeffects") this.pure.add(declared);
   }
 
   // The directives at the front of a body, and its statements.
@@ -133,6 +194,7 @@ class Rows {
   }
 
   statement(node) {
+    if (this.annotations.size > 0) this.annotateStatement(node);
     switch (node.type) {
       case "ExpressionStatement":
         return this.add(node.type, node, { expression: this.expression(node.expression) });
@@ -401,6 +463,7 @@ class Rows {
   // ---- expressions
 
   expression(node) {
+    if (this.annotations.size > 0) this.annotateExpression(node);
     switch (node.type) {
       case "Identifier":
         return this.add("IdentifierReference", node, { name: node.name, reference: this.names?.referenceOf.get(node) });
@@ -416,10 +479,11 @@ class Rows {
       case "CallExpression":
         return this.add(node.type, node, {
           callee: this.expression(node.callee), arguments: this.several(node.arguments, this.element), optional: node.optional,
+          pure: this.pure.has(node),
         });
       case "NewExpression":
         return this.add(node.type, node, {
-          callee: this.expression(node.callee), arguments: this.several(node.arguments, this.element),
+          callee: this.expression(node.callee), arguments: this.several(node.arguments, this.element), pure: this.pure.has(node),
         });
       case "ParenthesizedExpression":
       case "ChainExpression":
@@ -571,6 +635,7 @@ class Rows {
   arrow(node) {
     return this.add(node.type, node, {
       is_async: node.async,
+      pure: this.pure.has(node),
       type_parameters: node.typeParameters,
       params: this.parameters(node.params),
       return_type: node.returnType,
@@ -585,6 +650,7 @@ class Rows {
       is_async: node.async,
       generator: node.generator,
       declare: node.declare,
+      pure: this.pure.has(node),
       type_parameters: node.typeParameters,
       params: this.parameters(node.params),
       return_type: node.returnType,

@@ -10,6 +10,7 @@
     TABM             indentation, and where there may be any the mark of the span's start behind it
     LINK f           a child at the row's own place, with the mark behind it where that is the place of the object of a link
     C K              the comments that belong to the span's start; where one of them is a property-key annotation
+    COMMENTS f       the comments before a child; TOOLS f those for tools alone
     HEAD             C TAB ^ m
     NAME f           a name as it is written, with its mark
     WORD f           the word of a field of words
@@ -142,6 +143,12 @@ class Reader:
 
     def read_K(self):
         return [("comments", "with_key_annotation")]
+
+    def read_COMMENTS(self):
+        return [("before", "before_it", self.field(self.take()[1], ["Expression"]))]
+
+    def read_TOOLS(self):
+        return [("before", "annotation_before_it", self.field(self.take()[1], ["Expression"]))]
 
     def read_HEAD(self):
         return [("comments", "all_of_them"), ("plain", "indentation"), ("marked_word", self.take()[1])]

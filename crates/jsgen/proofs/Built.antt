@@ -1,8 +1,8 @@
 -- What a printer begins a program with, and what it leaves at its end.
-use Rattle.std.proofs.Common.{◌≡◌, ℕ, List, [], ◌∷◌, Bor, Vec, Global, Option, Some, map, string_bytes, option_map, if◌then◌else◌, refl, ap, ap₂, sym, subst, ◌∙◌}
+use Rattle.std.proofs.Common.{◌≡◌, ℕ, List, [], ◌∷◌, Bor, Option, Some, map, if◌then◌else◌, refl, ap, ap₂, sym, subst, ◌∙◌}
 use Rattle.std.specs.Str.{chars, encode_utf8_all}
 use Rattle.jsgen_tree.specs.Job.{JobData}
-use Rattle.jsgen_tree.specs.Options.{Legal, legal_plain}
+use Rattle.jsgen_tree.specs.Options.{legal_plain}
 use Rattle.jsgen_tree.specs.Rows.{comment_row}
 use Rattle.jsgen_tree.specs.Tree.{Trees, trees}
 use Rattle.jsgen_tree.specs.declared.options.LegalComment.{LegalComment}
@@ -10,12 +10,12 @@ use Rattle.jsgen_tree.specs.declared.statements.Comment as declared
 use Rattle.jsgen_comments.specs.Plain.{comment_plain}
 use Rattle.jsgen_map.specs.declared.source_map.SourceMap.{SourceMap}
 use Rattle.jsgen_place.specs.Place.{among_statements}
-use Rattle.jsgen_model.specs.Comments.{Store, comment_at, kept}
+use Rattle.jsgen_model.specs.Comments.{Store, Groups, comment_at, kept, kept_annotations}
 use Rattle.jsgen_model.specs.Ends.{is_apart, licensed, moved_licences}
 use Rattle.jsgen_model.specs.Layout.{Pen, empty_pen, style_of}
 use Rattle.jsgen_model.specs.Lay.{lay}
 use Rattle.jsgen_model.specs.Spell.{spell, comments_in, source_bytes, text_bytes}
-use Rattle.jsgen_printer.specs.Printer.{at_depth, by_store}
+use Rattle.jsgen_printer.specs.Printer.{at_depth, by_comments}
 use Rattle.jsgen.specs.Codegen.{mapped_from, MapsTo}
 use Rattle.jsgen.specs.Licences.{apart, ended_by, job_licences, rows_plain}
 use Rattle.jsgen.specs.Mapped.{HasMap}
@@ -28,16 +28,20 @@ pub record Built (job : JobData) (e : End) (pen : Pen) : Type 0 where
   pub legal : legal_plain e.legal.now ≡ job.options.comments.legal
   pub licences : rows_plain e.licences.items ≡ moved_licences job.options.comments.legal (source_bytes job) (comments_in job.program)
 
--- with the comments that the options keep
-begins_there : (job : JobData) (own pen : Pen) (store : Store) → pen ≡ by_store store own → own ≡ empty_pen (style_of job.options job.tables) 0 → store ≡ kept job.options.comments (source_bytes job) (comments_in job.program) → Begins job pen
-begins_there job own pen store is fresh waits = ap (λ q. at_depth job.options.initial_indent q) (is ∙ (ap (λ q. by_store store q) fresh ∙ ap (λ s. by_store s (empty_pen (style_of job.options job.tables) 0)) waits))
+-- with the comments and the annotations that the options keep
+begins_there : (job : JobData) (own pen : Pen) (store : Store) (annotations : Groups) → pen ≡ by_comments store annotations own → own ≡ empty_pen (style_of job.options job.tables) 0 → store ≡ kept job.options.comments (source_bytes job) (comments_in job.program) → annotations ≡ kept_annotations job.options.comments (source_bytes job) (comments_in job.program) → Begins job pen
+begins_there job own pen store annotations is fresh waits marked = ap (λ q. at_depth job.options.initial_indent q) (is ∙ (λ i. by_comments (waits i) (marked i) (fresh i)))
 
-pub built : (job : JobData) (e : End) (own pen : Pen) (store : Store) (legal : Bor LegalComment) (source bytes : List ℕ) (rows comments : List declared.Comment) → pen ≡ by_store store own → own ≡ empty_pen (style_of job.options job.tables) 0 → bytes ≡ source → source_bytes job ≡ source → rows ≡ comments → comments_in job.program ≡ trees (map comment_row comments) → store ≡ kept job.options.comments bytes (trees (map comment_row rows)) → e.legal ≡ legal → legal_plain legal.now ≡ job.options.comments.legal → rows_plain e.licences.items ≡ moved_licences (legal_plain legal.now) source (trees (map comment_row comments)) → Built job e pen
-built job e own pen store legal source bytes rows comments is fresh same its_source listed its_rows waits lent wanted found = record {
-  begins = begins_there job own pen store is fresh (waits ∙ (ap (λ bs. kept job.options.comments bs (trees (map comment_row rows))) (same ∙ sym its_source) ∙ ap (λ ts. kept job.options.comments (source_bytes job) ts) (ap (λ cs. trees (map comment_row cs)) listed ∙ sym its_rows)));
+pub built : (job : JobData) (e : End) (own pen : Pen) (store : Store) (annotations : Groups) (legal : Bor LegalComment) (source bytes : List ℕ) (rows comments : List declared.Comment) → pen ≡ by_comments store annotations own → own ≡ empty_pen (style_of job.options job.tables) 0 → bytes ≡ source → source_bytes job ≡ source → rows ≡ comments → comments_in job.program ≡ trees (map comment_row comments) → store ≡ kept job.options.comments bytes (trees (map comment_row rows)) → annotations ≡ kept_annotations job.options.comments bytes (trees (map comment_row rows)) → e.legal ≡ legal → legal_plain legal.now ≡ job.options.comments.legal → rows_plain e.licences.items ≡ moved_licences (legal_plain legal.now) source (trees (map comment_row comments)) → Built job e pen
+built job e own pen store annotations legal source bytes rows comments is fresh same its_source listed its_rows waits marked lent wanted found = record {
+  begins = begins_there job own pen store annotations is fresh (waits ∙ by_rows (kept job.options.comments)) (marked ∙ by_rows (kept_annotations job.options.comments));
   legal = ap (λ (b : Bor LegalComment). legal_plain b.now) lent ∙ wanted;
   licences = found ∙ (ap (λ l. moved_licences l source (trees (map comment_row comments))) wanted ∙ (ap (λ bs. moved_licences job.options.comments.legal bs (trees (map comment_row comments))) (sym its_source) ∙ ap (λ ts. moved_licences job.options.comments.legal (source_bytes job) ts) (sym its_rows)));
 }
+  where
+    -- the bytes and the rows are those of the job
+    by_rows : {A : Type 0} (f : List ℕ → Trees → A) → f bytes (trees (map comment_row rows)) ≡ f (source_bytes job) (comments_in job.program)
+    by_rows f = ap (λ bs. f bs (trees (map comment_row rows))) (same ∙ sym its_source) ∙ ap (λ ts. f (source_bytes job) ts) (ap (λ cs. trees (map comment_row cs)) listed ∙ sym its_rows)
 
 -- ---- the end
 

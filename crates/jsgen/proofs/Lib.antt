@@ -1,3 +1,4 @@
 mod Maps
 mod LegalLines
 mod Built
+mod Answered

@@ -1,4 +1,6 @@
+pub mod Annotated
 pub mod Lines
+pub mod Places
 pub mod Seen
 pub mod Sources
 pub mod Store

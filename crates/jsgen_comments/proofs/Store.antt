@@ -1,19 +1,20 @@
 -- Groups by their offsets, as the map has them.
-use Rattle.std.proofs.Common.{◌≡◌, ℕ, ◌<◌, Bool, true, false, not, cond, ◌||◌, ◌==◌, nat_lt, if◌then◌else◌, ◌⊎◌, inl, inr, List, [], ◌∷◌, ◌++◌, length, map, Some, None, Vec, refl, sym, ap, ◌∙◌, append_assoc, arith}
+use Rattle.std.proofs.Common.{◌≡◌, ℕ, Bool, true, false, not, cond, ◌||◌, ◌==◌, nat_lt, if◌then◌else◌, List, [], ◌∷◌, ◌++◌, length, map, Some, None, Vec, refl, sym, ap, ◌∙◌, append_assoc, arith}
 use Rattle.std.specs.declared.alloc.Global.{Global}
-use Rattle.std.specs.BTreeMap.{is_at, insert_entry}
+use Rattle.std.specs.BTreeMap.{insert_entry}
 use Rattle.std.specs.BTreeSet.{insert_key}
 use Rattle.std.specs.List.{list_any, filter}
 use Rattle.std.specs.Map.{lookup, remove_entry}
-use Rattle.std.specs.Option.{option_map_or}
 use Rattle.std.specs.declared.cmp.Ordering.TheVariants.{Less, Equal, Greater}
 use Rattle.std.specs.Ordering.{nat_cmp, match_ordering}
-use Rattle.std.proofs.lemmas.Bool.{cases_order, eqb-true, eq-eqb, ne_eqb, lt-ltb, le-ltb, true≢false, false≢true, not-false}
+use Rattle.std.proofs.lemmas.Bool.{eqb-true, ne_eqb, true≢false, false≢true, not-false}
 use Rattle.std.proofs.lemmas.List.{map-append, append-nil}
 use Rattle.jsgen_tree.specs.declared.statements.Comment as tree
 use Rattle.jsgen_model.specs.Comments.{Comment, Groups, Store, there, without, with_group, with_offset, unless_none, are_any, outlives, outliving, others, without_outliving, orphans_at, left_at, orphans_below, left_below}
-use Rattle.jsgen_model.specs.Groups.{is_key, is_key_annotation}
+use Rattle.jsgen_model.specs.Groups.{is_for_tools, is_key, is_key_annotation, is_tool_annotation}
 use Rattle.jsgen_comments.specs.declared.comments.Comments.{Comments}
+use Rattle.jsgen_comments.proofs.Places as places
+use Rattle.jsgen_comments.proofs.Places.{at}
 use Rattle.jsgen_comments.specs.Plain.{comment_plain, first_below, behind_first, store_of}
 
 abbrev pub Entries : Type 0
@@ -22,52 +23,25 @@ Entries = List (ℕ × Vec tree.Comment Global)
 abbrev pub comments_of : List ℕ → List tree.Comment → List Comment
 comments_of source cs = map (comment_plain source) cs
 
-abbrev pub groups_of : List ℕ → Entries → Groups
-groups_of source es = map (λ e. (e.0, map (comment_plain source) e.1.items)) es
+abbrev own : List ℕ → Vec tree.Comment Global → List Comment
+own source v = comments_of source v.items
 
-abbrev pub at : ℕ → ℕ → Bool
-at o k = is_at (nat_cmp o) k
+abbrev pub groups_of : List ℕ → Entries → Groups
+groups_of source es = places.groups_of (own source) es
 
 -- ---- the look-ups of the map
 
-equal : (o k : ℕ) → at o k ≡ (k == o)
-equal o k = by (cases_order o k)
-  where
-    by : (o ≡ k) ⊎ ((o < k) ⊎ (k < o)) → at o k ≡ (k == o)
-    by (inl e) = rw (le-ltb o k (omega arith), eq-eqb o k e, eq-eqb k o (sym e)) refl
-    by (inr (inl l)) = rw (lt-ltb o k l, ne_eqb k o (λ e. omega arith)) refl
-    by (inr (inr l)) = rw (le-ltb o k (omega arith), ne_eqb o k (λ e. omega arith), ne_eqb k o (λ e. omega arith)) refl
-
-at_offset : (source : List ℕ) (o : ℕ) (es : Entries) → option_map_or (λ (v : Vec tree.Comment Global). comments_of source v.items) (lookup (at o) es) [] ≡ there o (groups_of source es)
-at_offset source o [] = refl
-at_offset source o (e ∷ es) = ap (λ b. option_map_or (λ (v : Vec tree.Comment Global). comments_of source v.items) (cond b (Some e.1) (lookup (at o) es)) []) (equal o e.0) ∙ by (at_offset source o es) (e.0 == o)
-  where
-    by : option_map_or (λ (v : Vec tree.Comment Global). comments_of source v.items) (lookup (at o) es) [] ≡ there o (groups_of source es) → (b : Bool) → option_map_or (λ (v : Vec tree.Comment Global). comments_of source v.items) (cond b (Some e.1) (lookup (at o) es)) [] ≡ (if b then comments_of source e.1.items else there o (groups_of source es))
-    by rest true = refl
-    by rest false = rest
-
 pub found : (source : List ℕ) (o : ℕ) (es : Entries) (v : Vec tree.Comment Global) → Some v ≡ lookup (at o) es → comments_of source v.items ≡ there o (groups_of source es)
-found source o es v h = ap (λ r. option_map_or (λ (v : Vec tree.Comment Global). comments_of source v.items) r []) h ∙ at_offset source o es
+found source o es v h = places.found (own source) o es v h
 
 pub absent : (source : List ℕ) (o : ℕ) (es : Entries) → None ≡ lookup (at o) es → [] ≡ there o (groups_of source es)
-absent source o es h = ap (λ r. option_map_or (λ (v : Vec tree.Comment Global). comments_of source v.items) r []) h ∙ at_offset source o es
+absent source o es h = places.absent (own source) o es h
 
 pub left : (source : List ℕ) (o : ℕ) (es : Entries) → groups_of source (remove_entry (at o) es) ≡ without o (groups_of source es)
-left source o [] = refl
-left source o (e ∷ es) = ap (λ b. groups_of source (cond b es (e ∷ remove_entry (at o) es))) (equal o e.0) ∙ by (left source o es) (e.0 == o)
-  where
-    by : groups_of source (remove_entry (at o) es) ≡ without o (groups_of source es) → (b : Bool) → groups_of source (cond b es (e ∷ remove_entry (at o) es)) ≡ (if b then groups_of source es else (e.0, comments_of source e.1.items) ∷ without o (groups_of source es))
-    by rest true = refl
-    by rest false = ap (λ gs. (e.0, comments_of source e.1.items) ∷ gs) rest
+left source o es = places.left (own source) o es
 
 pub inserted : (source : List ℕ) (o : ℕ) (es : Entries) (v : Vec tree.Comment Global) → groups_of source (insert_entry nat_cmp es o v) ≡ with_group o (comments_of source v.items) (groups_of source es)
-inserted source o [] v = refl
-inserted source o (e ∷ es) v = by (inserted source o es v) (nat_lt o e.0) (o == e.0) (λ q. sym (eqb-true o e.0 q))
-  where
-    by : groups_of source (insert_entry nat_cmp es o v) ≡ with_group o (comments_of source v.items) (groups_of source es) → (b d : Bool) → (d ≡ true → e.0 ≡ o) → groups_of source (match_ordering (cond b Less (cond d Equal Greater)) ((o, v) ∷ e ∷ es) ((e.0, v) ∷ es) (e ∷ insert_entry nat_cmp es o v)) ≡ (if b then (o, comments_of source v.items) ∷ ((e.0, comments_of source e.1.items) ∷ groups_of source es) else (if d then (o, comments_of source v.items) ∷ groups_of source es else (e.0, comments_of source e.1.items) ∷ with_group o (comments_of source v.items) (groups_of source es)))
-    by rest true d h = refl
-    by rest false true h = ap (λ k. (k, comments_of source v.items) ∷ groups_of source es) (h refl)
-    by rest false false h = ap (λ gs. (e.0, comments_of source e.1.items) ∷ gs) rest
+inserted source o es v = places.inserted (own source) o es v
 
 pub with_key : (o : ℕ) (ks : List ℕ) → insert_key nat_cmp ks o ≡ with_offset o ks
 with_key o [] = refl
@@ -111,6 +85,10 @@ any_of source (c ∷ cs) = ap not (ne_eqb (length (c ∷ cs)) 0 (λ e. omega ari
 pub keys_among : (source : List ℕ) (cs : List tree.Comment) → list_any (λ (c : tree.Comment). is_key c.content) cs ≡ list_any is_key_annotation (comments_of source cs)
 keys_among source [] = refl
 keys_among source (c ∷ cs) = ap (λ b. is_key c.content || b) (keys_among source cs)
+
+pub for_tools_among : (source : List ℕ) (cs : List tree.Comment) → list_any (λ (c : tree.Comment). is_for_tools c.content) cs ≡ list_any is_tool_annotation (comments_of source cs)
+for_tools_among source [] = refl
+for_tools_among source (c ∷ cs) = ap (λ b. is_for_tools c.content || b) (for_tools_among source cs)
 
 -- ---- those that outlive their places
 

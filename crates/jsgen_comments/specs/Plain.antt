@@ -2,9 +2,12 @@
 use Rattle.std.specs.Prelude.{ℕ, List, [], ◌∷◌, ◌++◌, Option, Some, None, map, nat_lt, not, codes, ◌==◌, if◌then◌else◌}
 use Rattle.std.specs.Str.{skip_leading_whitespace}
 use Rattle.jsgen_tree.specs.declared.statements.Comment as tree
-use Rattle.jsgen_model.specs.Comments.{Comment, Store, characters_at}
+use Rattle.jsgen_model.specs.Comments.{Comment, Groups, Store, characters_at}
+use Rattle.jsgen_model.specs.Items.{Annotation, is_pure, no_side_effects}
 use Rattle.jsgen_model.specs.Groups.{lines_behind, opens_block, closes_block}
 use Rattle.jsgen_model.specs.Layout.{text_if}
+use Rattle.jsgen_comments.specs.declared.annotations.AnnotationKind.{AnnotationKind}
+use Rattle.jsgen_comments.specs.declared.annotations.AnnotationKind.TheVariants as annotations
 use Rattle.jsgen_comments.specs.declared.comments.Comments.{Comments}
 use Rattle.jsgen_comments.specs.declared.comments.Group.{Group}
 
@@ -28,6 +31,15 @@ store_of c = record {
   groups = map (λ e. (e.0, map (comment_plain c.source.now) e.1.items)) c.groups.entries;
   orphans = c.orphans.keys;
 }
+
+-- the annotations that wait, of each offset one
+abbrev pub annotations_of : Comments → Groups
+annotations_of c = map (λ e. (e.0, comment_plain c.source.now e.1 ∷ [])) c.annotations.entries
+
+-- what an annotation says, in the model
+abbrev pub annotation_of : AnnotationKind → Annotation
+annotation_of annotations.Pure = is_pure
+annotation_of annotations.NoSideEffects = no_side_effects
 
 -- the first of some offsets, where it is below a number
 abbrev pub first_below : ℕ → List ℕ → Option ℕ

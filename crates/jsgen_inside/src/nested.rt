@@ -2,10 +2,10 @@
 ghost use Rattle.jsgen_tree.specs.Rows.{in_expression, in_statement, in_binding_pattern, in_class_element};
 
 use crate::PrintInside;
-use jsgen_lists::{PrintMember, PrintObject};
+use jsgen_lists::{PrintMember, PrintObject, PrintSubstitution};
 use jsgen_place::Place;
-use jsgen_printer::Printer;
-use jsgen_syntax::Span;
+use jsgen_printer::{CommentsBefore, Printer};
+use jsgen_syntax::{Precedence, Span};
 use jsgen_tree::{BindingPatternNode, ClassElementNode, ExpressionNode, StatementNode};
 
 /// What nests, printed as it is elsewhere.
@@ -18,6 +18,15 @@ impl<N, L: PrintInside<N>> PrintMember<ExpressionNode<N>> for Nested<L> {
 
     fn print_member(node: &ExpressionNode<N>, p: &mut Printer<'_>, place: Place) {
         L::print(node.get(), p, place);
+    }
+}
+
+impl<N, L: PrintInside<N>> PrintSubstitution<ExpressionNode<N>> for Nested<L> {
+    ghost plain = { in_expression L.plain };
+
+    fn print_substitution(node: &ExpressionNode<N>, p: &mut Printer<'_>) {
+        L::print_comments_before(node.get(), CommentsBefore::All, p);
+        L::print(node.get(), p, Place::in_brackets(Precedence::Lowest));
     }
 }
 

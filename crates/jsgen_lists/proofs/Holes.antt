@@ -1,16 +1,15 @@
 -- Lists in which members may be left out.
-use Rattle.std.proofs.Common.{◌≡◌, ℕ, Bool, true, false, Option, Some, None, is_some, List, [], ◌∷◌, map, length, slice_get, zero, suc, ◌-◌, ◌≤◌, ◌<◌, nat_lt, refl, ap, sym, ◌∙◌, arith}
-use Rattle.std.specs.Bool.{◌==◌}
-use Rattle.std.proofs.lemmas.Bool.{both_ways, eqb-true, lt-ltb}
+use Rattle.std.proofs.Common.{◌≡◌, ℕ, Bool, true, Option, Some, None, is_some, List, [], ◌∷◌, map, length, slice_get, zero, suc, ◌-◌, nat_lt, refl, ap, sym, ◌∙◌, arith}
+use Rattle.std.proofs.lemmas.Bool.{both_ways}
 use Rattle.std.proofs.lemmas.Option.{same_Some}
 use Rattle.jsgen_tree.specs.Tree.{Tree, holed}
 use Rattle.jsgen_model.specs.Punctuator.{comma}
-use Rattle.jsgen_model.specs.Items.{Items, ◌⊕◌, punctuator, soft_space}
+use Rattle.jsgen_model.specs.Items.{◌⊕◌, punctuator}
 use Rattle.jsgen_model.specs.Lay.{lay}
 use Rattle.jsgen_model.specs.Layout.{Pen, not}
 use Rattle.jsgen_place.specs.declared.place.Place.{Place}
-use Rattle.jsgen_model.specs.Spell.{spell_elements, spell_more_elements, line_or_space, on_lines, object_inside, are_more, count, ends_in_hole}
-use Rattle.jsgen_lists.specs.Lists.{element_items, all_elements}
+use Rattle.jsgen_model.specs.Spell.{spell_elements, spell_more_elements, line_or_space, are_more, count, ends_in_hole}
+use Rattle.jsgen_lists.specs.Lists.{element_items}
 
 -- ---- the first of the members
 
@@ -55,29 +54,3 @@ at_last f (y ∷ z ∷ zs) (suc n) x l e = ends_as_behind (f y) (f z) (map f zs)
 pub last_left_out : {A : Type 0} (f : A → Option Tree) (xs : List A) (x : A) → Some x ≡ slice_get xs (length xs - 1) → ends_in_hole (holed (map f xs)) ≡ not (is_some (f x))
 last_left_out f [] x e = absurd (both_ways true (ap is_some e) refl)
 last_left_out f (y ∷ ys) x e = at_last f (y ∷ ys) (length ys) x refl (e ∙ ap (slice_get (y ∷ ys)) (omega arith))
-
--- ---- an object, by how many properties it has
-
-pub none_inside : {A : Type 0} (f : A → Option Tree) (xs : List A) (place : Place) → length xs == 0 ≡ true → object_inside (holed (map f xs)) (all_elements (are_more 1 (holed (map f xs))) (holed (map f xs)) place) ≡ all_elements false (holed (map f xs)) place
-none_inside f [] place e = refl
-none_inside f (x ∷ xs) place e = absurd (omega (arith, eqb-true (suc (length xs)) 0 e))
-
-one_inside : (o : Option Tree) (place : Place) → object_inside (holed (o ∷ [])) (all_elements (are_more 1 (holed (o ∷ []))) (holed (o ∷ [])) place) ≡ soft_space ⊕ (all_elements false (holed (o ∷ [])) place ⊕ soft_space)
-one_inside None place = refl
-one_inside (Some t) place = refl
-
-pub single_inside : {A : Type 0} (f : A → Option Tree) (xs : List A) (place : Place) → length xs ≤ 1 → length xs == 0 ≡ false → object_inside (holed (map f xs)) (all_elements (are_more 1 (holed (map f xs))) (holed (map f xs)) place) ≡ soft_space ⊕ (all_elements false (holed (map f xs)) place ⊕ soft_space)
-single_inside f [] place h e = absurd (both_ways true e refl)
-single_inside f (x ∷ []) place h e = one_inside (f x) place
-single_inside f (x ∷ y ∷ xs) place h e = absurd (omega (arith, h))
-
-many_inside : (o p : Option Tree) (os : List (Option Tree)) (items : Items) → object_inside (holed (o ∷ p ∷ os)) items ≡ on_lines true items
-many_inside None None os items = refl
-many_inside None (Some t) os items = refl
-many_inside (Some t) None os items = refl
-many_inside (Some t) (Some u) os items = refl
-
-pub more_inside : {A : Type 0} (f : A → Option Tree) (xs : List A) (place : Place) → 1 < length xs → object_inside (holed (map f xs)) (all_elements (are_more 1 (holed (map f xs))) (holed (map f xs)) place) ≡ on_lines true (all_elements true (holed (map f xs)) place)
-more_inside f [] place h = absurd (omega (arith, h))
-more_inside f (x ∷ []) place h = absurd (omega (arith, h))
-more_inside f (x ∷ y ∷ xs) place h = many_inside (f x) (f y) (map f xs) (all_elements (are_more 1 (holed (map f (x ∷ y ∷ xs)))) (holed (map f (x ∷ y ∷ xs))) place) ∙ ap (λ b. on_lines true (all_elements b (holed (map f (x ∷ y ∷ xs))) place)) (are_more_than 1 f (x ∷ y ∷ xs) ∙ lt-ltb 1 (suc (suc (length xs))) h)

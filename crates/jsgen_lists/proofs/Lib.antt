@@ -5,3 +5,4 @@ pub mod Braced
 pub mod NotOne
 mod Pieces
 pub mod Left
+pub mod Lined

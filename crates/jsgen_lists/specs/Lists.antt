@@ -6,7 +6,7 @@ use Rattle.jsgen_model.specs.Punctuator.{Brace, opening, closing}
 use Rattle.jsgen_model.specs.Items.{Items, nothing, ◌⊕◌, soft_line, indentation, drop_semicolon, mark, end_mark, brackets, orphan_lines}
 use Rattle.jsgen_model.specs.Lay.{lay}
 use Rattle.jsgen_model.specs.Layout.{Pen, written, other_end}
-use Rattle.jsgen_model.specs.Spell.{spell, spell_elements, ends_in_hole, comma_if}
+use Rattle.jsgen_model.specs.Spell.{spell, spell_elements, spell_properties, ends_in_hole, comma_if}
 use Rattle.jsgen_printer.specs.Printer.{deepened, at_depth}
 use Rattle.jsgen_place.specs.declared.place.Place.{Place}
 
@@ -18,6 +18,10 @@ element_items (Some t) place = spell t place
 -- members, and behind a last one that is left out its comma
 abbrev pub all_elements : Bool → Trees → Place → Items
 all_elements lines ts place = spell_elements lines ts place ⊕ comma_if (ends_in_hole ts)
+
+-- the properties of an object likewise
+abbrev pub all_properties : Bool → Trees → Place → Items
+all_properties lines ts place = spell_properties lines ts place ⊕ comma_if (ends_in_hole ts)
 
 -- braces in which nothing stands but comments that stand nowhere else
 abbrev pub orphan_braces : Span → Items

@@ -1,9 +1,9 @@
 // Lists in which members may be left out, on one line or each on a line of its own.
 ghost use Rattle.std.specs.Prelude.{◌≡◌, true, false, map, not, Option, is_some};
 ghost use Rattle.jsgen_tree.specs.Tree.{Tree, holed};
-ghost use Rattle.jsgen_model.specs.Punctuator.{Square, Brace};
-ghost use Rattle.jsgen_model.specs.Items.{◌⊕◌, brackets, soft_space, mark, end_mark};
-ghost use Rattle.jsgen_model.specs.Spell.{spell_elements, spell_more_elements, next_line, line_or_space, on_lines, object_inside, are_more, ends_in_hole, comma_if};
+ghost use Rattle.jsgen_model.specs.Punctuator.{Square};
+ghost use Rattle.jsgen_model.specs.Items.{◌⊕◌, brackets, mark, end_mark};
+ghost use Rattle.jsgen_model.specs.Spell.{spell_elements, spell_more_elements, next_line, line_or_space, on_lines, are_more, ends_in_hole, comma_if};
 ghost use Rattle.jsgen_printer.specs.Steps.{Lays};
 ghost use Rattle.jsgen_lists.specs.Lists.{element_items, all_elements};
 
@@ -42,44 +42,6 @@ pub fn print_array<E, L: PrintElement<E>>(
     p.print_closing(Bracket::Square);
 }
 
-/// An object of a span: its properties in braces, a single one between spaces, and more on lines of their own.
-pub fn print_object<E, L: PrintElement<E>>(
-    span: Span,
-    properties: &[E],
-    p: &mut Printer<'_>,
-    place: Place,
-)
-    ensures { Lays p.old p.new (mark span ⊕ brackets Brace (object_inside (holed (map L.plain properties.now))
-        (all_elements (are_more 1 (holed (map L.plain properties.now))) (holed (map L.plain properties.now)) place) ⊕ end_mark span)) }
-{
-    p.print_mark(span);
-    p.print_opening(Bracket::Brace);
-    print_inside::<E, L>(properties, p, place);
-    p.print_end_mark(span);
-    p.print_closing(Bracket::Brace);
-}
-
-fn print_inside<E, L: PrintElement<E>>(properties: &[E], p: &mut Printer<'_>, place: Place)
-    ensures { Lays p.old p.new (object_inside (holed (map L.plain properties.now))
-        (all_elements (are_more 1 (holed (map L.plain properties.now))) (holed (map L.plain properties.now)) place)) }
-{
-    if properties.len() > 1 {
-        print_on_lines::<E, L>(properties, p, place);
-    } else if properties.is_empty() {
-        print_all::<E, L>(false, properties, p, place);
-    } else {
-        print_single::<E, L>(properties, p, place);
-    }
-}
-
-fn print_single<E, L: PrintElement<E>>(properties: &[E], p: &mut Printer<'_>, place: Place)
-    ensures { Lays p.old p.new (soft_space ⊕ (all_elements false (holed (map L.plain properties.now)) place ⊕ soft_space)) }
-{
-    p.print_soft_space();
-    print_all::<E, L>(false, properties, p, place);
-    p.print_soft_space();
-}
-
 fn are_more<E, L: PrintElement<E>>(count: usize, elements: &[E]) -> bool
     ensures { result ≡ are_more count (holed (map L.plain elements.now)) }
 {
@@ -112,7 +74,7 @@ fn print_on_lines<E, L: PrintElement<E>>(elements: &[E], p: &mut Printer<'_>, pl
     print_next_line(p);
 }
 
-fn print_next_line(p: &mut Printer<'_>)
+pub fn print_next_line(p: &mut Printer<'_>)
     ensures { Lays p.old p.new next_line }
 {
     p.print_soft_line();

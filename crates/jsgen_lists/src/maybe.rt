@@ -1,7 +1,7 @@
 // What may be there or not.
 ghost use Rattle.std.specs.Prelude.{map, option_map};
 ghost use Rattle.jsgen_tree.specs.Tree.{Tree, given, trees, optional};
-ghost use Rattle.jsgen_model.specs.Items.{◌⊕◌, soft_space, punctuator};
+ghost use Rattle.jsgen_model.specs.Items.{◌⊕◌, soft_space, punctuator, line_break, import_options};
 ghost use Rattle.jsgen_model.specs.Punctuator.{comma, equal};
 ghost use Rattle.jsgen_model.specs.Spell.{spell, spell_value, spell_if_given, spell_behind_comma, spell_apart, spell_caught, spell_test, comma_between};
 ghost use Rattle.jsgen_printer.specs.Steps.{Lays};
@@ -85,10 +85,10 @@ pub fn print_behind_comma<E, L: PrintMember<E>>(
 }
 
 fn print_second<E, L: PrintMember<E>>(member: &E, p: &mut Printer<'_>, place: Place)
-    ensures { Lays p.old p.new (punctuator comma ⊕ (soft_space ⊕ spell (L.plain member.now) place)) }
+    ensures { Lays p.old p.new (punctuator comma ⊕ (line_break import_options ⊕ spell (L.plain member.now) place)) }
 {
     p.print_comma();
-    p.print_soft_space();
+    p.print_options_break();
     L::print_member(member, p, place);
 }
 

@@ -1,21 +1,30 @@
 // The pieces of a template, and its expressions.
 ghost use Rattle.std.specs.Prelude.{◌≡◌, map};
 ghost use Rattle.jsgen_tree.specs.Rows.{template_element_row};
-ghost use Rattle.jsgen_tree.specs.Tree.{trees};
+ghost use Rattle.jsgen_syntax.specs.declared.precedence.Precedence.TheVariants.{Lowest};
+ghost use Rattle.jsgen_place.specs.Place.{in_brackets};
+ghost use Rattle.jsgen_tree.specs.Tree.{Tree, trees};
 ghost use Rattle.jsgen_tree.specs.Characters.{characters};
-ghost use Rattle.jsgen_model.specs.Items.{◌⊕◌, template_part};
-ghost use Rattle.jsgen_model.specs.Spell.{first_piece, other_pieces, opening_part, further_part, spell_substitutions};
+ghost use Rattle.jsgen_model.specs.Items.{◌⊕◌, template_part, before_it};
+ghost use Rattle.jsgen_model.specs.Spell.{first_piece, other_pieces, opening_part, further_part, spell, before_expression, spell_substitutions};
 ghost use Rattle.jsgen_printer.specs.Printer.{part_of};
 ghost use Rattle.jsgen_printer.specs.Steps.{Lays};
 
-use crate::members::PrintMember;
-use jsgen_place::Place;
 use jsgen_printer::{Printer, TemplatePart};
-use jsgen_syntax::Precedence;
 use jsgen_tree::TemplateElement;
 
+/// How the expressions of a template are printed.
+pub trait PrintSubstitution<E> {
+    // What an expression stands for.
+    ghost plain: { E → Tree };
+
+    /// The comments before it, and the expression.
+    fn print_substitution(expression: &E, p: &mut Printer<'_>)
+        ensures { Lays p.old p.new (before_expression before_it (plain expression.now) ⊕ spell (plain expression.now) (in_brackets Lowest)) };
+}
+
 /// A template: its pieces, whose raw texts a tag sees where the test holds, and its expressions between them.
-pub fn print_template<E, L: PrintMember<E>>(
+pub fn print_template<E, L: PrintSubstitution<E>>(
     tagged: bool,
     pieces: &[TemplateElement],
     expressions: &[E],
@@ -87,7 +96,7 @@ fn other_pieces(pieces: &[TemplateElement]) -> &[TemplateElement]
 }
 
 // The expressions, each with the piece behind it.
-fn print_substitutions<E, L: PrintMember<E>>(
+fn print_substitutions<E, L: PrintSubstitution<E>>(
     tagged: bool,
     expressions: &[E],
     pieces: &[TemplateElement],
@@ -97,7 +106,7 @@ fn print_substitutions<E, L: PrintMember<E>>(
 {
     let mut left = pieces;
     for expression in expressions {
-        L::print_member(expression, p, Place::in_brackets(Precedence::Lowest));
+        L::print_substitution(expression, p);
         print_further_piece(tagged, left, p);
         left = other_pieces(left);
     }

@@ -1,20 +1,20 @@
 -- Steps that print comments: each adds text, whatever marks there are and whatever source.
-use Rattle.std.proofs.Common.{◌≡◌, ℕ, ◌*◌, Bool, true, false, not as isnt, ◌&&◌, ◌||◌, ◌==◌, List, [], ◌∷◌, Option, Some, None, codes, drop, replicate, refl, ap, ◌∙◌, if◌then◌else◌}
+use Rattle.std.proofs.Common.{◌≡◌, ℕ, ◌*◌, Bool, true, false, ◌&&◌, ◌||◌, ◌==◌, List, [], ◌∷◌, Option, Some, None, codes, drop, replicate, refl, ap, ◌∙◌, if◌then◌else◌}
 use Rattle.std.specs.List.{list_all}
 use Rattle.std.specs.Str.{skip_leading_whitespace}
 use Rattle.jsgen_syntax.specs.Raw.{tag_free}
 use Rattle.jsgen_tree.specs.declared.statements.CommentKind.{CommentKind}
 use Rattle.jsgen_tree.specs.declared.statements.CommentKind.TheVariants as kinds
 use Rattle.jsgen_map.specs.Marks.{Mark}
-use Rattle.jsgen_model.specs.Items.{Manner, all_of_them, with_key_annotation, then_space, Lead, to_block, to_body, to_empty}
-use Rattle.jsgen_model.specs.Comments.{Comment, Store, taken, are_any, left_below, orphans_below}
-use Rattle.jsgen_model.specs.Groups.{line_ended, indented_here, softly_spaced, with_pending_space, used_up_if, used_up, lines_of, opens_block, closes_block, indented_if, block_line, block_lines, is_mid_line, html_close, text_written, comment_written, last_of, on_new_line, at_line_start, before_first, is_legal, before_later, is_line, ends_line, behind_last, behind, group, with_store, group_at, without_group, is_printed, ends_in, before_group, behind_group, printed_if, comments_at, orphans_before, has_orphans, one_deeper, at_level, soft_line_ended, orphan_lines_at, last_byte, ending_at, without_ending, closing_group, has_no_newlines, body_lines, body_of, empty_body_at, led_on_line, case_begun, case_ended, space_behind}
-use Rattle.jsgen_model.specs.Layout.{Pen, Ending, other_end, written, written_if, indented, indent_or_space, at_indentation, deeper_level, led}
+use Rattle.jsgen_model.specs.Items.{Annotation, no_side_effects, Lines, of_call, of_import, Break, first_argument, other_argument, import_source, import_options, Manner, all_of_them, then_space, with_due_space, before_it, annotation_before_it, with_key_annotation, Lead, to_block, to_body, to_empty}
+use Rattle.jsgen_model.specs.Comments.{Comment, Store, are_any, left_below, orphans_below}
+use Rattle.jsgen_model.specs.Groups.{line_ended, indented_here, softly_spaced, with_pending_space, used_up_if, used_up, lines_of, opens_block, closes_block, indented_if, block_line, block_lines, is_mid_line, html_close, text_written, comment_written, last_of, on_new_line, at_line_start, before_first, is_legal, before_later, is_line, ends_line, behind_last, behind, group, with_store, group_at, without_group, is_printed, ends_in, before_group, behind_group, printed_if, comments_at, orphans_before, has_orphans, one_deeper, at_level, soft_line_ended, orphan_lines_at, last_byte, ending_at, without_ending, closing_group, has_no_newlines, body_lines, body_of, empty_body_at, led_on_line, case_begun, case_ended, space_behind, annotation_text, fitting_at, without_annotation, annotation_by, annotation_written, begun_at, annotation_at, annotation_line_at, each_on_line, broken_by, broken_at, on_a_line, unless_on_line, break_at, any_group, may_be_lined, are_lined, with_lines, lines_opened, indents as are_indented, lines_closed, member_line_at, member_space_at, commented_if}
+use Rattle.jsgen_model.specs.Layout.{Pen, Start, Ending, other_end, written, written_if, indented, indent_or_space, at_indentation, deeper_level, led}
 use Rattle.jsgen_model.specs.Layout as layouts
 use Rattle.jsgen_model.specs.Ends.{each_written, licensed, reference}
 use Rattle.jsgen_tree.specs.Options.{Legal, left_out, inline, at_end, linked, external}
 use Rattle.jsgen_mark_laws.specs.Law.{Adds}
-use Rattle.jsgen_mark_laws.proofs.Marked.{none, same, step_then, written_step, written_if_step, indentation_step, one_of}
+use Rattle.jsgen_mark_laws.proofs.Marked.{none, same, step_then, written_step, written_if_step, indentation_step}
 
 -- the same pen with another source and other marks
 abbrev pub bare : Option (List ℕ) → List Mark → Pen → Pen
@@ -152,10 +152,20 @@ passes_before_group : (m : Manner) (p : Pen) → Passes (before_group m) p
 passes_before_group all_of_them p = record { adds = none p; alike = λ s ms. refl }
 passes_before_group with_key_annotation p = let x = writes_if (ends_in 47 p) (codes " ") p in record { adds = x.adds; alike = λ s ms. refl }
 passes_before_group then_space p = record { adds = none p; alike = λ s ms. refl }
+passes_before_group with_due_space p = record { adds = none p; alike = λ s ms. refl }
+passes_before_group before_it p = record { adds = none p; alike = λ s ms. refl }
+passes_before_group annotation_before_it p = record { adds = none p; alike = λ s ms. refl }
+
+-- what is due before an expression
+passes_due : (p : Pen) → Passes (λ q. if ends_in 10 q then indented_here q else used_up q) p
+passes_due p = let x = either (ends_in 10 p) indented_here used_up (indents p) (uses_up p) in record { adds = x.adds; alike = x.alike }
 
 passes_behind_group : (m : Manner) (p : Pen) → Passes (behind_group m) p
 passes_behind_group all_of_them p = record { adds = none p; alike = λ s ms. refl }
-passes_behind_group with_key_annotation p = let x = either (ends_in 10 p) indented_here used_up (indents p) (uses_up p) in record { adds = x.adds; alike = x.alike }
+passes_behind_group with_due_space p = uses_up p
+passes_behind_group before_it p = passes_due p
+passes_behind_group annotation_before_it p = passes_due p
+passes_behind_group with_key_annotation p = passes_due p
 passes_behind_group then_space p = record { adds = step_then (written_if_step (layouts.not p.style.minified) (codes " ") p) (same (softly_spaced p) (behind_group then_space p) refl refl refl); alike = λ s ms. refl }
 
 pub passes_taken : (o : ℕ) (p : Pen) → Passes (without_group o) p
@@ -277,3 +287,123 @@ passes_ended false depth end p = record { adds = none p; alike = λ s ms. refl }
 
 pub passes_space : (b : Bool) (p : Pen) → Passes (space_behind b) p
 passes_space b p = let x = uses_up_if (b && (p.pending_space && layouts.not p.style.minified)) p in record { adds = x.adds; alike = x.alike }
+
+-- ---- annotations
+
+passes_annotation_by : (cs : List Comment) (kind : Annotation) (o : ℕ) (p : Pen) → Passes (annotation_by cs kind o) p
+passes_annotation_by [] kind o p = writes (annotation_text kind) other_end p
+passes_annotation_by (c ∷ cs) kind o p =
+    let p1 : Pen = without_annotation o p in
+    passes_then (without_annotation o) (comment_written c) (record { adds = same p p1 refl refl refl; alike = λ s ms. refl }) (passes_comment c p1)
+
+passes_annotation_written : (ends : Bool) (kind : Annotation) (o : ℕ) (p : Pen) → Passes (annotation_written ends kind o) p
+passes_annotation_written ends kind o p =
+    let test : Bool = ends_in 47 p in
+    let cs = fitting_at ends kind o p in
+    let x = passes_then (λ q. written_if test (codes " ") q) (annotation_by cs kind o) (writes_if test (codes " ") p) (passes_annotation_by cs kind o (written_if test (codes " ") p)) in
+    record { adds = x.adds; alike = x.alike }
+
+begins : (start : Start) (p : Pen) → Passes (begun_at start) p
+begins start p = record { adds = same p (begun_at start p) refl refl refl; alike = λ s ms. refl }
+
+pub passes_annotation : (start : Start) (kind : Annotation) (o : ℕ) (p : Pen) → Passes (λ q. begun_at start (annotation_at kind o q)) p
+passes_annotation start kind o p =
+    let p1 : Pen = annotation_written false kind o p in
+    let p2 : Pen = written (codes " ") other_end p1 in
+    passes_then (annotation_at kind o) (begun_at start) (passes_then (annotation_written false kind o) (λ q. written (codes " ") other_end q) (passes_annotation_written false kind o p) (writes (codes " ") other_end p1)) (begins start p2)
+
+pub passes_annotation_line : (indented : Bool) (o : ℕ) (p : Pen) → Passes (annotation_line_at indented o) p
+passes_annotation_line indented o p =
+    let p1 : Pen = indented_if indented p in
+    passes_then (λ q. annotation_written true no_side_effects o (indented_if indented q)) line_ended (passes_then (indented_if indented) (annotation_written true no_side_effects o) (indents_if indented p) (passes_annotation_written true no_side_effects o p1)) (ends_line_passes (annotation_written true no_side_effects o p1))
+
+-- ---- an object, and before it
+
+passes_soft_line : (p : Pen) → Passes soft_line_ended p
+passes_soft_line p = let x = writes_if (layouts.not p.style.minified) (codes "\n") p in record { adds = x.adds; alike = x.alike }
+
+pub passes_member_line : (o : ℕ) (p : Pen) → Passes (member_line_at o) p
+passes_member_line o p =
+    let p1 : Pen = soft_line_ended p in
+    passes_then (λ q. comments_at all_of_them o (soft_line_ended q)) indented_here (passes_then soft_line_ended (comments_at all_of_them o) (passes_soft_line p) (passes_comments all_of_them o p1)) (indents (comments_at all_of_them o p1))
+
+passes_soft_space : (p : Pen) → Passes softly_spaced p
+passes_soft_space p = let x = writes_if (layouts.not p.style.minified) (codes " ") p in record { adds = x.adds; alike = x.alike }
+
+pub passes_member_space : (o : ℕ) (p : Pen) → Passes (member_space_at o) p
+passes_member_space o p = passes_then softly_spaced (comments_at with_due_space o) (passes_soft_space p) (passes_comments with_due_space o (softly_spaced p))
+
+pub passes_commented : (b : Bool) (o : ℕ) (p : Pen) → Passes (commented_if b o) p
+passes_commented true o p = passes_own o p
+passes_commented false o p = record { adds = none p; alike = λ s ms. refl }
+
+-- ---- arguments on lines
+
+passes_each_on_line : (cs : List Comment) (p : Pen) → Passes (each_on_line cs) p
+passes_each_on_line [] p = record { adds = none p; alike = λ s ms. refl }
+passes_each_on_line (c ∷ cs) p =
+    let p1 : Pen = indented_here (line_ended p) in
+    passes_then (λ q. comment_written c (indented_here (line_ended q))) (each_on_line cs) (passes_then (λ q. indented_here (line_ended q)) (comment_written c) (passes_new_line p) (passes_comment c p1)) (passes_each_on_line cs (comment_written c p1))
+
+passes_broken : (cs : List Comment) (p : Pen) → Passes (broken_by cs) p
+passes_broken [] p = passes_soft_line p
+passes_broken (c ∷ cs) p = passes_then (each_on_line (c ∷ cs)) line_ended (passes_each_on_line (c ∷ cs) p) (ends_line_passes (each_on_line (c ∷ cs) p))
+
+passes_broken_at : (o : ℕ) (p : Pen) → Passes (broken_at o) p
+passes_broken_at o p =
+    let cs = group_at o p in
+    let p1 : Pen = without_group o p in
+    let x = passes_then (λ q. broken_by cs (without_group o q)) indented_here (passes_then (without_group o) (broken_by cs) (passes_taken o p) (passes_broken cs p1)) (indents (broken_by cs p1)) in
+    record { adds = x.adds; alike = x.alike }
+
+passes_on_a_line : (at : Break) (p : Pen) → Passes (on_a_line at) p
+passes_on_a_line (first_argument o) p = passes_broken_at o p
+passes_on_a_line (other_argument o) p = passes_broken_at o p
+passes_on_a_line (import_source o) p = passes_broken_at o p
+passes_on_a_line import_options p = passes_then soft_line_ended indented_here (passes_soft_line p) (indents (soft_line_ended p))
+
+passes_unless_on_line : (at : Break) (p : Pen) → Passes (unless_on_line at) p
+passes_unless_on_line (first_argument o) p = record { adds = none p; alike = λ s ms. refl }
+passes_unless_on_line (other_argument o) p = passes_soft_space p
+passes_unless_on_line (import_source o) p = let x = either (are_any (group_at o p)) (broken_at o) (λ q. q) (passes_broken_at o p) (stays p) in record { adds = x.adds; alike = x.alike }
+passes_unless_on_line import_options p = passes_soft_space p
+
+pub passes_break : (at : Break) (p : Pen) → Passes (break_at at) p
+passes_break at p = let x = either p.lines (on_a_line at) (unless_on_line at) (passes_on_a_line at p) (passes_unless_on_line at p) in record { adds = x.adds; alike = x.alike }
+
+any_alike : (os : List ℕ) (s : Option (List ℕ)) (ms : List Mark) (p : Pen) → any_group os (bare s ms p) ≡ any_group os p
+any_alike [] s ms p = refl
+any_alike (o ∷ os) s ms p = ap (λ b. are_any (group_at o p) || b) (any_alike os s ms p)
+
+pub ending_alike : (last : Option ℕ) (s : Option (List ℕ)) (ms : List Mark) (q : Pen) → ending_at last (bare s ms q) ≡ ending_at last q
+ending_alike None s ms q = refl
+ending_alike (Some o) s ms q = refl
+
+may_alike : (lines : Lines) (s : Option (List ℕ)) (ms : List Mark) (p : Pen) → may_be_lined lines (bare s ms p).style ≡ may_be_lined lines p.style
+may_alike (of_call quoted) s ms p = refl
+may_alike of_import s ms p = refl
+
+-- whether they stand on lines is asked of neither
+pub lined_alike : (lines : Lines) (starts : List ℕ) (end : ℕ) (s : Option (List ℕ)) (ms : List Mark) (p : Pen) → are_lined lines starts end (bare s ms p) ≡ are_lined lines starts end p
+lined_alike lines starts end s ms p = let e = may_alike lines s ms p in let f = ending_alike (last_byte end) s ms p in let g = any_alike starts s ms p in λ i. e i && (are_any (f i) || g i)
+
+pub passes_opened : (b : Bool) (p : Pen) → Passes (lines_opened b) p
+passes_opened true p = record { adds = same p (lines_opened true p) refl refl refl; alike = λ s ms. refl }
+passes_opened false p = record { adds = same p (lines_opened false p) refl refl refl; alike = λ s ms. refl }
+
+passes_last_break : (last : Option ℕ) (p : Pen) → Passes (λ q. broken_by (ending_at last q) (without_ending last q)) p
+passes_last_break None p = passes_broken [] p
+passes_last_break (Some n) p =
+    let x = passes_then (without_group n) (broken_by (group_at n p)) (passes_taken n p) (passes_broken (group_at n p) (without_group n p)) in
+    record { adds = x.adds; alike = x.alike }
+
+passes_back_to : (depth : ℕ) (outer : Bool) (p : Pen) → Passes (λ q. at_level depth (with_lines outer q)) p
+passes_back_to depth outer p = record { adds = same p (at_level depth (with_lines outer p)) refl refl refl; alike = λ s ms. refl }
+
+pub passes_closed : (b : Bool) (lines : Lines) (end depth : ℕ) (outer : Bool) (p : Pen) → Passes (lines_closed b lines end depth outer) p
+passes_closed true lines end depth outer p =
+    let last = last_byte end in
+    let p1 : Pen = broken_by (ending_at last p) (without_ending last p) in
+    let p2 : Pen = at_level depth (with_lines outer p1) in
+    passes_then (λ q. at_level depth (with_lines outer (broken_by (ending_at last q) (without_ending last q)))) (indented_if (are_indented lines)) (passes_then (λ q. broken_by (ending_at last q) (without_ending last q)) (λ q. at_level depth (with_lines outer q)) (passes_last_break last p) (passes_back_to depth outer p1)) (indents_if (are_indented lines) p2)
+passes_closed false lines end depth outer p = record { adds = same p (with_lines outer p) refl refl refl; alike = λ s ms. refl }

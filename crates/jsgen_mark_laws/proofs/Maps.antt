@@ -1,5 +1,5 @@
 -- Marks that items leave are what a source map is made of.
-use Rattle.std.proofs.Common.{◌≡◌, ℕ, ◌≤◌, List, [], ◌∷◌, ◌++◌, ◌&&◌, true, Option, Some, None, length, take, refl, ap, sym, subst, ◌∙◌, arith, length-append}
+use Rattle.std.proofs.Common.{◌≡◌, ℕ, ◌≤◌, List, [], ◌∷◌, ◌++◌, true, Option, Some, length, take, refl, ap, sym, subst, ◌∙◌, arith}
 use Rattle.std.specs.List.{All}
 use Rattle.std.specs.Str.{encode_utf8_all, IsUtf8}
 use Rattle.std.proofs.lemmas.Bool.{and_parts}
@@ -10,7 +10,7 @@ use lib.Utf8.{scalar, scalars}
 use Rattle.jsgen_map.specs.Marks.{Mark, AreMarks}
 use Rattle.jsgen_model.specs.Marks.{size}
 use Rattle.jsgen_model.specs.Layout.{Pen}
-use Rattle.jsgen_mark_laws.specs.Law.{ArePlaced, IsPlaced, LeadsInto, Right}
+use Rattle.jsgen_mark_laws.specs.Law.{ArePlaced, IsPlaced, Right}
 
 first_scalars : (a b : List ℕ) → scalars (a ++ b) ≡ true → scalars a ≡ true
 first_scalars [] b h = refl

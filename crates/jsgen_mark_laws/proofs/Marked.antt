@@ -1,17 +1,13 @@
 -- What steps add: text behind the code, and marks that lead to its end or behind it.
-use Rattle.std.proofs.Common.{◌≡◌, ℕ, ◌*◌, ◌-◌, Bool, true, false, ◌&&◌, ◌||◌, nat_le, nat_lt, length, List, [], ◌∷◌, ◌++◌, Option, Some, None, codes, replicate, refl, ap, sym, subst, ◌∙◌, arith, append_assoc, append-nil, if◌then◌else◌}
-use Rattle.jsgen_syntax.specs.Escapes.{name_text}
+use Rattle.std.proofs.Common.{◌≡◌, ℕ, ◌*◌, ◌-◌, Bool, true, false, ◌&&◌, nat_le, nat_lt, length, List, [], ◌∷◌, ◌++◌, Option, Some, None, codes, replicate, refl, ap, sym, subst, ◌∙◌, arith, append_assoc, append-nil, if◌then◌else◌}
 use Rattle.jsgen_syntax.specs.declared.span.Span.{Span}
-use Rattle.jsgen_tree.specs.Named.{printed_name}
-use Rattle.jsgen_model.specs.Punctuator.{Round, opening, closing, punctuator_text}
 use Rattle.std.proofs.lemmas.Bool.{and_parts, both_ways, leb-true, ltb-true}
-use Rattle.jsgen_model.specs.Items.{Items, TemplatePart, whole_part, head_part, middle_part, tail_part, nothing, ◌⊕◌, word, name, private_name, number, literal, regular_expression, template_part, string, first_string, directive, punctuator, operator, member_dot, soft_space, soft_line, hard_space, indentation, body_space, deeper, in_class, brackets, wrapped, wrapped_at_start, parentheses_unless_minified, unless_minified, where_same, statement_end, due_semicolon, drop_semicolon, statement_begins, arrow_body_begins, default_export_begins, mark, end_mark, link_mark, marked_word, marked_operator, marked_number, marked_indentation, apart, comments, orphans, annotation}
+use Rattle.jsgen_model.specs.Items.{TemplatePart, whole_part, head_part, middle_part, tail_part}
 use Rattle.jsgen_map.specs.Marks.{Mark, Parted, last_offset, is_last, unless_last}
 use Rattle.std.specs.Prelude.{not as isnt}
 use Rattle.jsgen_model.specs.Marks.{size, is_empty, other_name_in, has_start_mark, has_end_mark, has_link_mark, ends_in_link}
-use Rattle.jsgen_model.specs.Layout.{Pen, Ending, other_end, operator_end, number_ending, joins, written, written_if, text_if, is_apart, is_barred, deeper_level, entered, indented, indent_or_space, at_indentation, end_statement, are_same, not}
-use Rattle.jsgen_model.specs.Lay.{lay, marked_if, name_mark, mark_behind, may_be_indented, has_piece_mark, parted, spaced, part_opening, piece_mark, span_mark}
-use Rattle.jsgen_model.specs.Private.{printed_private}
+use Rattle.jsgen_model.specs.Layout.{Pen, Ending, other_end, written, written_if, text_if, is_apart, indented, indent_or_space, at_indentation, end_statement}
+use Rattle.jsgen_model.specs.Lay.{marked_if, name_mark, mark_behind, has_piece_mark, spaced}
 use Rattle.jsgen_mark_laws.specs.Law.{Adds, ArePlaced, LeadsInto}
 use Rattle.jsgen_mark_laws.proofs.Sizes.{longer}
 use Rattle.jsgen_mark_laws.proofs.Marks.{ordered_append, parted_append, last_append}

@@ -1,26 +1,26 @@
 -- Marks stand in order, and names where their marks are, for all items.
-use Rattle.std.proofs.Common.{◌≡◌, ℕ, ◌+◌, ◌≤◌, Bool, true, false, not, ◌||◌, List, [], ◌∷◌, ◌++◌, Option, Some, None, is_some, refl, ap, sym, subst, ◌∙◌, arith, append_assoc, append-nil, if◌then◌else◌}
+use Rattle.std.proofs.Common.{◌≡◌, ℕ, ◌+◌, ◌≤◌, Bool, true, false, ◌&&◌, ◌||◌, List, [], ◌∷◌, ◌++◌, Option, Some, None, is_some, refl, ap, sym, subst, ◌∙◌, arith, append_assoc, append-nil, if◌then◌else◌}
 use Rattle.std.proofs.lemmas.Bool.{both_ways}
 use Rattle.jsgen_syntax.specs.Escapes.{name_text}
 use Rattle.jsgen_syntax.specs.declared.span.Span.{Span}
 use Rattle.jsgen_tree.specs.Named.{printed_name}
 use Rattle.jsgen_model.specs.Punctuator.{Round, opening, closing}
-use Rattle.jsgen_model.specs.Items.{Items, ◌⊕◌, name, private_name, deeper, in_class, brackets, wrapped, wrapped_at_start, parentheses_unless_minified, unless_minified, where_same, held, lined_case, caught, all_of_them}
+use Rattle.jsgen_model.specs.Items.{Items, ◌⊕◌, name, private_name, deeper, in_class, brackets, wrapped, wrapped_at_start, parentheses_unless_minified, unless_minified, where_same, held, lined_case, caught, all_of_them, annotated, commented, in_lines}
 use Rattle.jsgen_map.specs.Marks.{Mark, Ordered, Parted, last_from, last_offset, is_last, unless_last}
 use Rattle.jsgen_model.specs.Marks.{size, has_start_mark, other_name_in}
 use Rattle.jsgen_model.specs.Layout as layouts
 use Rattle.jsgen_model.specs.Layout.{Pen, other_end, written, written_if, is_barred, deeper_level, entered, are_same}
-use Rattle.jsgen_model.specs.Lay.{lay, case_mark, marked_if, name_mark, spaced}
+use Rattle.jsgen_model.specs.Lay.{lay, lifts, annotated_if, is_enclosed, case_mark, marked_if, name_mark, spaced}
 use Rattle.jsgen_model.specs.Private.{printed_private}
 use Rattle.jsgen_mark_laws.specs.Law.{Adds, ArePlaced, Right}
 use Rattle.jsgen_mark_laws.specs.Names.{Printed, names_of, printed_at, last_before, StandsAt, Stand}
 use Rattle.jsgen_mark_laws.proofs.Sizes.{size_append, size_some, longer}
 use Rattle.jsgen_mark_laws.proofs.Marks.{ordered_append, parted_append, was_last, before_longer, before_end, last_is}
 use Rattle.jsgen_model.specs.Comments.{are_any}
-use Rattle.jsgen_model.specs.Groups.{has_orphans, group_at, comments_at, case_begun, last_byte, ending_at, without_ending}
-use Rattle.jsgen_mark_laws.proofs.Comments.{passes_comments, passes_without, passes_closing, passes_begun, passes_ended}
+use Rattle.jsgen_model.specs.Groups.{has_orphans, group_at, comments_at, case_begun, last_byte, ending_at, without_ending, commented_if, are_lined, lines_opened}
+use Rattle.jsgen_mark_laws.proofs.Comments.{passes_comments, passes_without, passes_closing, passes_begun, passes_ended, passes_commented, passes_opened, passes_closed}
 use Rattle.jsgen_mark_laws.proofs.Marked.{placed_append, placed_on, same, step_then, spaced_step, written_step, written_if_step}
-use Rattle.jsgen_mark_laws.proofs.Steps.{lay_steps, mark_step, block_step}
+use Rattle.jsgen_mark_laws.proofs.Steps.{lay_steps, mark_step, block_step, annotated_step}
 
 pub right_behind : {p q : Pen} → Adds p q → Right p → Right q
 right_behind {p} {q} s r = record {
@@ -172,4 +172,23 @@ names_stand (caught start body items) p = λ src e r.
     let p1 : Pen = comments_at all_of_them start p in
     let s = (passes_comments all_of_them start p).adds in
     stand_round (names_of items p1) s (names_stand items p1 src (source_behind src s e) (right_behind s r)) (block_step (are_any (group_at start p)) body (lay items p1))
+names_stand (annotated test lifted pure span o items) p = λ src e r.
+    let wraps : Bool = lifts pure lifted p || test in
+    let on : Bool = pure && p.style.annotated in
+    let p1 : Pen = written_if wraps (opening Round) p in
+    let p2 : Pen = annotated_if on span o p.start p1 in
+    let s = step_then (written_if_step wraps (opening Round) p) (annotated_step on span o p.start p1) in
+    stand_round (names_of items p2) s (names_stand items p2 src (source_behind src s e) (right_behind s r)) (written_if_step wraps (closing Round) (lay items p2))
+names_stand (commented o items) p = λ src e r.
+    let test : Bool = is_enclosed o p in
+    let stand : Bool = are_any (group_at o p) in
+    let p1 : Pen = written_if test (opening Round) p in
+    let p2 : Pen = commented_if stand o p1 in
+    let s = step_then (written_if_step test (opening Round) p) (passes_commented stand o p1).adds in
+    stand_round (names_of items p2) s (names_stand items p2 src (source_behind src s e) (right_behind s r)) (written_if_step test (closing Round) (lay items p2))
+names_stand (in_lines lines starts end items) p = λ src e r.
+    let lined : Bool = are_lined lines starts end p in
+    let p1 : Pen = lines_opened lined p in
+    let s = (passes_opened lined p).adds in
+    stand_round (names_of items p1) s (names_stand items p1 src (source_behind src s e) (right_behind s r)) (passes_closed lined lines end p.depth p.lines (lay items p1)).adds
 names_stand item p = λ src e r. no_name item p

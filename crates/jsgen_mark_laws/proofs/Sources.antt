@@ -1,18 +1,17 @@
 -- With a source or without, the text, the comments and all that matters to what follows is the same.
-use Rattle.std.proofs.Common.{◌≡◌, ℕ, ◌-◌, Bool, true, false, ◌||◌, List, [], ◌∷◌, Option, Some, None, refl, ap, sym, ◌∙◌, if◌then◌else◌}
+use Rattle.std.proofs.Common.{◌≡◌, ℕ, Bool, true, false, ◌&&◌, ◌||◌, List, Option, refl, ap, ◌∙◌, if◌then◌else◌}
 use Rattle.jsgen_map.specs.Marks.{Mark}
 use Rattle.jsgen_syntax.specs.declared.span.Span.{Span}
-use Rattle.jsgen_tree.specs.Named.{printed_name}
 use Rattle.jsgen_model.specs.Punctuator.{Round, opening, closing}
-use Rattle.jsgen_model.specs.Items.{Items, ◌⊕◌, name, private_name, template_part, indentation, deeper, in_class, brackets, wrapped, wrapped_at_start, parentheses_unless_minified, unless_minified, where_same, statement_end, mark, end_mark, link_mark, marked_word, marked_operator, marked_number, marked_indentation, comments, orphans, orphan_lines, empty_body, held, lined_case, caught, all_of_them, Lead, to_block, to_body, to_empty}
+use Rattle.jsgen_model.specs.Items.{Items, ◌⊕◌, name, private_name, template_part, indentation, deeper, in_class, brackets, wrapped, wrapped_at_start, parentheses_unless_minified, unless_minified, where_same, statement_end, mark, end_mark, link_mark, marked_word, marked_operator, marked_number, marked_indentation, comments, orphans, orphan_lines, empty_body, held, lined_case, caught, all_of_them, annotation, annotation_line, annotated, is_pure, commented, member_line, member_space, in_lines, line_break, Lead, to_block, to_body, to_empty}
 use Rattle.jsgen_tree.specs.Options.{Legal}
 use Rattle.jsgen_model.specs.Comments.{Comment, are_any}
 use Rattle.jsgen_model.specs.Ends.{licensed}
-use Rattle.jsgen_model.specs.Groups.{comments_at, group_at, has_orphans, last_byte, ending_at, without_ending, closing_group, case_begun, case_ended, space_behind}
-use Rattle.jsgen_model.specs.Layout.{Pen, other_end, written, written_if, is_barred, deeper_level, entered, end_statement, are_same, not}
-use Rattle.jsgen_model.specs.Lay.{lay, case_mark, stood, before_block}
+use Rattle.jsgen_model.specs.Groups.{comments_at, group_at, has_orphans, last_byte, ending_at, without_ending, closing_group, case_begun, case_ended, space_behind, commented_if, are_lined, lines_opened, lines_closed}
+use Rattle.jsgen_model.specs.Layout.{Pen, Start, other_end, written, written_if, is_barred, deeper_level, entered, end_statement, are_same, not}
+use Rattle.jsgen_model.specs.Lay.{lay, span_mark, lifts, annotated_if, is_enclosed, case_mark, stood, before_block}
 use Rattle.jsgen_mark_laws.specs.Law.{with_source}
-use Rattle.jsgen_mark_laws.proofs.Comments.{Passes, bare, indentation_alike, passes_comments, passes_orphans, passes_lines_of_orphans, passes_empty_body, passes_without, passes_closing, passes_begun, passes_ended, passes_space, passes_licences}
+use Rattle.jsgen_mark_laws.proofs.Comments.{Passes, bare, indentation_alike, passes_comments, passes_orphans, passes_lines_of_orphans, passes_empty_body, passes_without, passes_closing, passes_begun, passes_ended, passes_space, passes_licences, ending_alike, passes_annotation, passes_annotation_line, passes_commented, passes_member_line, passes_member_space, passes_opened, passes_closed, passes_break, lined_alike}
 
 -- the same pen but for its source and its marks
 record Alike (s : Option (List ℕ)) (a b : Pen) : Type 0 where
@@ -41,14 +40,16 @@ case_alike true to_body s ms q = record { marks = ms; same = refl }
 case_alike true (to_empty span) s ms q = record { marks = (case_mark true (to_empty span) (bare s ms q)).marks; same = refl }
 case_alike false lead s ms q = record { marks = ms; same = refl }
 
-ending_alike : (last : Option ℕ) (s : Option (List ℕ)) (ms : List Mark) (q : Pen) → ending_at last (bare s ms q) ≡ ending_at last q
-ending_alike None s ms q = refl
-ending_alike (Some o) s ms q = refl
-
 block_alike : (before : Bool) (o : ℕ) (s : Option (List ℕ)) (ms : List Mark) (q : Pen) → before_block before o (bare s ms q) ≡ bare s ms (before_block before o q)
 block_alike before o s ms q =
     let test : Bool = stood before o q in
     ap (space_behind test) ((passes_comments all_of_them o q).alike s ms) ∙ (passes_space test (comments_at all_of_them o q)).alike s ms
+
+annotated_alike : (on : Bool) (span : Span) (o : ℕ) (start : Start) (s : Option (List ℕ)) (ms : List Mark) (q : Pen) → Alike s (annotated_if on span o start (bare s ms q)) (annotated_if on span o start q)
+annotated_alike true span o start s ms q =
+    let marks : List Mark = (span_mark span (bare s ms q)).marks in
+    record { marks = marks; same = (passes_annotation start is_pure o (span_mark span q)).alike s marks }
+annotated_alike false span o start s ms q = record { marks = ms; same = refl }
 
 alike : (items : Items) (s : Option (List ℕ)) (ms : List Mark) (q : Pen) → Alike s (lay items (bare s ms q)) (lay items q)
 alike (a ⊕ b) s ms q =
@@ -93,6 +94,33 @@ alike (caught start body items) s ms q =
     let r : Pen = lay items p1 in
     let y : Alike s (lay items (comments_at all_of_them start (bare s ms q))) r = record { marks = x.marks; same = ap (lay items) ((passes_comments all_of_them start q).alike s ms) ∙ x.same } in
     record { marks = y.marks; same = ap (before_block before body) y.same ∙ block_alike before body s y.marks r }
+alike (annotation test kind o) s ms q = either_alike (test && q.style.annotated) (record { marks = ms; same = (passes_annotation q.start kind o q).alike s ms }) (record { marks = ms; same = refl })
+alike (annotation_line indented test o) s ms q = either_alike (test && q.style.annotated) (record { marks = ms; same = (passes_annotation_line indented o q).alike s ms }) (record { marks = ms; same = refl })
+alike (annotated test lifted pure span o items) s ms q =
+    let wraps : Bool = lifts pure lifted q || test in
+    let on : Bool = pure && q.style.annotated in
+    let p1 : Pen = written_if wraps (opening Round) q in
+    let a = annotated_alike on span o q.start s ms p1 in
+    let x = alike items s a.marks (annotated_if on span o q.start p1) in
+    let y : Alike s (lay items (annotated_if on span o q.start (written_if wraps (opening Round) (bare s ms q)))) (lay items (annotated_if on span o q.start p1)) = record { marks = x.marks; same = ap (lay items) a.same ∙ x.same } in
+    around wraps y
+alike (commented o items) s ms q =
+    let test : Bool = is_enclosed o q in
+    let stand : Bool = are_any (group_at o q) in
+    let p1 : Pen = written_if test (opening Round) q in
+    let x = alike items s ms (commented_if stand o p1) in
+    let y : Alike s (lay items (commented_if stand o (written_if test (opening Round) (bare s ms q)))) (lay items (commented_if stand o p1)) = record { marks = x.marks; same = ap (lay items) ((passes_commented stand o p1).alike s ms) ∙ x.same } in
+    around test y
+alike (member_line o) s ms q = record { marks = ms; same = (passes_member_line o q).alike s ms }
+alike (member_space o) s ms q = record { marks = ms; same = (passes_member_space o q).alike s ms }
+alike (in_lines lines starts end items) s ms q =
+    let lined : Bool = are_lined lines starts end q in
+    let p1 : Pen = lines_opened lined q in
+    let x = alike items s ms p1 in
+    let y : Alike s (lay items (lines_opened lined (bare s ms q))) (lay items p1) = record { marks = x.marks; same = ap (lay items) ((passes_opened lined q).alike s ms) ∙ x.same } in
+    let z = going (lines_closed lined lines end q.depth q.lines) y (passes_closed lined lines end q.depth q.lines (lay items p1)) in
+    record { marks = z.marks; same = ap (λ b. lines_closed b lines end q.depth q.lines (lay items (lines_opened b (bare s ms q)))) (lined_alike lines starts end s ms q) ∙ z.same }
+alike (line_break at) s ms q = record { marks = ms; same = (passes_break at q).alike s ms }
 alike indentation s ms q = record { marks = ms; same = indentation_alike q.style.minified s ms q }
 alike (marked_indentation span) s ms q =
     let marks : List Mark = (lay (marked_indentation span) (bare s ms q)).marks in

@@ -1,24 +1,19 @@
 -- What items add: text behind the code, and marks that lead to its end or behind it. All other laws of marks take this one.
-use Rattle.std.proofs.Common.{◌≡◌, ℕ, ◌*◌, ◌-◌, Bool, true, false, ◌&&◌, ◌||◌, nat_le, nat_lt, length, List, [], ◌∷◌, ◌++◌, Option, Some, None, codes, replicate, refl, ap, sym, subst, ◌∙◌, arith, append_assoc, append-nil, if◌then◌else◌}
+use Rattle.std.proofs.Common.{ℕ, ◌-◌, Bool, true, false, ◌&&◌, ◌||◌, ◌∷◌, None, codes, refl}
 use Rattle.jsgen_syntax.specs.Escapes.{name_text}
 use Rattle.jsgen_syntax.specs.declared.span.Span.{Span}
 use Rattle.jsgen_tree.specs.Named.{printed_name}
 use Rattle.jsgen_model.specs.Punctuator.{Round, opening, closing, punctuator_text}
-use Rattle.std.proofs.lemmas.Bool.{and_parts, both_ways, leb-true, ltb-true}
-use Rattle.jsgen_model.specs.Items.{Items, TemplatePart, whole_part, head_part, middle_part, tail_part, nothing, ◌⊕◌, word, name, private_name, number, literal, regular_expression, template_part, string, first_string, directive, punctuator, operator, member_dot, soft_space, soft_line, hard_space, indentation, body_space, deeper, in_class, brackets, wrapped, wrapped_at_start, parentheses_unless_minified, unless_minified, where_same, statement_end, due_semicolon, drop_semicolon, statement_begins, arrow_body_begins, default_export_begins, mark, end_mark, link_mark, marked_word, marked_operator, marked_number, marked_indentation, apart, comments, orphans, orphan_lines, empty_body, held, lined_case, caught, all_of_them, Lead, to_block, to_body, to_empty, annotation}
-use Rattle.jsgen_map.specs.Marks.{Mark, Parted, last_offset, is_last, unless_last}
-use Rattle.std.specs.Prelude.{not as isnt}
-use Rattle.jsgen_model.specs.Marks.{size, is_empty, other_name_in, has_start_mark, has_end_mark, has_link_mark, ends_in_link}
-use Rattle.jsgen_model.specs.Layout.{Pen, Ending, other_end, operator_end, number_ending, joins, written, written_if, text_if, is_apart, is_barred, deeper_level, entered, indented, indent_or_space, at_indentation, end_statement, are_same, not}
-use Rattle.jsgen_model.specs.Lay.{lay, case_mark, stood, before_block, marked_if, name_mark, mark_behind, may_be_indented, has_piece_mark, parted, spaced, part_opening, piece_mark, span_mark}
+use Rattle.jsgen_model.specs.Items.{Items, nothing, ◌⊕◌, word, name, private_name, number, literal, regular_expression, template_part, string, first_string, directive, punctuator, operator, member_dot, soft_space, soft_line, hard_space, indentation, body_space, deeper, in_class, brackets, wrapped, wrapped_at_start, parentheses_unless_minified, unless_minified, where_same, statement_end, due_semicolon, drop_semicolon, statement_begins, arrow_body_begins, default_export_begins, mark, end_mark, link_mark, marked_word, marked_operator, marked_number, marked_indentation, apart, comments, orphans, orphan_lines, empty_body, held, lined_case, caught, all_of_them, Lead, to_block, to_body, to_empty, annotation, annotation_line, annotated, is_pure, commented, member_line, member_space, in_lines, line_break}
+use Rattle.jsgen_model.specs.Marks.{has_end_mark, has_link_mark}
+use Rattle.jsgen_model.specs.Layout.{Pen, Start, other_end, operator_end, number_ending, joins, written, written_if, text_if, is_barred, deeper_level, entered, indented, at_indentation, are_same, not}
+use Rattle.jsgen_model.specs.Lay.{lay, lifts, annotated_if, is_enclosed, case_mark, stood, before_block, name_mark, may_be_indented, has_piece_mark, parted, spaced, part_opening, piece_mark, span_mark}
 use Rattle.jsgen_model.specs.Private.{printed_private}
-use Rattle.jsgen_mark_laws.specs.Law.{Adds, ArePlaced, LeadsInto}
-use Rattle.jsgen_mark_laws.proofs.Sizes.{longer}
-use Rattle.jsgen_mark_laws.proofs.Marks.{ordered_append, parted_append, last_append}
+use Rattle.jsgen_mark_laws.specs.Law.{Adds}
 use Rattle.jsgen_mark_laws.proofs.Marked.{none, same, step_then, texted, written_step, written_if_step, indentation_step, end_step, one_of, marked_if_step, end_leads, link_leads, piece_leads, start_step, name_step, behind_step, spaced_step}
 use Rattle.jsgen_model.specs.Comments.{are_any}
-use Rattle.jsgen_model.specs.Groups.{has_orphans, group_at, comments_at, case_begun, case_ended, closing_group, last_byte, ending_at, without_ending}
-use Rattle.jsgen_mark_laws.proofs.Comments.{passes_comments, passes_orphans, passes_lines_of_orphans, passes_empty_body, passes_without, passes_closing, passes_begun, passes_ended, passes_space}
+use Rattle.jsgen_model.specs.Groups.{has_orphans, group_at, comments_at, case_begun, last_byte, ending_at, without_ending, commented_if, are_lined, lines_opened}
+use Rattle.jsgen_mark_laws.proofs.Comments.{passes_comments, passes_orphans, passes_lines_of_orphans, passes_empty_body, passes_without, passes_closing, passes_begun, passes_ended, passes_space, passes_annotation, passes_annotation_line, passes_commented, passes_member_line, passes_member_space, passes_opened, passes_closed, passes_break}
 
 -- the mark of an empty statement, where it stands on a line of its own in a case
 pub mark_step : (long : Bool) (lead : Lead) (p : Pen) → Adds p (case_mark long lead p)
@@ -30,6 +25,11 @@ mark_step false lead p = none p
 -- comments before a block, and the space behind them
 pub block_step : (before : Bool) (o : ℕ) (p : Pen) → Adds p (before_block before o p)
 block_step before o p = step_then (passes_comments all_of_them o p).adds (passes_space (stood before o p) (comments_at all_of_them o p)).adds
+
+-- the annotation of what is pure, behind its mark
+pub annotated_step : (on : Bool) (span : Span) (o : ℕ) (start : Start) (p : Pen) → Adds p (annotated_if on span o start p)
+annotated_step true span o start p = step_then (start_step span None p) (passes_annotation start is_pure o (span_mark span p)).adds
+annotated_step false span o start p = none p
 
 pub lay_steps : (items : Items) (p : Pen) → Adds p (lay items p)
 lay_steps nothing p = none p
@@ -121,4 +121,24 @@ lay_steps (lined_case start end lead items) p =
 lay_steps (caught start body items) p =
     let p1 : Pen = comments_at all_of_them start p in
     step_then (passes_comments all_of_them start p).adds (step_then (lay_steps items p1) (block_step (are_any (group_at start p)) body (lay items p1)))
-lay_steps (annotation test kind offset) p = none p
+lay_steps (annotation test kind o) p = one_of (test && p.style.annotated) (passes_annotation p.start kind o p).adds (none p)
+lay_steps (annotation_line indented test o) p = one_of (test && p.style.annotated) (passes_annotation_line indented o p).adds (none p)
+lay_steps (annotated test lifted pure span o items) p =
+    let wraps : Bool = lifts pure lifted p || test in
+    let on : Bool = pure && p.style.annotated in
+    let p1 : Pen = written_if wraps (opening Round) p in
+    let p2 : Pen = annotated_if on span o p.start p1 in
+    step_then (written_if_step wraps (opening Round) p) (step_then (annotated_step on span o p.start p1) (step_then (lay_steps items p2) (written_if_step wraps (closing Round) (lay items p2))))
+lay_steps (commented o items) p =
+    let test : Bool = is_enclosed o p in
+    let stand : Bool = are_any (group_at o p) in
+    let p1 : Pen = written_if test (opening Round) p in
+    let p2 : Pen = commented_if stand o p1 in
+    step_then (written_if_step test (opening Round) p) (step_then (passes_commented stand o p1).adds (step_then (lay_steps items p2) (written_if_step test (closing Round) (lay items p2))))
+lay_steps (member_line o) p = (passes_member_line o p).adds
+lay_steps (member_space o) p = (passes_member_space o p).adds
+lay_steps (in_lines lines starts end items) p =
+    let lined : Bool = are_lined lines starts end p in
+    let p1 : Pen = lines_opened lined p in
+    step_then (passes_opened lined p).adds (step_then (lay_steps items p1) (passes_closed lined lines end p.depth p.lines (lay items p1)).adds)
+lay_steps (line_break at) p = (passes_break at p).adds

@@ -1,6 +1,6 @@
 -- What is promised of the marks that items leave.
-use Rattle.std.specs.Prelude.{◌≡◌, ℕ, ◌≤◌, List, [], ◌∷◌, ◌++◌, length, Option, Some, None, ⊤}
-use Rattle.jsgen_model.specs.Items.{Items}
+use Rattle.std.specs.Prelude.{◌≡◌, ℕ, ◌≤◌, List, [], ◌∷◌, ◌++◌, length, Option, Some, None, Bool, false, ◌&&◌, ⊤}
+use Rattle.jsgen_model.specs.Items.{Items, ◌⊕◌, deeper, in_class, brackets, wrapped, wrapped_at_start, parentheses_unless_minified, unless_minified, where_same, held, lined_case, caught, annotation, annotation_line, annotated, commented, in_lines}
 use Rattle.jsgen_map.specs.Marks.{Mark, Ordered, Parted, last_offset}
 use Rattle.jsgen_model.specs.Marks.{size}
 use Rattle.jsgen_model.specs.Comments.{empty_store}
@@ -60,9 +60,31 @@ NamesStand = (items : Items) (pen : Pen) (source : List ℕ) → pen.style.sourc
 abbrev pub with_marks : List Mark → Pen → Pen
 with_marks marks pen = record pen { marks = marks }
 
--- where no comment waits, the text and all that matters to what follows is that of the layout, with marks or without
+-- none of the items prints an annotation, where annotations are printed or not
+abbrev pub PrintsNone : Bool → Items → Type 0
+PrintsNone printed (annotation test kind offset) = (test && printed) ≡ false
+PrintsNone printed (annotation_line indented test offset) = (test && printed) ≡ false
+PrintsNone printed (annotated test lifted pure span offset items) = ((pure && printed) ≡ false) × PrintsNone printed items
+PrintsNone printed (a ⊕ b) = PrintsNone printed a × PrintsNone printed b
+PrintsNone printed (deeper items) = PrintsNone printed items
+PrintsNone printed (in_class items) = PrintsNone printed items
+PrintsNone printed (brackets b items) = PrintsNone printed items
+PrintsNone printed (wrapped test items) = PrintsNone printed items
+PrintsNone printed (wrapped_at_start test opener items) = PrintsNone printed items
+PrintsNone printed (parentheses_unless_minified items) = PrintsNone printed items
+PrintsNone printed (unless_minified items) = PrintsNone printed items
+PrintsNone printed (where_same m n a b) = PrintsNone printed a × PrintsNone printed b
+PrintsNone printed (held offset items) = PrintsNone printed items
+PrintsNone printed (lined_case start end lead items) = PrintsNone printed items
+PrintsNone printed (caught start body items) = PrintsNone printed items
+PrintsNone printed (commented offset items) = PrintsNone printed items
+PrintsNone printed (in_lines lines starts end items) = PrintsNone printed items
+PrintsNone printed item = ⊤
+
+-- Where no comment waits and no annotation is printed, the text and all that matters to what follows is that of the layout, with marks or
+-- without
 abbrev pub QuietIsQuiet : Type 0
-QuietIsQuiet = (items : Items) (pen : Pen) → pen.store ≡ empty_store → lay items pen ≡ with_marks (lay items pen).marks (layout items pen)
+QuietIsQuiet = (items : Items) (pen : Pen) → pen.store ≡ empty_store → pen.lines ≡ false → PrintsNone pen.style.annotated items → lay items pen ≡ with_marks (lay items pen).marks (layout items pen)
 
 -- the same pen but for the source
 abbrev pub with_source : Option (List ℕ) → Pen → Pen

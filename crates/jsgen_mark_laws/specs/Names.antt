@@ -4,12 +4,12 @@ use Rattle.jsgen_syntax.specs.Escapes.{name_text}
 use Rattle.jsgen_syntax.specs.declared.span.Span.{Span}
 use Rattle.jsgen_tree.specs.Named.{printed_name}
 use Rattle.jsgen_model.specs.Punctuator.{Round, opening}
-use Rattle.jsgen_model.specs.Items.{Items, nothing, ◌⊕◌, word, name, private_name, number, literal, regular_expression, template_part, string, first_string, directive, punctuator, operator, member_dot, soft_space, soft_line, hard_space, indentation, body_space, deeper, in_class, brackets, wrapped, wrapped_at_start, parentheses_unless_minified, unless_minified, where_same, statement_end, due_semicolon, drop_semicolon, statement_begins, arrow_body_begins, default_export_begins, mark, end_mark, link_mark, marked_word, marked_operator, marked_number, marked_indentation, apart, comments, orphans, orphan_lines, empty_body, held, lined_case, caught, all_of_them, annotation}
+use Rattle.jsgen_model.specs.Items.{Items, nothing, ◌⊕◌, word, name, private_name, number, literal, regular_expression, template_part, string, first_string, directive, punctuator, operator, member_dot, soft_space, soft_line, hard_space, indentation, body_space, deeper, in_class, brackets, wrapped, wrapped_at_start, parentheses_unless_minified, unless_minified, where_same, statement_end, due_semicolon, drop_semicolon, statement_begins, arrow_body_begins, default_export_begins, mark, end_mark, link_mark, marked_word, marked_operator, marked_number, marked_indentation, apart, comments, orphans, orphan_lines, empty_body, held, lined_case, caught, all_of_them, annotation, annotation_line, annotated, commented, member_line, member_space, in_lines, line_break}
 use Rattle.jsgen_map.specs.Marks.{Mark}
 use Rattle.jsgen_model.specs.Marks.{size, has_start_mark}
 use Rattle.jsgen_model.specs.Layout.{Pen, other_end, written, written_if, is_barred, deeper_level, entered, are_same, not}
-use Rattle.jsgen_model.specs.Lay.{lay, case_mark}
-use Rattle.jsgen_model.specs.Groups.{comments_at, has_orphans, case_begun, last_byte, without_ending}
+use Rattle.jsgen_model.specs.Lay.{lay, case_mark, annotated_from, commented_from}
+use Rattle.jsgen_model.specs.Groups.{comments_at, has_orphans, case_begun, last_byte, without_ending, are_lined, lines_opened}
 use Rattle.jsgen_model.specs.Private.{printed_private}
 
 -- the text of a name, with the start of its span
@@ -75,6 +75,13 @@ names_of (held offset items) pen = names_of items (without_ending (last_byte off
 names_of (lined_case start end lead items) pen = names_of items (case_mark (has_orphans start pen) lead (case_begun (has_orphans start pen) lead start pen))
 names_of (caught start body items) pen = names_of items (comments_at all_of_them start pen)
 names_of (annotation test kind offset) pen = []
+names_of (annotation_line indented test offset) pen = []
+names_of (annotated test lifted pure span offset items) pen = names_of items (annotated_from test lifted pure span offset pen)
+names_of (commented offset items) pen = names_of items (commented_from offset pen)
+names_of (member_line offset) pen = []
+names_of (member_space offset) pen = []
+names_of (in_lines lines starts end items) pen = names_of items (lines_opened (are_lined lines starts end pen) pen)
+names_of (line_break at) pen = []
 
 -- ---- the last of the marks up to so many bytes
 

@@ -1,8 +1,8 @@
 -- Comments that are kept until they are printed: which ones, and where they wait.
-use Rattle.std.specs.Prelude.{ℕ, suc, List, [], ◌∷◌, ◌++◌, Bool, true, false, not, ◌&&◌, ◌||◌, ◌==◌, nat_lt, Option, Some, None, option_map, if◌then◌else◌}
-use Rattle.std.specs.Option.{option_map_or, unwrap_or}
+use Rattle.std.specs.Prelude.{ℕ, List, [], ◌∷◌, ◌++◌, Bool, true, false, not, ◌&&◌, ◌||◌, ◌==◌, nat_lt, if◌then◌else◌}
+use Rattle.std.specs.Option.{unwrap_or}
 use Rattle.std.specs.List.{filter}
-use Rattle.std.specs.Str.{chars, encode_utf8_all}
+use Rattle.std.specs.Str.{chars}
 use Rattle.jsgen_syntax.specs.declared.span.Span.{Span}
 use Rattle.jsgen_tree.specs.declared.statements.CommentKind.{CommentKind}
 use Rattle.jsgen_tree.specs.declared.statements.CommentContent.{CommentContent}
@@ -107,6 +107,13 @@ any_at n (o ∷ os) gs = nat_lt o n && (are_any (there o gs) || any_at n os gs)
 abbrev pub has_orphans_below : ℕ → Store → Bool
 has_orphans_below n store = any_at n store.orphans store.groups
 
+-- ---- annotations of calls and functions, by the offsets of what they belong to
+
+abbrev pub is_annotation : CommentContent → Bool
+is_annotation contents.Pure = true
+is_annotation contents.NoSideEffects = true
+is_annotation content = false
+
 -- ---- which comments are kept
 
 abbrev pub is_wanted : options.Comments → CommentContent → Bool
@@ -156,3 +163,17 @@ with_rows o source (hole ts) store = with_rows o source ts store
 -- the comments of a program that are kept, whose source has these bytes
 abbrev pub kept : options.Comments → List ℕ → Trees → Store
 kept o source rows = with_rows o source rows empty_store
+
+-- of an offset the last annotation is kept, where the options want any
+abbrev pub with_annotation : options.Comments → List ℕ → Atoms → Groups → Groups
+with_annotation o source a gs = if comment_leading a && (is_annotation (comment_content a) && o.annotation) then with_group (comment_attached_to a) (comment_at source a ∷ []) gs else gs
+
+abbrev pub with_annotations : options.Comments → List ℕ → Trees → Groups → Groups
+with_annotations o source no_trees gs = gs
+with_annotations o source (more (tree.comment a) ts) gs = with_annotations o source ts (with_annotation o source a gs)
+with_annotations o source (more t ts) gs = with_annotations o source ts gs
+with_annotations o source (hole ts) gs = with_annotations o source ts gs
+
+-- the annotations of a program that are kept
+abbrev pub kept_annotations : options.Comments → List ℕ → Trees → Groups
+kept_annotations o source rows = with_annotations o source rows []

@@ -1,17 +1,16 @@
 -- The text of comments, from a pen.
-use Rattle.std.specs.Prelude.{ℕ, ◌-◌, List, [], ◌∷◌, ◌++◌, Bool, true, false, Option, Some, None, ◌&&◌, ◌||◌, ◌==◌, codes, drop, if◌then◌else◌}
+use Rattle.std.specs.Prelude.{ℕ, ◌-◌, List, [], ◌∷◌, Bool, true, false, Option, Some, None, ◌&&◌, ◌||◌, ◌==◌, codes, drop, if◌then◌else◌}
 use Rattle.std.specs.List.{filter, last_or, list_any, list_all}
 use Rattle.std.specs.Option.{option_map_or}
 use Rattle.std.specs.Str.{skip_leading_whitespace}
 use Rattle.jsgen_syntax.specs.Raw.{tag_free}
-use Rattle.jsgen_syntax.specs.declared.span.Span.{Span}
 use Rattle.jsgen_tree.specs.declared.statements.CommentKind.{CommentKind}
 use Rattle.jsgen_tree.specs.declared.statements.CommentKind.TheVariants as kinds
 use Rattle.jsgen_tree.specs.declared.statements.CommentContent.{CommentContent}
 use Rattle.jsgen_tree.specs.declared.statements.CommentContent.TheVariants as contents
-use Rattle.jsgen_model.specs.Items.{Manner, all_of_them, with_key_annotation, then_space, Lead, to_block, to_body, to_empty}
-use Rattle.jsgen_model.specs.Comments.{Comment, Store, there, are_any, taken, orphans_below, left_below, has_orphans_below}
-use Rattle.jsgen_model.specs.Layout.{Pen, other_end, written, written_if, not, at_indentation, deeper_level, led}
+use Rattle.jsgen_model.specs.Items.{Annotation, is_pure, no_side_effects, Lines, of_call, of_import, Break, first_argument, other_argument, import_source, import_options, Manner, all_of_them, then_space, with_due_space, annotation_before_it, with_key_annotation, Lead, to_body}
+use Rattle.jsgen_model.specs.Comments.{Comment, Store, there, without, are_any, taken, orphans_below, left_below, has_orphans_below}
+use Rattle.jsgen_model.specs.Layout.{Pen, Style, Start, on_one_line, other_end, written, written_if, not, at_indentation, deeper_level, led}
 use Rattle.jsgen_model.specs.Tokens.{is_line_terminator}
 
 -- ---- steps
@@ -164,9 +163,22 @@ is_key content = false
 abbrev pub is_key_annotation : Comment → Bool
 is_key_annotation c = is_key c.content
 
+-- an annotation of a bundler or of a coverage tool, or of a property's key
+abbrev pub is_for_tools : CommentContent → Bool
+is_for_tools contents.Webpack = true
+is_for_tools contents.Vite = true
+is_for_tools contents.PropertyKey = true
+is_for_tools contents.CoverageIgnore = true
+is_for_tools contents.CoverageIgnoreFile = true
+is_for_tools content = false
+
+abbrev pub is_tool_annotation : Comment → Bool
+is_tool_annotation c = is_for_tools c.content
+
 -- which group is printed, and what stands before it and behind it
 abbrev pub is_printed : Manner → List Comment → Bool
 is_printed with_key_annotation cs = list_any is_key_annotation cs
+is_printed annotation_before_it cs = list_any is_tool_annotation cs
 is_printed manner cs = are_any cs
 
 abbrev pub ends_in : ℕ → Pen → Bool
@@ -179,8 +191,9 @@ before_group manner pen = pen
 
 abbrev pub behind_group : Manner → Pen → Pen
 behind_group all_of_them pen = pen
-behind_group with_key_annotation pen = if ends_in 10 pen then indented_here pen else used_up pen
 behind_group then_space pen = with_pending_space false (softly_spaced pen)
+behind_group with_due_space pen = used_up pen
+behind_group manner pen = if ends_in 10 pen then indented_here pen else used_up pen
 
 abbrev pub printed_if : Bool → Manner → ℕ → Pen → Pen
 printed_if true manner o pen = behind_group manner (group false (group_at o pen) (without_group o (before_group manner pen)))
@@ -195,6 +208,20 @@ orphans_before o pen = group true (orphans_below o pen.store) (with_store (left_
 
 abbrev pub has_orphans : ℕ → Pen → Bool
 has_orphans o pen = has_orphans_below o pen.store
+
+-- ---- where they stand in an object, and before it
+
+-- a member on a line of its own, and one that stands on the line of its braces
+abbrev pub member_line_at : ℕ → Pen → Pen
+member_line_at o pen = indented_here (comments_at all_of_them o (written_if (not pen.style.minified) (codes "\n") pen))
+
+abbrev pub member_space_at : ℕ → Pen → Pen
+member_space_at o pen = comments_at with_due_space o (softly_spaced pen)
+
+-- the comments before an object, where there are any
+abbrev pub commented_if : Bool → ℕ → Pen → Pen
+commented_if true o pen = indented_here (comments_at all_of_them o pen)
+commented_if false o pen = pen
 
 -- ---- where they stand in braces
 
@@ -240,6 +267,107 @@ body_of o cs pen = if not (has_orphans o pen) && list_all has_no_newlines cs the
 
 abbrev pub empty_body_at : ℕ → Pen → Pen
 empty_body_at o pen = body_of o (ending_at (last_byte o) pen) (without_ending (last_byte o) pen)
+
+-- ---- annotations
+
+-- what an annotation is, where the source has none
+abbrev pub annotation_text : Annotation → List ℕ
+annotation_text is_pure = codes "/* @__PURE__ */"
+annotation_text no_side_effects = codes "/* @__NO_SIDE_EFFECTS__ */"
+
+abbrev pub says : Annotation → CommentContent → Bool
+says is_pure contents.Pure = true
+says no_side_effects contents.NoSideEffects = true
+says kind content = false
+
+-- a comment of the source is the annotation, where it says the same, and a line ends behind it or may follow it on its line
+abbrev pub fits : Bool → Annotation → Comment → Bool
+fits ends kind c = says kind c.content && (ends || not (is_line c.kind))
+
+abbrev pub fitting_at : Bool → Annotation → ℕ → Pen → List Comment
+fitting_at ends kind o pen = filter (fits ends kind) (there o pen.annotations)
+
+abbrev pub without_annotation : ℕ → Pen → Pen
+without_annotation o pen = record pen { annotations = without o pen.annotations }
+
+abbrev pub annotation_by : List Comment → Annotation → ℕ → Pen → Pen
+annotation_by [] kind o pen = written (annotation_text kind) other_end pen
+annotation_by (c ∷ cs) kind o pen = comment_written c (without_annotation o pen)
+
+-- behind `/` an annotation would be another comment
+abbrev pub annotation_written : Bool → Annotation → ℕ → Pen → Pen
+annotation_written ends kind o pen = annotation_by (fitting_at ends kind o pen) kind o (written_if (ends_in 47 pen) (codes " ") pen)
+
+-- what began before an annotation begins behind it
+abbrev pub begun_at : Start → Pen → Pen
+begun_at start pen = record pen { start = start }
+
+-- before what begins here
+abbrev pub annotation_at : Annotation → ℕ → Pen → Pen
+annotation_at kind o pen = written (codes " ") other_end (annotation_written false kind o pen)
+
+-- on a line of its own
+abbrev pub annotation_line_at : Bool → ℕ → Pen → Pen
+annotation_line_at indented o pen = line_ended (annotation_written true no_side_effects o (indented_if indented pen))
+
+-- ---- arguments on lines of their own
+
+-- each behind a line end and indentation
+abbrev pub each_on_line : List Comment → Pen → Pen
+each_on_line [] pen = pen
+each_on_line (c ∷ cs) pen = each_on_line cs (comment_written c (indented_here (line_ended pen)))
+
+-- comments and a line end, or a line end that minified text leaves out
+abbrev pub broken_by : List Comment → Pen → Pen
+broken_by [] pen = soft_line_ended pen
+broken_by (c ∷ cs) pen = line_ended (each_on_line (c ∷ cs) pen)
+
+abbrev pub broken_at : ℕ → Pen → Pen
+broken_at o pen = indented_here (broken_by (group_at o pen) (without_group o pen))
+
+-- what stands before an argument on a line of its own, and before the source of `import()` where comments stand there
+abbrev pub on_a_line : Break → Pen → Pen
+on_a_line (first_argument o) pen = broken_at o pen
+on_a_line (other_argument o) pen = broken_at o pen
+on_a_line (import_source o) pen = broken_at o pen
+on_a_line import_options pen = indented_here (soft_line_ended pen)
+
+abbrev pub unless_on_line : Break → Pen → Pen
+unless_on_line (import_source o) pen = if are_any (group_at o pen) then broken_at o pen else pen
+unless_on_line at pen = on_one_line at pen
+
+abbrev pub break_at : Break → Pen → Pen
+break_at at pen = if pen.lines then on_a_line at pen else unless_on_line at pen
+
+-- comments stand at one of these offsets
+abbrev pub any_group : List ℕ → Pen → Bool
+any_group [] pen = false
+any_group (o ∷ os) pen = are_any (group_at o pen) || any_group os pen
+
+-- arguments may stand on lines
+abbrev pub may_be_lined : Lines → Style → Bool
+may_be_lined (of_call quoted) style = not (quoted && style.minified)
+may_be_lined of_import style = style.annotated
+
+-- arguments with these starts stand on lines, in a call with this end
+abbrev pub are_lined : Lines → List ℕ → ℕ → Pen → Bool
+are_lined lines starts end pen = may_be_lined lines pen.style && (are_any (ending_at (last_byte end) pen) || any_group starts pen)
+
+abbrev pub with_lines : Bool → Pen → Pen
+with_lines lines pen = record pen { lines = lines }
+
+abbrev pub lines_opened : Bool → Pen → Pen
+lines_opened true pen = with_lines true (one_deeper pen)
+lines_opened false pen = with_lines false pen
+
+abbrev pub indents : Lines → Bool
+indents (of_call quoted) = true
+indents of_import = false
+
+-- behind the last argument: the level is the one round the call, and so is whether its lines are ended
+abbrev pub lines_closed : Bool → Lines → ℕ → ℕ → Bool → Pen → Pen
+lines_closed true lines end depth outer pen = indented_if (indents lines) (at_level depth (with_lines outer (broken_by (ending_at (last_byte end) pen) (without_ending (last_byte end) pen))))
+lines_closed false lines end depth outer pen = with_lines outer pen
 
 -- ---- where they stand before the one statement of a case, and in a `catch`
 

@@ -8,10 +8,11 @@ use Rattle.jsgen_model.specs.Punctuator.{Punctuator, Bracket}
 pub data Opener : Type 0 where
   a_brace a_declaration : Opener
 
--- which comments at an offset a row prints, and what stands behind them: the group; the group where it holds a property-key annotation,
--- with what is due behind it; and the group with a space, in place of any that is due
+-- Which comments at an offset a row prints, and what stands behind them: the group; the group with a space, in place of any that is
+-- due, or with one that is due. Before an expression what is due stands behind the group: indentation on a new line, and else a space.
+-- It may be the group where it holds an annotation, or one of a property's key
 pub data Manner : Type 0 where
-  all_of_them with_key_annotation then_space : Manner
+  all_of_them then_space with_due_space before_it annotation_before_it with_key_annotation : Manner
 
 -- what leads to the one statement of a case: to a block, to an empty statement of a span, or to any other
 pub data Lead : Type 0 where
@@ -21,6 +22,16 @@ pub data Lead : Type 0 where
 -- what an annotation says of a call or a function: it is pure, or it has no side effects
 pub data Annotation : Type 0 where
   is_pure no_side_effects : Annotation
+
+-- whose arguments stand on lines: a call's, which minified never do where the test holds, or those of `import()`
+pub data Lines : Type 0 where
+  of_call : Bool → Lines
+  of_import : Lines
+
+-- what stands before an argument by its start: the first, another one, the source of `import()`, and its options
+pub data Break : Type 0 where
+  first_argument other_argument import_source : ℕ → Break
+  import_options : Break
 
 -- which part of a template a piece is, by what stands on each side of it: the whole, or what is before, between and behind its expressions (ECMA-262, 12.9.6)
 pub data TemplatePart : Type 0 where
@@ -110,5 +121,19 @@ pub data Items : Type 0 where
   lined_case : ℕ → ℕ → Lead → Items → Items
   -- a `catch` by its start, and by that of its block, before which a space is due where comments stood at either
   caught : ℕ → ℕ → Items → Items
-  -- an annotation, where the test holds, of what has this offset
+  -- an annotation of what has this offset, where the test holds, before what begins here
   annotation : Bool → Annotation → ℕ → Items
+  -- an annotation of a function on a line of its own, where the second test holds, behind indentation where the first does
+  annotation_line : Bool → Bool → ℕ → Items
+  -- a call that is pure where the third test holds, by its offset: in parentheses where the first holds, and where the second does and its
+  -- annotation is printed, which stands in them behind a mark of the span
+  annotated : Bool → Bool → Bool → Span → ℕ → Items → Items
+  -- an object by its start: in parentheses where comments stand there, which are printed in them, or where a brace may not begin here
+  commented : ℕ → Items → Items
+  -- what stands before a member of an object by its start: a line end and indentation, or a space, with comments
+  member_line : ℕ → Items
+  member_space : ℕ → Items
+  -- arguments by their starts, and by the end of the call: on lines of their own, one level deeper, where comments stand at one of them or
+  -- at the last byte of the call; and what stands before one of them
+  in_lines : Lines → List ℕ → ℕ → Items → Items
+  line_break : Break → Items

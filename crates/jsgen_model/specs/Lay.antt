@@ -5,12 +5,12 @@ use Rattle.jsgen_syntax.specs.Raw.{template_text}
 use Rattle.jsgen_syntax.specs.declared.span.Span.{Span}
 use Rattle.jsgen_tree.specs.Named.{printed_name}
 use Rattle.jsgen_model.specs.Punctuator.{Punctuator, Round, opening, closing, punctuator_text}
-use Rattle.jsgen_model.specs.Items.{Items, TemplatePart, whole_part, head_part, middle_part, tail_part, ◌⊕◌, name, private_name, template_part, deeper, in_class, brackets, wrapped, wrapped_at_start, parentheses_unless_minified, unless_minified, where_same, mark, end_mark, link_mark, marked_word, marked_operator, marked_number, marked_indentation, indentation, comments, orphans, orphan_lines, empty_body, held, lined_case, caught, Lead, to_empty, all_of_them}
+use Rattle.jsgen_model.specs.Items.{Items, a_brace, TemplatePart, whole_part, head_part, middle_part, tail_part, ◌⊕◌, name, private_name, template_part, deeper, in_class, brackets, wrapped, wrapped_at_start, parentheses_unless_minified, unless_minified, where_same, mark, end_mark, link_mark, marked_word, marked_operator, marked_number, marked_indentation, indentation, comments, orphans, orphan_lines, empty_body, held, lined_case, caught, annotation, annotation_line, annotated, commented, member_line, member_space, in_lines, line_break, is_pure, Lead, to_empty, all_of_them}
 use Rattle.jsgen_model.specs.Marks.{one_more_if, size, other_name_in, has_start_mark, has_end_mark, has_link_mark}
-use Rattle.jsgen_model.specs.Layout.{Pen, other_end, operator_end, written, written_if, is_apart, joins, number_ending, name_ending, is_barred, deeper_level, entered, with_private_name, are_same, not, layout}
+use Rattle.jsgen_model.specs.Layout.{Pen, Start, other_end, operator_end, written, written_if, is_apart, joins, number_ending, name_ending, is_barred, deeper_level, entered, with_private_name, are_same, not, layout}
 use Rattle.jsgen_model.specs.Private.{printed_private}
 use Rattle.jsgen_model.specs.Comments.{are_any}
-use Rattle.jsgen_model.specs.Groups.{comments_at, orphans_before, has_orphans, orphan_lines_at, empty_body_at, group_at, last_byte, ending_at, without_ending, closing_group, case_begun, case_ended, space_behind}
+use Rattle.jsgen_model.specs.Groups.{comments_at, orphans_before, has_orphans, orphan_lines_at, empty_body_at, group_at, last_byte, ending_at, without_ending, closing_group, case_begun, case_ended, space_behind, annotation_at, annotation_line_at, commented_if, member_line_at, member_space_at, begun_at, break_at, are_lined, lines_opened, lines_closed}
 
 -- ---- marks
 
@@ -91,6 +91,28 @@ stood before o pen = before || are_any (group_at o pen)
 abbrev pub before_block : Bool → ℕ → Pen → Pen
 before_block before o pen = space_behind (stood before o pen) (comments_at all_of_them o pen)
 
+-- an object stands in parentheses, and before it stand its comments
+abbrev pub is_enclosed : ℕ → Pen → Bool
+is_enclosed o pen = are_any (group_at o pen) || is_barred a_brace pen.start
+
+abbrev pub commented_from : ℕ → Pen → Pen
+commented_from o pen = commented_if (are_any (group_at o pen)) o (written_if (is_enclosed o pen) (opening Round) pen)
+
+-- ---- annotations
+
+-- an annotation is printed, and puts what stands behind it in parentheses
+abbrev pub lifts : Bool → Bool → Pen → Bool
+lifts pure lifted pen = (pure && pen.style.annotated) && lifted
+
+-- the annotation of what is pure, where the test holds, which began so
+abbrev pub annotated_if : Bool → Span → ℕ → Start → Pen → Pen
+annotated_if true span o start pen = begun_at start (annotation_at is_pure o (span_mark span pen))
+annotated_if false span o start pen = pen
+
+-- what stands before a call that is pure where the third test holds
+abbrev pub annotated_from : Bool → Bool → Bool → Span → ℕ → Pen → Pen
+annotated_from test lifted pure span o pen = annotated_if (pure && pen.style.annotated) span o pen.start (written_if (lifts pure lifted pen || test) (opening Round) pen)
+
 -- ---- the whole
 
 -- the pen after the items: of two, after the second from where the first ends
@@ -121,5 +143,15 @@ lay (empty_body o) pen = empty_body_at o pen
 lay (held o items) pen = closing_group (ending_at (last_byte o) pen) (lay items (without_ending (last_byte o) pen))
 lay (lined_case start end lead items) pen = case_ended (has_orphans start pen) pen.depth end (lay items (case_mark (has_orphans start pen) lead (case_begun (has_orphans start pen) lead start pen)))
 lay (caught start body items) pen = before_block (are_any (group_at start pen)) body (lay items (comments_at all_of_them start pen))
+lay (annotation test kind o) pen = if test && pen.style.annotated then begun_at pen.start (annotation_at kind o pen) else pen
+lay (annotation_line indented test o) pen = if test && pen.style.annotated then annotation_line_at indented o pen else pen
+lay (annotated test lifted pure span o items) pen =
+    written_if (lifts pure lifted pen || test) (closing Round) (lay items (annotated_from test lifted pure span o pen))
+lay (commented o items) pen =
+    written_if (is_enclosed o pen) (closing Round) (lay items (commented_from o pen))
+lay (member_line o) pen = member_line_at o pen
+lay (member_space o) pen = member_space_at o pen
+lay (in_lines lines starts end items) pen = lines_closed (are_lined lines starts end pen) lines end pen.depth pen.lines (lay items (lines_opened (are_lined lines starts end pen) pen))
+lay (line_break at) pen = break_at at pen
 -- what has no mark and no comment is as in the text
 lay item pen = layout item pen

@@ -14,12 +14,12 @@ use Rattle.jsgen_tree.specs.Options.{Options}
 use Rattle.jsgen_tree.specs.Job.{Tables}
 use Rattle.jsgen_tree.specs.Named.{Named, printed_name}
 use Rattle.jsgen_model.specs.Punctuator.{Punctuator, plus, plus_plus, minus, minus_minus, bang, equal_equal, equal_equal_equal, punctuator_text, Round, opening, closing}
-use Rattle.jsgen_model.specs.Items.{Items, TemplatePart, whole_part, head_part, middle_part, tail_part, nothing, ◌⊕◌, word, name, private_name, number, literal, regular_expression, template_part, string, first_string, directive, punctuator, operator, member_dot, soft_space, soft_line, hard_space, indentation, body_space, deeper, in_class, brackets, wrapped, wrapped_at_start, Opener, a_brace, a_declaration, parentheses_unless_minified, where_same, statement_end, due_semicolon, drop_semicolon, statement_begins, arrow_body_begins, default_export_begins, mark, end_mark, link_mark, marked_word, comments, orphans, annotation, unless_minified, marked_operator, marked_number, marked_indentation, apart, orphan_lines, empty_body, held, lined_case, caught, Lead, to_block, to_body, to_empty}
+use Rattle.jsgen_model.specs.Items.{Items, TemplatePart, whole_part, head_part, middle_part, tail_part, nothing, ◌⊕◌, word, name, private_name, number, literal, regular_expression, template_part, string, first_string, directive, punctuator, operator, member_dot, soft_space, soft_line, hard_space, indentation, body_space, deeper, in_class, brackets, wrapped, wrapped_at_start, Opener, a_brace, a_declaration, parentheses_unless_minified, where_same, statement_end, due_semicolon, drop_semicolon, statement_begins, arrow_body_begins, default_export_begins, mark, end_mark, link_mark, marked_word, comments, orphans, annotation, annotation_line, annotated, commented, member_line, member_space, in_lines, line_break, Break, first_argument, other_argument, import_source, import_options, unless_minified, marked_operator, marked_number, marked_indentation, apart, orphan_lines, empty_body, held, lined_case, caught, Lead, to_block, to_body, to_empty}
 use Rattle.jsgen_map.specs.Marks.{Mark}
-use Rattle.jsgen_model.specs.Comments.{Store, empty_store}
+use Rattle.jsgen_model.specs.Comments.{Store, Groups, empty_store}
 use Rattle.jsgen_model.specs.Private.{classes_within, printed_private}
 
--- what never changes: whether the text is minified and whether it is ASCII, the quote of pretty text and of directives, what a level of indentation is made of, the tables by which names are printed, and the bytes of the source, where a source map is wanted
+-- what never changes: whether the text is minified and whether it is ASCII, the quote of pretty text and of directives, what a level of indentation is made of, the tables by which names are printed, the bytes of the source, where a source map is wanted, and whether annotations are printed
 pub record Style : Type 0 where
   pub minified : Bool
   pub ascii : Bool
@@ -28,6 +28,7 @@ pub record Style : Type 0 where
   pub width : ℕ
   pub tables : Tables
   pub source : Option (List ℕ)
+  pub annotated : Bool
 
 -- what the code so far ends in, as far as it matters to what follows
 pub data Ending : Type 0 where
@@ -64,6 +65,10 @@ pub record Pen : Type 0 where
   pub marks : List Mark
   -- the comments that are still to be printed
   pub store : Store
+  -- the annotations of calls and functions that the source has, and that are still to be printed
+  pub annotations : Groups
+  -- the arguments round here stand on lines of their own
+  pub lines : Bool
 
 -- the code goes on with this text, which ends so
 abbrev pub written : List ℕ → Ending → Pen → Pen
@@ -247,6 +252,15 @@ led to_block pen = written_if (not pen.style.minified) (codes " ") pen
 led to_body pen = record pen { pending_space = true }
 led (to_empty s) pen = pen
 
+-- ---- arguments
+
+-- what stands before an argument, where all stand on one line
+abbrev pub on_one_line : Break → Pen → Pen
+on_one_line (first_argument o) pen = pen
+on_one_line (other_argument o) pen = written_if (not pen.style.minified) (codes " ") pen
+on_one_line (import_source o) pen = pen
+on_one_line import_options pen = written_if (not pen.style.minified) (codes " ") pen
+
 -- ---- the whole
 
 -- the pen after the items: of two, after the second from where the first ends
@@ -285,7 +299,7 @@ layout drop_semicolon pen = with_semicolon false pen
 layout statement_begins pen = record pen { start = statement }
 layout arrow_body_begins pen = record pen { start = arrow_body }
 layout default_export_begins pen = record pen { start = default_export }
--- none of the text are marks and comments, which `lay` has, and annotations, which aren't printed yet
+-- none of the text are marks, comments and annotations, which `lay` has
 layout (marked_word span w) pen = written (space_if (is_apart pen.ending pen.code) ++ w) other_end pen
 layout (marked_operator span p) pen = written (space_if (joins pen.ending pen.code p) ++ punctuator_text p) (operator_end p) pen
 layout (marked_number span dot_is_its_own w) pen = written (space_if (is_apart pen.ending pen.code) ++ w) (number_ending dot_is_its_own) pen
@@ -302,10 +316,17 @@ layout (held offset items) pen = layout items pen
 layout (lined_case start end lead items) pen = layout items (led lead pen)
 layout (caught start body items) pen = layout items pen
 layout (annotation test kind offset) pen = pen
+layout (annotation_line indented test offset) pen = pen
+layout (annotated test lifted pure span offset items) pen = written_if test (closing Round) (layout items (written_if test (opening Round) pen))
+layout (commented offset items) pen = written_if (is_barred a_brace pen.start) (closing Round) (layout items (written_if (is_barred a_brace pen.start) (opening Round) pen))
+layout (member_line offset) pen = at_indentation pen.style.minified (written_if (not pen.style.minified) (codes "\n") pen)
+layout (member_space offset) pen = written_if (not pen.style.minified) (codes " ") pen
+layout (in_lines lines starts end items) pen = layout items pen
+layout (line_break at) pen = on_one_line at pen
 
 -- before anything is printed
 abbrev pub empty_pen : Style → ℕ → Pen
-empty_pen style depth = record { style = style; code = []; depth = depth; pending_space = false; pending_semicolon = false; ending = other_end; start = statement; classes = []; next_class = 0; marks = []; store = empty_store }
+empty_pen style depth = record { style = style; code = []; depth = depth; pending_space = false; pending_semicolon = false; ending = other_end; start = statement; classes = []; next_class = 0; marks = []; store = empty_store; annotations = []; lines = false }
 
 -- the style of these options and tables
 abbrev pub style_of : Options → Tables → Style
@@ -317,4 +338,5 @@ style_of options tables = record {
   width = options.indent_width;
   tables = tables;
   source = None;
+  annotated = options.comments.annotation;
 }

@@ -1,5 +1,5 @@
 -- How each node is spelled: one row, one clause.
-use Rattle.std.specs.Prelude.{ℕ, suc, List, ◌++◌, Bool, true, false, not, ◌||◌, nat_lt, bytes_eq, codes, decimal, Option, Some, None, if◌then◌else◌}
+use Rattle.std.specs.Prelude.{ℕ, suc, List, [], ◌∷◌, ◌++◌, Bool, true, false, not, ◌||◌, ◌&&◌, nat_lt, bytes_eq, codes, decimal, Option, Some, None, if◌then◌else◌}
 use Rattle.std.specs.Str.{encode_utf8_all}
 use Rattle.jsgen_syntax.specs.Wtf8.{joined_units, has_lone}
 use Rattle.jsgen_syntax.specs.Operator.{binary_level, lower_level, logical_level, logical_lower_level}
@@ -29,16 +29,16 @@ use Rattle.jsgen_tree.specs.Inside.{without_parentheses, ends_open, reference_na
 use Rattle.jsgen_tree.specs.Words.{declaration_word, with_word}
 use Rattle.jsgen_tree.specs.Number.{NumericKind, Whole, Raw}
 use Rattle.jsgen_tree.specs.Tree.{Tree, Maybe, absent, given, Trees, no_trees, more, hole, Atoms, type_of, atoms_of, span_of, MaybeTrees, no_list, listed}
-use Rattle.jsgen_tree.specs.Values.{as_text, directive_directive, variable_declaration_kind, identifier_name_name, label_identifier_name, boolean_literal_value, numeric_literal_kind, numeric_literal_negative, numeric_literal_digits, numeric_literal_text, big_int_literal_value, string_literal_value, binary_expression_operator, logical_expression_operator, unary_expression_operator, update_expression_operator, update_expression_prefix, object_property_kind, object_property_method, object_property_shorthand, object_property_computed, function_kind, function_is_async, function_generator, function_pife, assignment_expression_operator, static_member_expression_optional, computed_member_expression_optional, call_expression_optional, for_of_statement_is_await, arrow_function_expression_is_async, arrow_function_expression_pife, binding_property_computed, private_identifier_name, private_field_expression_optional, class_kind, method_definition_kind, method_definition_computed, method_definition_is_static, property_definition_computed, property_definition_is_static, assignment_target_property_property_computed, template_element_raw, hashbang_value, with_clause_keyword}
+use Rattle.jsgen_tree.specs.Values.{as_text, directive_directive, variable_declaration_kind, identifier_name_name, label_identifier_name, boolean_literal_value, numeric_literal_kind, numeric_literal_negative, numeric_literal_digits, numeric_literal_text, big_int_literal_value, string_literal_value, binary_expression_operator, logical_expression_operator, unary_expression_operator, update_expression_operator, update_expression_prefix, object_property_kind, object_property_method, object_property_shorthand, object_property_computed, function_kind, function_is_async, function_generator, function_pure, function_pife, assignment_expression_operator, static_member_expression_optional, computed_member_expression_optional, call_expression_optional, call_expression_pure, new_expression_pure, for_of_statement_is_await, arrow_function_expression_is_async, arrow_function_expression_pure, arrow_function_expression_pife, binding_property_computed, private_identifier_name, private_field_expression_optional, class_kind, method_definition_kind, method_definition_computed, method_definition_is_static, property_definition_computed, property_definition_is_static, assignment_target_property_property_computed, template_element_raw, hashbang_value, with_clause_keyword}
 use Rattle.jsgen_tree.specs.Job.{JobData}
 use Rattle.jsgen_tree.specs.Nodes as tree
 use Rattle.jsgen_model.specs.Numbers.{takes_no_dot}
 use Rattle.jsgen_model.specs.Punctuator.{ellipsis, comma, semicolon, equal, minus, Round, Square, Brace, colon, question, question_dot, arrow, star}
 use Rattle.jsgen_model.specs.Quotes.{is_require_call, is_definition_call, is_key_of_exports, is_export_mark}
-use Rattle.jsgen_model.specs.Items.{Items, TemplatePart, whole_part, head_part, middle_part, tail_part, nothing, ◌⊕◌, word, name, private_name, number, template_part, with_key_annotation, string, marked_number, first_string, directive, punctuator, operator, member_dot, brackets, soft_space, soft_line, hard_space, body_space, deeper, in_class, indentation, wrapped, wrapped_at_start, a_brace, a_declaration, parentheses_unless_minified, where_same, statement_end, due_semicolon, drop_semicolon, statement_begins, arrow_body_begins, unless_minified, literal, default_export_begins, end_mark, link_mark, marked_operator, marked_indentation, orphans, orphan_lines, empty_body, held, lined_case, caught, then_space, Lead, to_block, to_body, to_empty}
+use Rattle.jsgen_model.specs.Items.{Items, TemplatePart, whole_part, head_part, middle_part, tail_part, nothing, ◌⊕◌, word, name, private_name, number, template_part, with_key_annotation, string, marked_number, first_string, directive, punctuator, operator, member_dot, brackets, soft_space, soft_line, hard_space, body_space, deeper, in_class, indentation, wrapped, wrapped_at_start, a_brace, a_declaration, parentheses_unless_minified, where_same, statement_end, due_semicolon, drop_semicolon, statement_begins, arrow_body_begins, unless_minified, literal, default_export_begins, end_mark, link_mark, marked_operator, marked_indentation, orphans, orphan_lines, empty_body, held, lined_case, caught, then_space, before_it, annotation_before_it, Manner, commented, member_line, member_space, annotation, annotation_line, annotated, no_side_effects, in_lines, of_call, of_import, line_break, first_argument, other_argument, import_source, import_options, Lead, to_block, to_body, to_empty}
 use Rattle.jsgen_tree.specs.Nodes as tree
 use Rattle.jsgen_model.specs.Lay.{lay}
-use Rattle.jsgen_model.specs.Comments.{kept}
+use Rattle.jsgen_model.specs.Comments.{kept, kept_annotations}
 use Rattle.jsgen_model.specs.Ends.{ended}
 use Rattle.jsgen_model.specs.Valid.{source_of}
 use Rattle.jsgen_model.specs.Layout.{Pen, empty_pen, style_of}
@@ -123,10 +123,20 @@ abbrev pub any_given : Trees → Bool
 any_given no_trees = false
 any_given ts = true
 
+-- where the nodes of a list begin
+abbrev pub starts_of : Trees → List ℕ
+starts_of no_trees = []
+starts_of (more t ts) = (span_of t).start ∷ starts_of ts
+starts_of (hole ts) = starts_of ts
+
+-- the arguments of a call or of `new`, which has a span; the test tells that strings among them stand in plain quotes
+abbrev pub argument_items : Bool → Trees → Span → Items → Items
+argument_items quoted arguments s items = in_lines (of_call quoted) (starts_of arguments) s.end items ⊕ end_mark s
+
 -- `new` may go without its parentheses in minified text, where it has no arguments and no link stands behind it (ECMA-262, 13.3.5)
-abbrev pub new_arguments : Bool → Span → Items → Items
-new_arguments true s items = brackets Round (items ⊕ end_mark s)
-new_arguments false s items = parentheses_unless_minified (items ⊕ unless_minified (end_mark s))
+abbrev pub new_arguments : Bool → Items → Items
+new_arguments true items = brackets Round items
+new_arguments false items = parentheses_unless_minified (unless_minified items)
 
 abbrev pub items_if : Bool → Items → Items
 items_if true items = items
@@ -298,12 +308,31 @@ abbrev pub comma_if_any : Trees → Items
 comma_if_any no_trees = nothing
 comma_if_any ts = punctuator comma ⊕ soft_space
 
--- what stands in the braces of an object: a single property with a space on each side, more on lines of their own
+-- What stands in the braces of an object: a single property with a space on each side, more on lines of their own. Before each
+-- stand comments
 abbrev pub object_inside : Trees → Items → Items
 object_inside no_trees items = items
-object_inside (more t no_trees) items = soft_space ⊕ (items ⊕ soft_space)
-object_inside (hole no_trees) items = soft_space ⊕ (items ⊕ soft_space)
-object_inside ts items = on_lines true items
+object_inside (more t no_trees) items = items ⊕ soft_space
+object_inside (hole no_trees) items = items ⊕ soft_space
+object_inside ts items = deeper items ⊕ next_line
+
+-- what stands before a member of an object
+abbrev pub before_member : Bool → ℕ → Items
+before_member true start = member_line start
+before_member false start = member_space start
+
+-- ---- comments before expressions
+
+-- a function that is marked as called where it stands, whose comments stand inside of its parentheses
+abbrev pub is_marked_as_called : Tree → Bool
+is_marked_as_called (tree.function a id params body) = function_pife a
+is_marked_as_called (tree.arrow_function a params body) = arrow_function_expression_pife a
+is_marked_as_called t = false
+
+-- the comments before an expression, and while it is in parentheses those before what is in them
+abbrev pub before_expression : Manner → Tree → Items
+before_expression manner (tree.parenthesized a expression) = comments manner a.span.start ⊕ before_expression manner expression
+before_expression manner t = if is_marked_as_called t then nothing else comments manner (span_of t).start
 
 -- a string that is a key is never in backticks
 abbrev pub key_text : Tree → Items → Items
@@ -408,11 +437,12 @@ abbrev pub parameter_items : Bool → Items → Items
 parameter_items true items = parentheses_unless_minified items
 parameter_items false items = brackets Round items
 
--- a declaration among statements is a line of its own, and is never in parentheses; the number is where it begins
-abbrev pub function_items : FunctionKind → Bool → Place → ℕ → Items → Items
-function_items function_kinds.Declaration pife place start items = items_if place.in_list (comments all_of_them start) ⊕ block_items place.in_list items
+-- a declaration among statements is a line of its own, and is never in parentheses; the number is where it begins, and the first test
+-- tells that it has no side effects
+abbrev pub function_items : FunctionKind → Bool → Bool → Place → ℕ → Items → Items
+function_items function_kinds.Declaration pure pife place start items = items_if place.in_list (comments all_of_them start ⊕ annotation_line true pure start) ⊕ block_items place.in_list items
 -- an expression stands in parentheses where it is marked so, and where a statement or a default export begins with it
-function_items function_kinds.Expression pife place start items = wrapped_at_start pife a_declaration items
+function_items function_kinds.Expression pure pife place start items = annotation pure no_side_effects start ⊕ wrapped_at_start pife a_declaration items
 
 -- the words before a function's name (ECMA-262, 15.2, 15.5, 15.6 and 15.8); the tests tell that it is `async`, and a generator. Of two
 -- marks of one span, one behind the other, the second is left out
@@ -582,9 +612,18 @@ abbrev pub is_empty_list : MaybeTrees → Bool
 is_empty_list (listed no_trees) = true
 is_empty_list ts = false
 
+-- where an argument begins, if there is one
+abbrev pub starts_if : Maybe → List ℕ
+starts_if absent = []
+starts_if (given t) = (span_of t).start ∷ []
+
 -- what an import or an export begins with
 abbrev pub module_word : Span → List ℕ → Items
 module_word s w = comments all_of_them s.start ⊕ (indentation ⊕ (mark s ⊕ word w))
+
+-- what the export of a declaration begins with; the test tells that it is a function that has no side effects
+abbrev pub export_word : Bool → Span → Items
+export_word pure s = comments all_of_them s.start ⊕ (annotation_line false pure s.start ⊕ (indentation ⊕ (mark s ⊕ word (codes "export"))))
 
 -- what ends a declaration that is exported
 abbrev pub exported_end : NodeType → Items
@@ -604,6 +643,11 @@ abbrev pub is_declared : Tree → Bool
 is_declared (tree.function a id params body) = is_declared_function (function_kind a)
 is_declared (tree.class a id heritage body) = is_declared_class (class_kind a)
 is_declared t = false
+
+-- a function that is declared, and has no side effects
+abbrev pub is_pure_declaration : Tree → Bool
+is_pure_declaration (tree.function a id params body) = is_declared_function (function_kind a) && function_pure a
+is_pure_declaration t = false
 
 -- what is exported by default: a declaration, or an expression, which may begin with neither a function nor a class (ECMA-262, 16.2.3)
 abbrev pub default_items : Bool → Items → Items → Items
@@ -631,7 +675,7 @@ abbrev mutual
   spell (tree.logical a left right) place =
       operation (logical_wraps (logical_expression_operator a) place) (logical_item (logical_expression_operator a))
       (spell left (left_operand (unmixed (logical_expression_operator a) left (logical_lower_level (logical_expression_operator a))) (within (logical_wraps (logical_expression_operator a) place) place)))
-      (spell right (child (unmixed (logical_expression_operator a) right (logical_level (logical_expression_operator a))) (within (logical_wraps (logical_expression_operator a) place) place)))
+      (before_expression annotation_before_it right ⊕ spell right (child (unmixed (logical_expression_operator a) right (logical_level (logical_expression_operator a))) (within (logical_wraps (logical_expression_operator a) place) place)))
   spell (tree.block a body) place =
       items_if place.in_list (comments all_of_them a.span.start) ⊕ block_items place.in_list (block_braces a.span body (spell_statements body))
   spell (tree.if_statement a test consequent alternate) place =
@@ -666,8 +710,10 @@ abbrev mutual
   spell (tree.static_member a object property) place = linked_items object (spell object (linked place)) ⊕ (name_link (static_member_expression_optional a) ⊕ spell property (child Lowest place))
   spell (tree.computed_member a object expression) place = linked_items object (spell object (linked place)) ⊕ (bracket_link (computed_member_expression_optional a) ⊕ brackets Square (spell expression (quoted_plainly place.plain_quotes (in_brackets Lowest))))
   spell (tree.call a callee arguments) place =
-      wrapped (call_wraps place) (linked_items callee (spell callee (called (within (call_wraps place) place))) ⊕ (bracket_link (call_expression_optional a)
-      ⊕ brackets Round (spell_arguments (is_require_call callee arguments) (is_definition_call callee arguments) arguments (in_brackets Comma) ⊕ end_mark a.span)))
+      annotated (call_wraps place) (wraps Postfix place) (call_expression_pure a) a.span a.span.start
+      (linked_items callee (spell callee (called (within (call_wraps place) place))) ⊕ (bracket_link (call_expression_optional a)
+      ⊕ brackets Round (argument_items (is_require_call callee arguments || is_definition_call callee arguments) arguments a.span
+      (spell_arguments (is_require_call callee arguments) (is_definition_call callee arguments) arguments (in_brackets Comma)))))
   spell (tree.chain a element) place = wrapped (chain_wraps place) (spell element (chain_place (chain_wraps place) place))
   -- up to two elements stand on one line
   spell (tree.array a elements) place = mark a.span ⊕ brackets Square (on_lines (are_more 2 elements) (spell_elements (are_more 2 elements) elements (in_brackets Comma) ⊕ comma_if (ends_in_hole elements)) ⊕ end_mark a.span)
@@ -676,15 +722,16 @@ abbrev mutual
       (linked_items argument (spell argument (child Postfix (within (wraps (update_level (update_expression_prefix a)) place) place))))
       (spell argument (child Prefix (within (wraps (update_level (update_expression_prefix a)) place) place))))
   spell (tree.new_expression a callee arguments) place =
-      wrapped (wraps New place) (marked_word a.span (codes "new") ⊕ (soft_space ⊕ (spell callee (constructed (within (wraps New place) place))
-      ⊕ new_arguments (any_given arguments || wraps Postfix place) a.span (spell_list arguments (in_brackets Comma)))))
+      annotated (wraps New place) (wraps Postfix place) (new_expression_pure a) unmarked a.span.start
+      (marked_word a.span (codes "new") ⊕ (soft_space ⊕ (spell callee (constructed (within (wraps New place) place))
+      ⊕ new_arguments (any_given arguments || wraps Postfix place) (argument_items false arguments a.span (spell_arguments false false arguments (in_brackets Comma))))))
   -- up to one property stands on one line; as in an array, a comma would stand behind a last one that is left out, but none is
-  spell (tree.object_expression a properties) place = wrapped_at_start false a_brace (mark a.span ⊕ brackets Brace (object_inside properties (spell_elements (are_more 1 properties) properties (in_brackets Comma) ⊕ comma_if (ends_in_hole properties)) ⊕ end_mark a.span))
+  spell (tree.object_expression a properties) place = commented a.span.start (mark a.span ⊕ brackets Brace (object_inside properties (spell_properties (are_more 1 properties) properties (in_brackets Comma) ⊕ comma_if (ends_in_hole properties)) ⊕ end_mark a.span))
   spell (tree.object_property a key value) place =
       items_if (is_function (type_of value)) (mark a.span) ⊕ method_or_property (is_method (object_property_kind a) (object_property_method a))
       (accessor_word (object_property_kind a) ⊕ (method_words value ⊕ (key_items (needs_brackets (object_property_computed a) key) key (spell key (in_brackets Comma)) ⊕ spell_method value place)))
       (before_value (object_property_shorthand a) (written_name_in key) (looked_up_in (without_parentheses value)) (key_items (needs_brackets (object_property_computed a) key) key (spell key (in_brackets Comma)))
-      ⊕ spell value (in_brackets Comma))
+      ⊕ (before_expression before_it value ⊕ spell value (in_brackets Comma)))
   -- an assignment binds to the right, and hands on what is forbidden
   spell (tree.assignment a left right) place =
       assignment_items (type_of left) (wraps Assign place) (mark a.span ⊕ (spell left (quoted_plainly (is_key_of_exports left) (in_brackets Comma)) ⊕ (soft_space
@@ -700,11 +747,11 @@ abbrev mutual
   spell (tree.formal_parameters a items rest) place = spell_list items place ⊕ (comma_between items rest ⊕ spell_if_given rest place)
   -- no line end stands before the arrow (ECMA-262, 15.3)
   spell (tree.arrow_function a params body) place =
-      wrapped (arrow_wraps (arrow_function_expression_pife a) place) (items_if (arrow_function_expression_is_async a) (marked_word a.span (codes "async") ⊕ soft_space)
+      annotation (arrow_function_expression_pure a) no_side_effects a.span.start ⊕ wrapped (arrow_wraps (arrow_function_expression_pife a) place) (items_if (arrow_function_expression_is_async a) (marked_word a.span (codes "async") ⊕ soft_space)
       ⊕ (parameter_items (is_name_alone params) (spell params (child Comma (within true place)))
       ⊕ (soft_space ⊕ (punctuator arrow ⊕ (soft_space ⊕ (body_begins (type_of body) ⊕ spell body (child Comma (within (arrow_wraps (arrow_function_expression_pife a) place) place))))))))
   spell (tree.function a id params body) place =
-      function_items (function_kind a) (function_pife a) place a.span.start (function_words a.span (function_is_async a) (function_generator a) ⊕ (spell_if_given id (child Lowest place)
+      function_items (function_kind a) (function_pure a) (function_pife a) place a.span.start (function_words a.span (function_is_async a) (function_generator a) ⊕ (spell_if_given id (child Lowest place)
       ⊕ (brackets Round (spell params (with_calls (child Comma place))) ⊕ spell_apart body within_statement)))
   spell (tree.function_body a directives statements) place =
       body_braces a.span directives statements (spell_directives directives ⊕ spell_body statements)
@@ -737,7 +784,8 @@ abbrev mutual
       ⊕ (first_piece place.context.is_tagged opening_part quasis ⊕ spell_substitutions place.context.is_tagged expressions (other_pieces quasis)))
   spell (tree.tagged_template a callee quasi) place = mark a.span ⊕ (linked_items callee (spell callee (tag place)) ⊕ spell quasi (tagged place))
   spell (tree.import_call a source options) place =
-      wrapped (call_wraps place) (marked_word a.span (codes "import") ⊕ brackets Round (spell source (in_brackets Comma) ⊕ spell_behind_comma options (in_brackets Comma)))
+      wrapped (call_wraps place) (marked_word a.span (codes "import") ⊕ brackets Round (in_lines of_import ((span_of source).start ∷ starts_if options) a.span.end
+      (line_break (import_source (span_of source).start) ⊕ (spell source (in_brackets Comma) ⊕ spell_behind_comma options (in_brackets Comma)))))
   -- the line end stays in minified text (ECMA-262, 12.5)
   spell (tree.hashbang a) place = literal (codes "#!") ⊕ (literal (hashbang_value a) ⊕ literal (codes "\n"))
   spell (tree.import_declaration a specifiers source with_attributes) place =
@@ -749,7 +797,7 @@ abbrev mutual
       mark a.span ⊕ (word (with_word (with_clause_keyword a)) ⊕ (soft_space ⊕ (mark a.span ⊕ spaced_braces entries (spell_list entries plainly))))
   spell (tree.import_attribute a key value) place = attribute_key key (spell key plainly) ⊕ (punctuator colon ⊕ (soft_space ⊕ spell value plainly))
   spell (tree.export_declaration a declaration) place =
-      module_word a.span (codes "export") ⊕ (hard_space ⊕ (spell declaration within_statement ⊕ exported_end (type_of declaration)))
+      export_word (is_pure_declaration declaration) a.span ⊕ (hard_space ⊕ (spell declaration within_statement ⊕ exported_end (type_of declaration)))
   spell (tree.export_named_declaration a specifiers) place =
       module_word a.span (codes "export") ⊕ (soft_space ⊕ (spaced_braces specifiers (spell_list specifiers plainly) ⊕ statement_end))
   spell (tree.export_from_declaration a specifiers source with_attributes) place =
@@ -761,7 +809,7 @@ abbrev mutual
       module_word a.span (codes "export") ⊕ (soft_space ⊕ (punctuator star ⊕ (spell_exported exported ⊕ (word (codes "from")
       ⊕ (soft_space ⊕ (spell source plainly ⊕ (spell_attributes true with_attributes ⊕ statement_end)))))))
   spell (tree.export_default_declaration a declaration) place =
-      module_word a.span (codes "export") ⊕ (hard_space ⊕ (word (codes "default") ⊕ (soft_space
+      export_word (is_pure_declaration declaration) a.span ⊕ (hard_space ⊕ (word (codes "default") ⊕ (soft_space
       ⊕ default_items (is_declared declaration) (spell declaration within_statement) (spell declaration (in_brackets Comma)))))
   -- generated from tools/nodes/table.txt: clauses
   spell (tree.variable_declaration a declarations) place =
@@ -785,8 +833,9 @@ abbrev mutual
   spell (tree.import_meta a) place = marked_word a.span (codes "import.meta")
   spell (tree.conditional a test consequent alternate) place =
       wrapped (wraps Conditional place) (spell test (with_calls (child Conditional (within (wraps Conditional place) place))) ⊕ (soft_space
-      ⊕ (punctuator question ⊕ (soft_space ⊕ (spell consequent (in_brackets Yield) ⊕ (soft_space ⊕ (punctuator colon ⊕ (soft_space
-      ⊕ spell alternate (with_calls (child Yield (within (wraps Conditional place) place)))))))))))
+      ⊕ (punctuator question ⊕ (soft_space ⊕ (before_expression annotation_before_it consequent ⊕ (spell consequent (in_brackets Yield)
+      ⊕ (soft_space ⊕ (punctuator colon ⊕ (soft_space ⊕ (before_expression before_it alternate
+      ⊕ spell alternate (with_calls (child Yield (within (wraps Conditional place) place)))))))))))))
   spell (tree.sequence a expressions) place = wrapped (wraps Comma place) (spell_list expressions (with_calls (child Lowest place)))
   spell (tree.formal_parameter a pattern initializer) place =
       mark a.span ⊕ (spell pattern (child Lowest place) ⊕ spell_value initializer (child Comma place))
@@ -865,13 +914,13 @@ abbrev mutual
   -- the expressions of a template, each with the piece behind it
   pub spell_substitutions : Bool → Trees → Trees → Items
   spell_substitutions is_tagged no_trees pieces = nothing
-  spell_substitutions is_tagged (more t ts) pieces = spell t (in_brackets Lowest) ⊕ (first_piece is_tagged further_part pieces ⊕ spell_substitutions is_tagged ts (other_pieces pieces))
+  spell_substitutions is_tagged (more t ts) pieces = before_expression before_it t ⊕ (spell t (in_brackets Lowest) ⊕ (first_piece is_tagged further_part pieces ⊕ spell_substitutions is_tagged ts (other_pieces pieces)))
   spell_substitutions is_tagged (hole ts) pieces = spell_substitutions is_tagged ts pieces
 
   -- a second argument
   pub spell_behind_comma : Maybe → Place → Items
   spell_behind_comma absent place = nothing
-  spell_behind_comma (given t) place = punctuator comma ⊕ (soft_space ⊕ spell t place)
+  spell_behind_comma (given t) place = punctuator comma ⊕ (line_break import_options ⊕ spell t place)
 
   -- what a class extends
   pub spell_heritage : Maybe → Items
@@ -917,12 +966,12 @@ abbrev mutual
   -- arguments, of which the first or the second is a string that is never in backticks, where the tests hold
   pub spell_arguments : Bool → Bool → Trees → Place → Items
   spell_arguments first second no_trees place = nothing
-  spell_arguments first second (more t ts) place = spell t (quoted_plainly first place) ⊕ spell_behind_first second ts place
+  spell_arguments first second (more t ts) place = line_break (first_argument (span_of t).start) ⊕ (spell t (quoted_plainly first place) ⊕ spell_behind_first second ts place)
   spell_arguments first second (hole ts) place = spell_arguments first second ts place
 
   pub spell_behind_first : Bool → Trees → Place → Items
   spell_behind_first second no_trees place = nothing
-  spell_behind_first second (more t ts) place = punctuator comma ⊕ (soft_space ⊕ (spell t (quoted_plainly second place) ⊕ spell_more ts place))
+  spell_behind_first second (more t ts) place = punctuator comma ⊕ (line_break (other_argument (span_of t).start) ⊕ (spell t (quoted_plainly second place) ⊕ spell_behind_first false ts place))
   spell_behind_first second (hole ts) place = spell_behind_first second ts place
 
   pub spell_more : Trees → Place → Items
@@ -940,6 +989,17 @@ abbrev mutual
   spell_more_elements lines no_trees place = nothing
   spell_more_elements lines (more t ts) place = punctuator comma ⊕ (line_or_space lines ⊕ (spell t place ⊕ spell_more_elements lines ts place))
   spell_more_elements lines (hole ts) place = punctuator comma ⊕ (line_or_space lines ⊕ spell_more_elements lines ts place)
+
+  -- the members of an object, on lines of their own or on one
+  pub spell_properties : Bool → Trees → Place → Items
+  spell_properties lines no_trees place = nothing
+  spell_properties lines (more t ts) place = before_member lines (span_of t).start ⊕ (spell t place ⊕ spell_more_properties lines ts place)
+  spell_properties lines (hole ts) place = line_or_space lines ⊕ spell_more_properties lines ts place
+
+  pub spell_more_properties : Bool → Trees → Place → Items
+  spell_more_properties lines no_trees place = nothing
+  spell_more_properties lines (more t ts) place = punctuator comma ⊕ (before_member lines (span_of t).start ⊕ (spell t place ⊕ spell_more_properties lines ts place))
+  spell_more_properties lines (hole ts) place = punctuator comma ⊕ (line_or_space lines ⊕ spell_more_properties lines ts place)
 
   -- `else`, behind the semicolon that the consequent may have left
   pub spell_alternate : Maybe → Items
@@ -992,7 +1052,10 @@ source_bytes job = encode_utf8_all (source_of job.program)
 
 -- before anything is printed of a job's program, whose first line is at the level that the options ask for
 abbrev pub first_pen : JobData → Pen
-first_pen job = record (empty_pen (style_of job.options job.tables) job.options.initial_indent) { store = kept job.options.comments (source_bytes job) (comments_in job.program) }
+first_pen job = record (empty_pen (style_of job.options job.tables) job.options.initial_indent) {
+  store = kept job.options.comments (source_bytes job) (comments_in job.program);
+  annotations = kept_annotations job.options.comments (source_bytes job) (comments_in job.program);
+}
 
 -- behind the program, up to its end
 abbrev pub whole_from : JobData → Pen → Pen

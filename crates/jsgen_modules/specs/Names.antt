@@ -1,5 +1,5 @@
 -- Whether names of imports and exports are printed the same.
-use Rattle.std.specs.Prelude.{ℕ, List, Bool, false, Option, Some, None, bytes_eq, option_map}
+use Rattle.std.specs.Prelude.{ℕ, List, Bool, false, Option, Some, bytes_eq, option_map}
 use Rattle.jsgen_tree.specs.Tree.{Tree}
 use Rattle.jsgen_tree.specs.Nodes as tree
 use Rattle.jsgen_tree.specs.Job.{Tables}

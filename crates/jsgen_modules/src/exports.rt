@@ -9,7 +9,7 @@ ghost use Rattle.jsgen_model.specs.Spell.{spell, spell_exported, exported_end, u
 ghost use Rattle.jsgen_printer.specs.Steps.{Lays};
 
 use crate::names::{exports_as, print_module_export_name, print_name_comments, print_plain_string};
-use crate::parts::{begin_module_word, print_attributes, print_spaced_braces};
+use crate::parts::{begin_export, begin_module_word, print_attributes, print_spaced_braces};
 use jsgen_inside::PrintInside;
 use jsgen_lists::PrintMember;
 use jsgen_place::Place;
@@ -27,7 +27,7 @@ pub fn print_export_declaration<N, L: PrintInside<N>>(
     ensures { Lays p.old p.new (spell (export_declaration_row L.plain node.now) place) }
 {
     let _ = place;
-    begin_module_word(node.span, "export", p);
+    begin_export(L::is_pure_declaration(node.declaration.get()), node.span, p);
     p.print_hard_space();
     L::print(node.declaration.get(), p, Place::within_statement());
     end_exported(L::node_type(node.declaration.get()), p);

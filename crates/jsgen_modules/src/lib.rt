@@ -17,4 +17,4 @@ pub use imports::{
     print_import_specifier,
 };
 pub use names::print_module_export_name;
-pub use parts::begin_module_word;
+pub use parts::begin_export;

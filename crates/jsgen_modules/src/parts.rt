@@ -4,7 +4,7 @@ ghost use Rattle.jsgen_tree.specs.Tree.{trees, optional};
 ghost use Rattle.jsgen_tree.specs.Rows.{with_clause_row};
 ghost use Rattle.jsgen_model.specs.Items.{◌⊕◌, brackets, nothing, soft_space};
 ghost use Rattle.jsgen_model.specs.Punctuator.{Brace};
-ghost use Rattle.jsgen_model.specs.Spell.{module_word, spell_attributes, space_by, spaced_braces, spell_list};
+ghost use Rattle.jsgen_model.specs.Spell.{module_word, export_word, spell_attributes, space_by, spaced_braces, spell_list};
 ghost use Rattle.jsgen_place.specs.Place.{plainly};
 ghost use Rattle.jsgen_printer.specs.Printer.{is_ascii};
 ghost use Rattle.jsgen_printer.specs.Steps.{Lays};
@@ -25,6 +25,17 @@ pub fn begin_module_word(span: Span, text: &str, p: &mut Printer<'_>)
     p.print_indentation();
     p.print_mark(span);
     p.print_word(text);
+}
+
+/// What the export of a declaration begins with, up to its word; the test tells that it is a function that has no side effects.
+pub fn begin_export(pure: bool, span: Span, p: &mut Printer<'_>)
+    ensures { Lays p.old p.new (export_word pure span) }
+{
+    p.print_comments(span.start);
+    p.print_annotation_line_if(false, pure, span.start);
+    p.print_indentation();
+    p.print_mark(span);
+    p.print_word("export");
 }
 
 /// A space, which minified text keeps where the test holds.

@@ -2,7 +2,7 @@
 use Rattle.std.proofs.Common.{◌≡◌, Box, Bool, true, false, Option, Some, None, option_map, List, [], ◌∷◌, map, sym, length, suc, ◌&&◌, not, is_some, is_none, refl, ap, ◌∙◌, Global, arith}
 use Rattle.std.specs.Bool.{◌==◌}
 use Rattle.std.proofs.lemmas.Bool.{eqb-true}
-use Rattle.jsgen_tree.specs.Tree.{Tree, Maybe, absent, Atoms, more, no_trees, trees, optional}
+use Rattle.jsgen_tree.specs.Tree.{Tree, Maybe, absent, Atoms, more, trees, optional}
 use Rattle.jsgen_tree.specs.Nodes as tree
 use Rattle.jsgen_tree.specs.Rows.{formal_parameter_row, formal_parameter_rest_row, formal_parameters_row}
 use Rattle.jsgen_tree.specs.declared.functions.FormalParameter.{FormalParameter}

@@ -1,8 +1,8 @@
--- Keys of properties, and properties of which none is left out.
-use Rattle.std.proofs.Common.{◌≡◌, ℕ, Bool, true, false, ◌&&◌, Option, Some, None, List, [], ◌∷◌, map, refl, sym, ap, ◌∙◌, if◌then◌else◌}
+-- Keys of properties.
+use Rattle.std.proofs.Common.{◌≡◌, ℕ, Bool, true, false, ◌&&◌, Option, Some, None, List, refl, if◌then◌else◌}
 use Rattle.std.specs.Option.{option_map_or}
 use Rattle.std.proofs.lemmas.Bool.{both_ways}
-use Rattle.jsgen_tree.specs.Tree.{Tree, more, holed, trees, type_of, span_of}
+use Rattle.jsgen_tree.specs.Tree.{Tree, type_of, span_of}
 use Rattle.jsgen_tree.specs.Nodes as tree
 use Rattle.jsgen_tree.specs.Named.{Named, as_written}
 use Rattle.jsgen_tree.specs.Inside.{without_parentheses, is_proto, is_negative_number}
@@ -27,10 +27,6 @@ no_string t h = refl
 pub key_by_string : (t : Tree) (items : Items) → option_map_or (λ v. comments with_key_annotation (span_of t).start ⊕ (mark (span_of t) ⊕ string false v)) (string_in t) items ≡ key_text t items
 key_by_string (tree.string_literal a) items = refl
 key_by_string t items = refl
-
-pub none_left_out : {A : Type 0} (f : A → Tree) (xs : List A) → holed (map (λ x. Some (f x)) xs) ≡ trees (map f xs)
-none_left_out f [] = refl
-none_left_out f (x ∷ xs) = ap (more (f x)) (none_left_out f xs)
 
 pub no_number : (t : Tree) → is_number (type_of t) ≡ false → false ≡ is_negative_number t
 no_number (tree.numeric_literal a) h = absurd (both_ways true h refl)

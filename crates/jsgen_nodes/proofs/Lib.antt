@@ -11,3 +11,5 @@ mod OnePiece
 pub mod Parts
 pub mod Said
 pub mod Targeted
+pub mod BeforeIt
+pub mod NoneBefore

@@ -8,8 +8,8 @@ ghost use Rattle.jsgen_tree.specs.Inside.{without_parentheses, looked_up_in, wri
 ghost use Rattle.jsgen_tree.specs.Rows.{array_expression_row, in_array_expression_element, object_property_row, object_expression_row, in_object_property_kind, in_property_key, in_expression};
 ghost use Rattle.jsgen_place.specs.Place.{in_brackets};
 ghost use Rattle.jsgen_model.specs.Punctuator.{Square, Brace, colon};
-ghost use Rattle.jsgen_model.specs.Items.{◌⊕◌, brackets, punctuator, soft_space, mark, end_mark};
-ghost use Rattle.jsgen_model.specs.Spell.{spell, method_words, spell_method, are_more, object_inside, spell_elements, ends_in_hole, comma_if, key_text, key_items, accessor_word, before_value, string_in, is_function};
+ghost use Rattle.jsgen_model.specs.Items.{◌⊕◌, before_it, brackets, punctuator, soft_space, mark, end_mark};
+ghost use Rattle.jsgen_model.specs.Spell.{spell, method_words, spell_method, are_more, object_inside, spell_properties, ends_in_hole, before_expression, comma_if, key_text, key_items, accessor_word, before_value, string_in, is_function};
 ghost use Rattle.jsgen_printer.specs.Printer.{pen_of};
 ghost use Rattle.jsgen_printer.specs.Steps.{Lays};
 ghost use Rattle.jsgen_nodes.specs.Keys.{is_string, is_number, is_said, is_value_alone, key_of};
@@ -17,14 +17,14 @@ ghost use Rattle.jsgen_nodes.specs.Keys.{is_string, is_number, is_said, is_value
 use crate::PrintNode;
 use crate::inside::Inside;
 use jsgen_classes::print_private_identifier;
-use jsgen_lists::{PrintElement, print_accessor_word, print_array, print_object};
+use jsgen_lists::{PrintElement, PrintProperty, print_accessor_word, print_array, print_object};
 use jsgen_place::Place;
-use jsgen_printer::{Bracket, Printer};
+use jsgen_printer::{Bracket, CommentsBefore, Printer};
 use jsgen_questions::{is_alone, needs_brackets};
 use jsgen_spelled::{print_identifier_name, print_spread_element};
 use jsgen_syntax::{JsStr, Precedence, Span};
 use jsgen_tree::{
-    ArrayExpression, ArrayExpressionElement, ExpressionNode, NodeType, ObjectExpression,
+    ArrayExpression, ArrayExpressionElement, ExpressionNode, GetSpan, NodeType, ObjectExpression,
     ObjectProperty, ObjectPropertyKind, PropertyKey,
 };
 
@@ -85,8 +85,7 @@ pub fn print_object_expression<N: PrintNode>(
     ensures { Lays p.old p.new (spell (object_expression_row N.plain node.now) place) }
 {
     let _ = place;
-    let wrap = p.bars_brace();
-    p.print_opening_if(wrap);
+    let wrap = p.begin_object(node.span.start);
     print_properties(node.span, &node.properties, p);
     p.print_closing_if(wrap);
 }
@@ -98,25 +97,24 @@ fn print_properties<N: PrintNode>(
     p: &mut Printer<'_>,
 )
     ensures { Lays p.old p.new (mark span ⊕ brackets Brace (object_inside (trees (map (in_object_property_kind N.plain) properties.now))
-        (spell_elements (are_more 1 (trees (map (in_object_property_kind N.plain) properties.now))) (trees (map (in_object_property_kind N.plain) properties.now)) (in_brackets Comma)
+        (spell_properties (are_more 1 (trees (map (in_object_property_kind N.plain) properties.now))) (trees (map (in_object_property_kind N.plain) properties.now)) (in_brackets Comma)
         ⊕ comma_if (ends_in_hole (trees (map (in_object_property_kind N.plain) properties.now)))) ⊕ end_mark span)) }
 {
     print_object::<_, Properties>(span, properties, p, Place::in_brackets(Precedence::Comma));
 }
 
-/// The properties of an object, of which none is left out.
+/// The properties of an object.
 struct Properties;
 
-impl<N: PrintNode> PrintElement<ObjectPropertyKind<N>> for Properties {
-    ghost plain = { λ m. Some (in_object_property_kind N.plain m) };
+impl<N: PrintNode> PrintProperty<ObjectPropertyKind<N>> for Properties {
+    ghost plain = { in_object_property_kind N.plain };
 
-    fn is_left_out(element: &ObjectPropertyKind<N>) -> bool {
-        let _ = element;
-        false
+    fn span(property: &ObjectPropertyKind<N>) -> Span {
+        property.span()
     }
 
-    fn print_element(element: &ObjectPropertyKind<N>, p: &mut Printer<'_>, place: Place) {
-        match element {
+    fn print_property(property: &ObjectPropertyKind<N>, p: &mut Printer<'_>, place: Place) {
+        match property {
             ObjectPropertyKind::ObjectProperty(node) => print_object_property(node, p, place),
             ObjectPropertyKind::SpreadElement(node) => print_spread_element::<_, Inside>(
                 node, p, place,
@@ -159,9 +157,12 @@ fn print_method_property<N: PrintNode>(node: &ObjectProperty<N>, p: &mut Printer
 // A property with a value: the value alone, or behind its key.
 fn print_valued_property<N: PrintNode>(node: &ObjectProperty<N>, p: &mut Printer<'_>)
     ensures { Lays p.old p.new (before_value node.now.shorthand (written_name_in (in_property_key N.plain node.now.key)) (looked_up_in (without_parentheses (in_expression N.plain node.now.value))) (key_of node.now.computed (in_property_key N.plain node.now.key))
-        ⊕ spell (in_expression N.plain node.now.value) (in_brackets Comma)) }
+        ⊕ (before_expression before_it (in_expression N.plain node.now.value) ⊕ spell (in_expression N.plain node.now.value) (in_brackets Comma))) }
 {
     print_before_value(node, p);
+    node.value
+        .get()
+        .print_comments_before(CommentsBefore::All, p);
     node.value
         .get()
         .print(p, Place::in_brackets(Precedence::Comma));

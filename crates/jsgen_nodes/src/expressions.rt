@@ -14,13 +14,13 @@ use crate::quotes::{is_mark, plain_quotes};
 use jsgen_classes::print_private_field_expression;
 use jsgen_inside::Nested;
 use jsgen_lists::{
-    PrintMember, print_arguments, print_bracket_link, print_linked, print_named_member,
+    PrintArgument, print_arguments, print_bracket_link, print_linked, print_named_member,
 };
 use jsgen_place::Place;
-use jsgen_printer::{Bracket, Printer};
+use jsgen_printer::{Bracket, CommentsBefore, Printer};
 use jsgen_questions::{left_level, right_level, takes_no_dot, unmixed};
 use jsgen_spelled::print_spread_element;
-use jsgen_syntax::{GetPrecedence, Precedence};
+use jsgen_syntax::{GetPrecedence, Precedence, Span};
 use jsgen_tree::{
     Argument, BigIntLiteral, BinaryExpression, BooleanLiteral, CallExpression, ChainElement,
     ChainExpression, ComputedMemberExpression, LogicalExpression, NumericLiteral, NumericValue,
@@ -135,6 +135,7 @@ pub fn print_logical_expression<N: PrintNode>(
     p.print_soft_space();
     let right = node.right.get();
     let behind = unmixed(node.operator, right.operand(), node.operator.precedence());
+    right.print_comments_before(CommentsBefore::ForTools, p);
     right.print(p, within.child(behind));
     p.print_closing_if(wrap);
 }
@@ -180,9 +181,10 @@ pub fn print_call_expression<N: PrintNode>(
     ensures { Lays p.old p.new (spell (call_expression_row N.plain node.now) place) }
 {
     let wrap = place.wraps_call();
-    p.print_opening_if(wrap);
+    let lifted = place.wraps(Precedence::Postfix);
+    let wraps = p.begin_call(wrap, lifted, node.pure, node.span, node.span.start);
     print_from_callee(node, p, place.within(wrap));
-    p.print_closing_if(wrap);
+    p.print_closing_if(wraps);
 }
 
 /// What is called and what it is given, within the parentheses.
@@ -229,10 +231,17 @@ fn print_chain_element<N: PrintNode>(node: &ChainElement<N>, p: &mut Printer<'_>
 /// What a call or a constructor is given.
 pub struct Arguments;
 
-impl<N: PrintNode> PrintMember<Argument<N>> for Arguments {
+impl<N: PrintNode> PrintArgument<Argument<N>> for Arguments {
     ghost plain = { in_argument N.plain };
 
-    fn print_member(argument: &Argument<N>, p: &mut Printer<'_>, place: Place) {
+    fn span(argument: &Argument<N>) -> Span {
+        match argument {
+            Argument::SpreadElement(node) => node.span,
+            Argument::Expression(expression) => expression.get().span(),
+        }
+    }
+
+    fn print_argument(argument: &Argument<N>, p: &mut Printer<'_>, place: Place) {
         match argument {
             Argument::SpreadElement(node) => print_spread_element::<_, Inside>(node, p, place),
             Argument::Expression(expression) => expression.get().print(p, place),

@@ -5,7 +5,7 @@ ghost use Rattle.jsgen_tree.specs.Tree.{type_of, trees};
 ghost use Rattle.jsgen_tree.specs.Rows.{formal_parameters_row, formal_parameter_row, formal_parameter_rest_row, arrow_function_expression_row, in_arrow_function_body, function_row, function_body_row, binding_identifier_row, directive_row, in_statement};
 ghost use Rattle.jsgen_place.specs.Place.{child, within};
 ghost use Rattle.jsgen_model.specs.Punctuator.{Round, Brace, star};
-ghost use Rattle.jsgen_model.specs.Items.{marked_word, punctuator, brackets, soft_space, hard_space, parentheses_unless_minified, ◌⊕◌, a_declaration, mark, end_mark, empty_body, drop_semicolon, held, orphans};
+ghost use Rattle.jsgen_model.specs.Items.{marked_word, punctuator, brackets, soft_space, hard_space, parentheses_unless_minified, ◌⊕◌, a_declaration, comments, all_of_them, annotation_line, mark, end_mark, empty_body, drop_semicolon, held, orphans};
 ghost use Rattle.jsgen_model.specs.Spell.{spell, items_if, key_word, function_words, method_words, is_name_alone, parameter_items, body_begins, spell_method, spell_directives, spell_body, filled_braces};
 ghost use Rattle.jsgen_printer.specs.Steps.{Lays};
 ghost use Rattle.jsgen_questions.specs.Names.{is_name_parameter};
@@ -76,6 +76,7 @@ pub fn print_arrow_function_expression<N: PrintNode>(
 )
     ensures { Lays p.old p.new (spell (arrow_function_expression_row N.plain node.now) place) }
 {
+    p.print_annotation_if(node.pure, node.span.start);
     let wrap = place.wraps_arrow(node.pife);
     p.print_opening_if(wrap);
     let within = place.within(wrap);
@@ -207,17 +208,28 @@ pub fn print_function<N: PrintNode>(node: &Function<N>, p: &mut Printer<'_>, pla
 {
     match node.kind {
         FunctionKind::Declaration => {
-            p.print_comments_if(place.in_list, node.span.start);
+            print_before_declaration_if(place.in_list, node.pure, node.span.start, p);
             p.print_indentation_if(place.in_list);
             print_from_word(node, p, place);
             p.print_soft_line_if(place.in_list);
         }
         FunctionKind::Expression => {
+            p.print_annotation_if(node.pure, node.span.start);
             let wrap = is_in_parentheses(node.pife, p);
             p.print_opening_if(wrap);
             print_from_word(node, p, place);
             p.print_closing_if(wrap);
         }
+    }
+}
+
+// Where the test holds, the comments before a declaration, and its annotation.
+fn print_before_declaration_if(test: bool, pure: bool, start: u32, p: &mut Printer<'_>)
+    ensures { Lays p.old p.new (items_if test (comments all_of_them start ⊕ annotation_line true pure start)) }
+{
+    if test {
+        p.print_comments(start);
+        p.print_annotation_line_if(true, pure, start);
     }
 }
 

@@ -8,7 +8,7 @@ use crate::statements::Statements;
 use jsgen_inside::{Nested, PrintInClass, PrintInside};
 use jsgen_lists::{print_block_braces, print_value};
 use jsgen_place::Place;
-use jsgen_printer::Printer;
+use jsgen_printer::{CommentsBefore, Printer};
 use jsgen_syntax::Span;
 use jsgen_tree::{ExpressionNode, Function, NodeType, PropertyKey, StatementNode};
 
@@ -28,6 +28,14 @@ impl<N: PrintNode> PrintInside<N> for Inside {
 
     fn print(node: &N, p: &mut Printer<'_>, place: Place) {
         node.print(p, place);
+    }
+
+    fn print_comments_before(node: &N, which: CommentsBefore, p: &mut Printer<'_>) {
+        node.print_comments_before(which, p);
+    }
+
+    fn is_pure_declaration(node: &N) -> bool {
+        node.is_pure_declaration()
     }
 }
 

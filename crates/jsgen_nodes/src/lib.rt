@@ -5,6 +5,7 @@ pub mod assignments;
 pub mod choices;
 pub mod classes;
 pub mod collections;
+mod commented;
 pub mod expressions;
 pub mod functions;
 mod inside;
@@ -25,15 +26,17 @@ ghost use Rattle.jsgen_tree.specs.Tree.{Tree, type_of, span_of};
 ghost use Rattle.jsgen_tree.specs.Inside.{without_parentheses, ends_open, looked_up_in, named_by, bound_in, bound_by, written_name_in, is_negative};
 ghost use Rattle.jsgen_tree.specs.Plain.{node_plain};
 ghost use Rattle.jsgen_model.specs.Quotes.{is_member_of, is_named, is_key_of_exports};
-ghost use Rattle.jsgen_model.specs.Spell.{spell, method_words, spell_method, string_in, string_statement, span_inside, target_named, is_declared};
+ghost use Rattle.jsgen_model.specs.Spell.{spell, method_words, spell_method, string_in, string_statement, span_inside, target_named, is_declared, before_expression, is_pure_declaration};
+ghost use Rattle.jsgen_printer.specs.Printer.{manner_of};
 ghost use Rattle.jsgen_printer.specs.Steps.{Lays};
 ghost use Rattle.jsgen_questions.specs.Names.{is_binding_name};
 ghost use Rattle.jsgen_questions.specs.Operands.{operand_of};
 
+use commented::print_comments_before;
 use functions::{print_behind_name, print_method_words};
 pub use inside::{InClass, Inside};
 use jsgen_place::Place;
-use jsgen_printer::Printer;
+use jsgen_printer::{CommentsBefore, Printer};
 use jsgen_questions::{
     Operand, bare_looked_up, ends_open, inside_span, is_binding_name, is_member, is_named,
     operand_of, string, string_statement,
@@ -43,7 +46,7 @@ use jsgen_tree::{
     BindingIdentifier, Declaration, Expression, GetSpan, IdentifierReference, Node, NodeType,
     Statement,
 };
-use modules::{is_declared_class, is_declared_function};
+use modules::{is_declared_class, is_declared_function, is_pure_function};
 use quotes::{is_key_of_exports, member_is_key_of_exports};
 use sets::{
     print_assignment_target, print_binding_pattern, print_class_element, print_declaration,
@@ -66,6 +69,14 @@ pub trait PrintNode {
 
     fn print(&self, p: &mut Printer<'_>, place: Place)
         ensures { Lays p.old p.new (spell (plain self.now) place) };
+
+    /// The comments before an expression.
+    fn print_comments_before(&self, which: CommentsBefore, p: &mut Printer<'_>)
+        ensures { Lays p.old p.new (before_expression (manner_of which) (plain self.now)) };
+
+    /// Whether it is a function that is declared, and has no side effects.
+    fn is_pure_declaration(&self) -> bool
+        ensures { result ≡ is_pure_declaration (plain self.now) };
 
     /// What stands before the key of a method, by its function. Nothing is printed of what is no function.
     fn print_method_words(&self, p: &mut Printer<'_>)
@@ -158,6 +169,19 @@ impl PrintNode for Node {
             Node::Declaration(node) => print_declaration(node, p, place),
             Node::BindingPattern(node) => print_binding_pattern(node, p, place),
             Node::ClassElement(node) => print_class_element(node, p, place),
+        }
+    }
+
+    fn print_comments_before(&self, which: CommentsBefore, p: &mut Printer<'_>) {
+        if p.keeps_comments() {
+            print_comments_before(self, which, p);
+        }
+    }
+
+    fn is_pure_declaration(&self) -> bool {
+        match self.as_function() {
+            Some(function) => is_pure_function(function),
+            None => false,
         }
     }
 

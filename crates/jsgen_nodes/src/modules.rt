@@ -1,17 +1,17 @@
 // Default exports (ECMA-262, 16.2.3), in which functions and classes stand.
-ghost use Rattle.std.specs.Prelude.{◌≡◌};
+ghost use Rattle.std.specs.Prelude.{◌≡◌, ◌&&◌};
 ghost use Rattle.jsgen_syntax.specs.declared.precedence.Precedence.TheVariants.{Comma};
 ghost use Rattle.jsgen_tree.specs.Rows.{export_default_declaration_row, in_export_default_declaration_kind, function_row, class_row};
 ghost use Rattle.jsgen_place.specs.Place.{within_statement, in_brackets};
 ghost use Rattle.jsgen_model.specs.Items.{◌⊕◌, soft_line, statement_end, default_export_begins};
-ghost use Rattle.jsgen_model.specs.Spell.{spell, default_items, is_declared, is_declared_function, is_declared_class};
+ghost use Rattle.jsgen_model.specs.Spell.{spell, default_items, is_declared, is_declared_function, is_declared_class, is_pure_declaration};
 ghost use Rattle.jsgen_printer.specs.Steps.{Lays};
 
 use crate::PrintNode;
 use crate::functions::print_function;
 use crate::inside::Inside;
 use jsgen_classes::print_class;
-use jsgen_modules::begin_module_word;
+use jsgen_modules::begin_export;
 use jsgen_place::Place;
 use jsgen_printer::Printer;
 use jsgen_syntax::Precedence;
@@ -28,11 +28,29 @@ pub fn print_export_default_declaration<N: PrintNode>(
     ensures { Lays p.old p.new (spell (export_default_declaration_row N.plain node.now) place) }
 {
     let _ = place;
-    begin_module_word(node.span, "export", p);
+    begin_export(is_pure_declaration(&node.declaration), node.span, p);
     p.print_hard_space();
     p.print_word("default");
     p.print_soft_space();
     print_export_default_declaration_kind(&node.declaration, p);
+}
+
+/// Whether a function is declared, and has no side effects.
+pub fn is_pure_function<N>(node: &Function<N>) -> bool
+    ensures { result ≡ (is_declared_function node.now.kind && node.now.pure) }
+{
+    is_declared_function(node.kind) && node.pure
+}
+
+// Whether what is exported is a function that is declared, and has no side effects.
+fn is_pure_declaration<N: PrintNode>(node: &ExportDefaultDeclarationKind<N>) -> bool
+    ensures { result ≡ is_pure_declaration (in_export_default_declaration_kind N.plain node.now) }
+{
+    match node {
+        ExportDefaultDeclarationKind::Function(node) => is_pure_function(node),
+        ExportDefaultDeclarationKind::Class(_) => false,
+        ExportDefaultDeclarationKind::Expression(node) => node.get().is_pure_declaration(),
+    }
 }
 
 /// Whether a function of this kind is declared.

@@ -1,22 +1,24 @@
 // Operations of one operand that change it, and `new` (ECMA-262, 13.3.5 and 13.4), one function for each row.
-ghost use Rattle.std.specs.Prelude.{◌≡◌, ◌||◌, map};
+ghost use Rattle.std.specs.Prelude.{◌≡◌, ◌||◌, false, map};
 ghost use Rattle.jsgen_syntax.specs.declared.precedence.Precedence.TheVariants.{Comma, Postfix};
 ghost use Rattle.jsgen_tree.specs.Tree.{trees};
 ghost use Rattle.jsgen_tree.specs.Rows.{update_expression_row, in_simple_assignment_target, new_expression_row, in_argument};
 ghost use Rattle.jsgen_place.specs.Place.{in_brackets, wraps};
-ghost use Rattle.jsgen_model.specs.Items.{◌⊕◌, brackets, end_mark, parentheses_unless_minified, unless_minified};
-ghost use Rattle.jsgen_model.specs.Punctuator.{Round};
-ghost use Rattle.jsgen_model.specs.Spell.{spell, spell_list, any_given, new_arguments};
+ghost use Rattle.jsgen_model.specs.Items.{parentheses_unless_minified, unless_minified};
+ghost use Rattle.jsgen_model.specs.Spell.{spell, spell_arguments, argument_items, any_given, new_arguments};
 ghost use Rattle.jsgen_printer.specs.Steps.{Lays};
 
 use crate::PrintNode;
 use crate::expressions::Arguments;
 use crate::sets::print_simple_assignment_target;
-use jsgen_lists::{PrintObject, print_list, print_update};
+use jsgen_lists::{PlainQuotes, PrintObject, print_argument_lines, print_arguments, print_update};
 use jsgen_place::{Place, update_level};
-use jsgen_printer::{Bracket, Printer};
+use jsgen_printer::Printer;
 use jsgen_syntax::{Precedence, Span};
 use jsgen_tree::{Argument, GetSpan, NewExpression, SimpleAssignmentTarget, UpdateExpression};
+
+/// The empty span, which has no mark.
+const UNMARKED: Span = Span { start: 0, end: 0 };
 
 pub fn print_update_expression<N: PrintNode>(
     node: &UpdateExpression<N>,
@@ -62,13 +64,14 @@ pub fn print_new_expression<N: PrintNode>(
     ensures { Lays p.old p.new (spell (new_expression_row N.plain node.now) place) }
 {
     let wrap = place.wraps(Precedence::New);
-    p.print_opening_if(wrap);
+    let lifted = place.wraps(Precedence::Postfix);
+    let wraps = p.begin_call(wrap, lifted, node.pure, UNMARKED, node.span.start);
     let within = place.within(wrap);
     p.print_marked_word(node.span, "new");
     p.print_soft_space();
     node.callee.get().print(p, within.constructed());
     print_new_arguments(node.span, &node.arguments, p, place);
-    p.print_closing_if(wrap);
+    p.print_closing_if(wraps);
 }
 
 // What a constructor is given: in minified text nothing may stand for nothing.
@@ -78,12 +81,12 @@ fn print_new_arguments<N: PrintNode>(
     p: &mut Printer<'_>,
     place: Place,
 )
-    ensures { Lays p.old p.new (new_arguments (any_given (trees (map (in_argument N.plain) arguments.now)) || wraps Postfix place) span
-        (spell_list (trees (map (in_argument N.plain) arguments.now)) (in_brackets Comma))) }
+    ensures { Lays p.old p.new (new_arguments (any_given (trees (map (in_argument N.plain) arguments.now)) || wraps Postfix place)
+        (argument_items false (trees (map (in_argument N.plain) arguments.now)) span (spell_arguments false false (trees (map (in_argument N.plain) arguments.now)) (in_brackets Comma)))) }
 {
     let within = Place::in_brackets(Precedence::Comma);
     if needs_arguments(arguments, place) {
-        print_in_parentheses(span, arguments, p, within);
+        print_arguments::<_, Arguments>(span, PlainQuotes::NONE, arguments, p, within);
     } else {
         print_unless_minified(span, arguments, p, within);
     }
@@ -101,39 +104,29 @@ fn is_given<N: PrintNode>(arguments: &[Argument<N>]) -> bool
     !arguments.is_empty()
 }
 
-fn print_in_parentheses<N: PrintNode>(
-    span: Span,
-    arguments: &[Argument<N>],
-    p: &mut Printer<'_>,
-    place: Place,
-)
-    ensures { Lays p.old p.new (brackets Round (spell_list (trees (map (in_argument N.plain) arguments.now)) place ⊕ end_mark span)) }
-{
-    p.print_opening(Bracket::Round);
-    print_list::<_, Arguments>(arguments, p, place);
-    p.print_end_mark(span);
-    p.print_closing(Bracket::Round);
-}
-
 fn print_unless_minified<N: PrintNode>(
     span: Span,
     arguments: &[Argument<N>],
     p: &mut Printer<'_>,
     place: Place,
 )
-    ensures { Lays p.old p.new (parentheses_unless_minified (spell_list (trees (map (in_argument N.plain) arguments.now)) place ⊕ unless_minified (end_mark span))) }
+    ensures { Lays p.old p.new (parentheses_unless_minified (unless_minified (argument_items false (trees (map (in_argument N.plain) arguments.now)) span (spell_arguments false false (trees (map (in_argument N.plain) arguments.now)) place)))) }
 {
     let wrap = !p.is_minified();
     p.print_opening_if(wrap);
-    print_list::<_, Arguments>(arguments, p, place);
-    print_end_mark_unless_minified(span, p);
+    print_lines_unless_minified(span, arguments, p, place);
     p.print_closing_if(wrap);
 }
 
-fn print_end_mark_unless_minified(span: Span, p: &mut Printer<'_>)
-    ensures { Lays p.old p.new (unless_minified (end_mark span)) }
+fn print_lines_unless_minified<N: PrintNode>(
+    span: Span,
+    arguments: &[Argument<N>],
+    p: &mut Printer<'_>,
+    place: Place,
+)
+    ensures { Lays p.old p.new (unless_minified (argument_items false (trees (map (in_argument N.plain) arguments.now)) span (spell_arguments false false (trees (map (in_argument N.plain) arguments.now)) place))) }
 {
     if !p.is_minified() {
-        p.print_end_mark(span);
+        print_argument_lines::<_, Arguments>(span, PlainQuotes::NONE, arguments, p, place);
     }
 }

@@ -1,12 +1,13 @@
 // Templates and import calls (ECMA-262, 13.2.8, 13.3.10 and 13.3.11), one function for each row.
-ghost use Rattle.std.specs.Prelude.{◌≡◌, map, option_map};
-ghost use Rattle.jsgen_tree.specs.Tree.{trees, optional};
+ghost use Rattle.std.specs.Prelude.{◌≡◌, ◌∷◌, map, option_map};
+ghost use Rattle.jsgen_tree.specs.Tree.{trees, optional, span_of};
 ghost use Rattle.jsgen_tree.specs.Rows.{template_element_row, template_literal_row, tagged_template_expression_row, import_expression_row, in_expression};
-ghost use Rattle.jsgen_syntax.specs.declared.precedence.Precedence.TheVariants.{Comma};
-ghost use Rattle.jsgen_place.specs.Place.{in_brackets};
 ghost use Rattle.jsgen_model.specs.Punctuator.{Round};
-ghost use Rattle.jsgen_model.specs.Items.{◌⊕◌, brackets, comments, with_key_annotation};
-ghost use Rattle.jsgen_model.specs.Spell.{spell, spell_behind_comma, items_if, is_one};
+ghost use Rattle.jsgen_model.specs.Items.{brackets, comments, in_lines, of_import, with_key_annotation};
+ghost use Rattle.jsgen_model.specs.Spell.{spell, items_if, is_one, starts_if};
+ghost use Rattle.jsgen_model.specs.Groups.{any_group, are_lined};
+ghost use Rattle.jsgen_printer.specs.Printer.{pen_of};
+ghost use Rattle.jsgen_nodes.specs.Calls.{imported_items};
 ghost use Rattle.jsgen_printer.specs.Steps.{Lays};
 
 use crate::PrintNode;
@@ -14,9 +15,11 @@ use crate::inside::Inside;
 use jsgen_inside::Nested;
 use jsgen_lists::{print_behind_comma, print_linked, print_template};
 use jsgen_place::Place;
-use jsgen_printer::{Bracket, Printer};
+use jsgen_printer::{ArgumentLines, Bracket, Printer};
 use jsgen_syntax::{Precedence, Span};
-use jsgen_tree::{ImportExpression, TaggedTemplateExpression, TemplateElement, TemplateLiteral};
+use jsgen_tree::{
+    ExpressionNode, ImportExpression, TaggedTemplateExpression, TemplateElement, TemplateLiteral,
+};
 
 pub fn print_template_literal<N: PrintNode>(
     node: &TemplateLiteral<N>,
@@ -78,12 +81,43 @@ pub fn print_import_expression<N: PrintNode>(
 
 // What is imported, and how.
 fn print_imported<N: PrintNode>(node: &ImportExpression<N>, p: &mut Printer<'_>)
-    ensures { Lays p.old p.new (brackets Round (spell (in_expression N.plain node.now.source) (in_brackets Comma)
-        ⊕ spell_behind_comma (optional (option_map (in_expression N.plain) node.now.options)) (in_brackets Comma))) }
+    ensures { Lays p.old p.new (brackets Round (in_lines of_import ((span_of (in_expression N.plain node.now.source)).start ∷ starts_if (optional (option_map (in_expression N.plain) node.now.options))) node.now.span.end
+        (imported_items (in_expression N.plain node.now.source) (optional (option_map (in_expression N.plain) node.now.options))))) }
+{
+    p.print_opening(Bracket::Round);
+    let lined = is_lined(node, p);
+    let around = p.open_arguments(lined);
+    print_source_and_options(node, p);
+    p.close_arguments(around, ArgumentLines::Import, node.span.end);
+    p.print_closing(Bracket::Round);
+}
+
+// The source, and behind a comma the options.
+fn print_source_and_options<N: PrintNode>(node: &ImportExpression<N>, p: &mut Printer<'_>)
+    ensures { Lays p.old p.new (imported_items (in_expression N.plain node.now.source) (optional (option_map (in_expression N.plain) node.now.options))) }
 {
     let within = Place::in_brackets(Precedence::Comma);
-    p.print_opening(Bracket::Round);
+    p.print_source_break(node.source.get().span().start);
     node.source.get().print(p, within);
     print_behind_comma::<_, Nested<Inside>>(&node.options, p, within);
-    p.print_closing(Bracket::Round);
+}
+
+// Whether they stand on lines of their own.
+fn is_lined<N: PrintNode>(node: &ImportExpression<N>, p: &Printer<'_>) -> bool
+    ensures { result ≡ are_lined of_import ((span_of (in_expression N.plain node.now.source)).start ∷ starts_if (optional (option_map (in_expression N.plain) node.now.options))) node.now.span.end (pen_of p.now) }
+{
+    p.may_be_lined(ArgumentLines::Import)
+        && (p.has_comments_at_end(node.span.end)
+            || (p.has_comments(node.source.get().span().start)
+                || has_comments_before(&node.options, p)))
+}
+
+// Whether comments stand before the options.
+fn has_comments_before<N: PrintNode>(options: &Option<ExpressionNode<N>>, p: &Printer<'_>) -> bool
+    ensures { result ≡ any_group (starts_if (optional (option_map (in_expression N.plain) options.now))) (pen_of p.now) }
+{
+    match options {
+        Some(options) => p.has_comments(options.get().span().start),
+        None => false,
+    }
 }

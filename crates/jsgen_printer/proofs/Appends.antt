@@ -1,13 +1,13 @@
 -- What a step adds stands behind the code before.
-use Rattle.std.proofs.Common.{ℕ, Bool, true, false, ◌||◌, List, if◌then◌else◌}
+use Rattle.std.proofs.Common.{ℕ, Bool, true, false, ◌&&◌, ◌||◌, List, if◌then◌else◌}
 use Rattle.jsgen_model.specs.Punctuator.{Round, opening, closing, punctuator_text}
-use Rattle.jsgen_model.specs.Items.{Items, ◌⊕◌, name, marked_word, marked_operator, marked_number, marked_indentation, template_part, indentation, deeper, brackets, wrapped, wrapped_at_start, parentheses_unless_minified, where_same, statement_end, in_class, unless_minified, comments, orphans, orphan_lines, empty_body, held, lined_case, caught, all_of_them}
+use Rattle.jsgen_model.specs.Items.{Items, ◌⊕◌, name, marked_word, marked_operator, marked_number, marked_indentation, template_part, indentation, deeper, brackets, wrapped, wrapped_at_start, parentheses_unless_minified, where_same, statement_end, in_class, unless_minified, comments, orphans, orphan_lines, empty_body, held, lined_case, caught, all_of_them, annotation, annotation_line, annotated, commented, member_line, member_space, in_lines, line_break}
 use Rattle.jsgen_model.specs.Comments.{are_any}
-use Rattle.jsgen_model.specs.Groups.{last_byte, ending_at, without_ending, has_orphans, case_begun, comments_at, group_at}
-use Rattle.jsgen_model.specs.Lay.{lay, part_opening, case_mark}
+use Rattle.jsgen_model.specs.Groups.{last_byte, ending_at, without_ending, has_orphans, case_begun, comments_at, group_at, are_lined, lines_opened}
+use Rattle.jsgen_model.specs.Lay.{lay, part_opening, case_mark, annotated_from, commented_from}
 use Rattle.jsgen_model.specs.Layout.{Pen, written, written_if, text_if, other_end, end_statement, deeper_level, entered, are_same, is_barred, not}
 use Rattle.jsgen_model.specs.Printing.{IsPrefix}
-use Rattle.jsgen_printer.proofs.Comments.{indentation_adds, comments_add, orphans_add, orphan_lines_add, empty_body_adds, ending_adds, closing_adds, case_adds, case_end_adds, block_adds}
+use Rattle.jsgen_printer.proofs.Comments.{indentation_adds, comments_add, orphans_add, orphan_lines_add, empty_body_adds, ending_adds, closing_adds, case_adds, case_end_adds, block_adds, annotation_adds, annotation_line_adds, annotated_adds, commented_adds, member_line_adds, member_space_adds, opened_adds, closed_adds, break_adds}
 use Rattle.jsgen_printer.proofs.Prefixes.{whole_prefix, prefix_append, more_prefix, prefix_of_prefix}
 
 end_appends : (minified : Bool) (pen : Pen) → IsPrefix pen.code (end_statement minified pen).code
@@ -51,6 +51,17 @@ layout_appends (lined_case start end lead a) pen =
 layout_appends (caught start body a) pen =
     let begun : Pen = comments_at all_of_them start pen in
     prefix_of_prefix (prefix_of_prefix (comments_add all_of_them start pen).text (layout_appends a begun)) (block_adds (are_any (group_at start pen)) body (lay a begun)).text
+layout_appends (annotation test kind o) pen = either_appends (test && pen.style.annotated) pen.code _ pen (annotation_adds pen.start kind o pen).text (whole_prefix pen.code)
+layout_appends (annotation_line indented test o) pen = either_appends (test && pen.style.annotated) pen.code _ pen (annotation_line_adds indented o pen).text (whole_prefix pen.code)
+layout_appends (annotated test lifted pure s o a) pen = more_prefix _ (prefix_of_prefix (annotated_adds test lifted pure s o pen).text (layout_appends a (annotated_from test lifted pure s o pen)))
+layout_appends (commented o a) pen = more_prefix _ (prefix_of_prefix (commented_adds o pen).text (layout_appends a (commented_from o pen)))
+layout_appends (member_line o) pen = (member_line_adds o pen).text
+layout_appends (member_space o) pen = (member_space_adds o pen).text
+layout_appends (in_lines lines starts end a) pen =
+    let lined = are_lined lines starts end pen in
+    let begun : Pen = lines_opened lined pen in
+    prefix_of_prefix (prefix_of_prefix (opened_adds lined pen).text (layout_appends a begun)) (closed_adds lined lines end pen.depth pen.lines (lay a begun)).text
+layout_appends (line_break at) pen = (break_adds at pen).text
 layout_appends item pen = search (whole_prefix, prefix_append)
 
 -- what leads to the pen before leads to the pen behind the items

@@ -1,5 +1,5 @@
 -- Classes by their numbers, and private names by their tables.
-use Rattle.std.proofs.Common.{◌≡◌, ℕ, Bool, true, false, ◌||◌, List, [], ◌∷◌, ◌++◌, length, map, take, reverse, Some, option_map, cond, if◌then◌else◌, String, string_bytes, bytes_eq, codes, refl, sym, ap, ◌∙◌, append_assoc}
+use Rattle.std.proofs.Common.{◌≡◌, ℕ, Bool, true, false, ◌&&◌, ◌||◌, List, [], ◌∷◌, ◌++◌, length, map, take, reverse, Some, option_map, cond, if◌then◌else◌, String, string_bytes, bytes_eq, codes, refl, sym, ap, ◌∙◌, append_assoc}
 use Rattle.std.specs.declared.alloc.Global.{Global}
 use Rattle.std.specs.BTreeMap.{is_at}
 use Rattle.std.specs.Cmp.Lexicographic.{slice_cmp}
@@ -13,18 +13,18 @@ use Rattle.std.proofs.lemmas.Str.{IsUtf8-string_bytes}
 use Rattle.jsgen_syntax.specs.Escapes.{name_text, has_escapes}
 use Rattle.jsgen_tree.specs.Characters.{characters}
 use Rattle.jsgen_tree.proofs.Texts.{same_characters}
-use Rattle.jsgen_model.specs.Items.{Items, ◌⊕◌, indentation, marked_indentation, deeper, in_class, brackets, wrapped, wrapped_at_start, parentheses_unless_minified, unless_minified, where_same, statement_end, comments, orphans, orphan_lines, empty_body, held, lined_case, caught, all_of_them}
+use Rattle.jsgen_model.specs.Items.{Items, ◌⊕◌, indentation, marked_indentation, deeper, in_class, brackets, wrapped, wrapped_at_start, parentheses_unless_minified, unless_minified, where_same, statement_end, comments, orphans, orphan_lines, empty_body, held, lined_case, caught, all_of_them, annotation, annotation_line, annotated, commented, member_line, member_space, in_lines, line_break}
 use Rattle.jsgen_model.specs.Punctuator.{Round, opening}
 use Rattle.jsgen_model.specs.Comments.{are_any}
-use Rattle.jsgen_model.specs.Groups.{last_byte, ending_at, without_ending, has_orphans, case_begun, comments_at, group_at}
-use Rattle.jsgen_model.specs.Lay.{lay, case_mark}
+use Rattle.jsgen_model.specs.Groups.{last_byte, ending_at, without_ending, has_orphans, case_begun, comments_at, group_at, are_lined, lines_opened}
+use Rattle.jsgen_model.specs.Lay.{lay, case_mark, annotated_from, commented_from}
 use Rattle.jsgen_model.specs.Layout.{Pen, nowhere, written, written_if, other_end, name_ending, with_private_name, entered, end_statement, deeper_level, are_same, is_barred, not}
 use Rattle.jsgen_model.specs.Private.{name_in, has_table}
 use Rattle.jsgen_printer.specs.Printer.{pen_of, name_written, within_outer}
 use Rattle.jsgen_printer.specs.Steps.{Goes, Lays}
 use Rattle.jsgen_printer.specs.declared.printer.Printer.{Printer}
 use Rattle.jsgen_printer.proofs.Appends.{layout_appends}
-use Rattle.jsgen_printer.proofs.Comments.{indentation_adds, comments_add, orphans_add, orphan_lines_add, empty_body_adds, ending_adds, closing_adds, case_adds, case_end_adds, block_adds}
+use Rattle.jsgen_printer.proofs.Comments.{indentation_adds, comments_add, orphans_add, orphan_lines_add, empty_body_adds, ending_adds, closing_adds, case_adds, case_end_adds, block_adds, annotation_adds, annotation_line_adds, annotated_adds, commented_adds, member_line_adds, member_space_adds, opened_adds, closed_adds, break_adds}
 use Rattle.jsgen_printer.proofs.Prefixes.{whole_prefix}
 use Rattle.jsgen_printer.proofs.Sequence.{goes_then, goes_laid, items_go}
 use Rattle.jsgen_printer.proofs.Texts.{ascii_chars}
@@ -80,6 +80,17 @@ keeps_classes (lined_case start end lead a) pen =
 keeps_classes (caught start body a) pen =
     let begun : Pen = comments_at all_of_them start pen in
     (block_adds (are_any (group_at start pen)) body (lay a begun)).classes ∙ (keeps_classes a begun ∙ (comments_add all_of_them start pen).classes)
+keeps_classes (annotation test kind o) pen = either_keeps (test && pen.style.annotated) pen.classes _ pen (annotation_adds pen.start kind o pen).classes refl
+keeps_classes (annotation_line indented test o) pen = either_keeps (test && pen.style.annotated) pen.classes _ pen (annotation_line_adds indented o pen).classes refl
+keeps_classes (annotated test lifted pure s o a) pen = keeps_classes a (annotated_from test lifted pure s o pen) ∙ (annotated_adds test lifted pure s o pen).classes
+keeps_classes (commented o a) pen = keeps_classes a (commented_from o pen) ∙ (commented_adds o pen).classes
+keeps_classes (member_line o) pen = (member_line_adds o pen).classes
+keeps_classes (member_space o) pen = (member_space_adds o pen).classes
+keeps_classes (in_lines lines starts end a) pen =
+    let lined = are_lined lines starts end pen in
+    let begun : Pen = lines_opened lined pen in
+    (closed_adds lined lines end pen.depth pen.lines (lay a begun)).classes ∙ (keeps_classes a begun ∙ (opened_adds lined pen).classes)
+keeps_classes (line_break at) pen = (break_adds at pen).classes
 keeps_classes item pen = refl
 
 take_whole : (cs : List ℕ) → take (length cs) cs ≡ cs

@@ -1,17 +1,19 @@
 -- Steps round comments that have left the store, and steps that depend on what waits there.
-use Rattle.std.proofs.Common.{◌≡◌, ℕ, Bool, true, false, Option, Some, None, List, refl, ap, subst, ◌∙◌}
+use Rattle.std.proofs.Common.{◌≡◌, ℕ, Bool, true, false, ◌||◌, if◌then◌else◌, Option, Some, None, List, refl, ap, sym, subst, ◌∙◌}
 use Rattle.jsgen_model.specs.Comments.{Comment, are_any}
-use Rattle.jsgen_model.specs.Groups.{last_byte, ending_at, without_ending, closing_group, has_orphans, case_begun, case_ended, comments_at, group_at}
-use Rattle.jsgen_model.specs.Items.{Items, held, lined_case, caught, Lead, all_of_them}
-use Rattle.jsgen_model.specs.Lay.{lay, case_mark, before_block}
-use Rattle.jsgen_model.specs.Layout.{Pen}
+use Rattle.jsgen_model.specs.Groups.{last_byte, ending_at, without_ending, closing_group, has_orphans, case_begun, case_ended, comments_at, group_at, are_lined, lines_opened, lines_closed, broken_at, on_a_line, unless_on_line}
+use Rattle.jsgen_model.specs.Items.{Items, held, lined_case, caught, annotated, commented, in_lines, line_break, Lines, Break, Lead, all_of_them}
+use Rattle.jsgen_model.specs.Lay.{lay, case_mark, before_block, lifts, annotated_from, is_enclosed, commented_from}
+use Rattle.jsgen_model.specs.Layout.{Pen, written_if}
+use Rattle.jsgen_model.specs.Punctuator.{Round, closing}
+use Rattle.jsgen_syntax.specs.declared.span.Span.{Span}
 use Rattle.jsgen_printer.specs.Printer.{pen_of, level_if, case_behind}
 use Rattle.jsgen_printer.specs.Steps.{has_failed, Ends, Goes, Lays}
 use Rattle.jsgen_printer.specs.declared.printer.Printer.{Printer}
 use Rattle.jsgen_printer.proofs.Appends.{layout_appends}
-use Rattle.jsgen_printer.proofs.Comments.{ending_adds, closing_adds, case_adds, case_end_adds, comments_add, block_adds}
-use Rattle.jsgen_printer.proofs.Prefixes.{prefix_of_prefix}
-use Rattle.jsgen_printer.proofs.Sequence.{Appends, goes_laid, goes_then, items_go}
+use Rattle.jsgen_printer.proofs.Comments.{ending_adds, closing_adds, case_adds, case_end_adds, comments_add, block_adds, annotated_adds, commented_adds, opened_adds, closed_adds}
+use Rattle.jsgen_printer.proofs.Prefixes.{prefix_append, prefix_of_prefix}
+use Rattle.jsgen_printer.proofs.Sequence.{Appends, goes_laid, goes_then, items_go, laid_there}
 
 -- a step by another function, which comes to the same where nothing has failed
 pub goes_there : {a b : Printer} {f : Pen → Pen} (g : Pen → Pen) → (has_failed a ≡ false → f (pen_of a) ≡ g (pen_of a)) → Goes a b f → Goes a b g
@@ -52,3 +54,32 @@ caught_laid {a} {b} {c} {d} {i} start body stood e h inside k =
     goes_laid (caught start body i)
     (ap (λ t. before_block t body (lay i (comments_at all_of_them start (pen_of a)))) e)
     (goes_round i (λ pen. (comments_add all_of_them start pen).text) (λ pen. (block_adds stood body pen).text) h inside k)
+
+-- a call behind its annotation, in parentheses where it stands in some
+pub annotated_laid : {a b c d : Printer} {i : Items} (test lifted pure : Bool) (s : Span) (o : ℕ) (wraps : Bool) → wraps ≡ (lifts pure lifted (pen_of a) || test) → Goes a b (annotated_from test lifted pure s o) → Lays b c i → Goes c d (written_if wraps (closing Round)) → Lays a d (annotated test lifted pure s o i)
+annotated_laid {a} {b} {c} {d} {i} test lifted pure s o wraps e h inside k =
+    goes_laid (annotated test lifted pure s o i)
+    (ap (λ t. written_if t (closing Round) (lay i (annotated_from test lifted pure s o (pen_of a)))) e)
+    (goes_round i (λ pen. (annotated_adds test lifted pure s o pen).text) (λ pen. prefix_append pen.code _) h inside k)
+
+-- an object behind its comments
+pub commented_laid : {a b c d : Printer} {i : Items} (o : ℕ) (wraps : Bool) → wraps ≡ is_enclosed o (pen_of a) → Goes a b (commented_from o) → Lays b c i → Goes c d (written_if wraps (closing Round)) → Lays a d (commented o i)
+commented_laid {a} {b} {c} {d} {i} o wraps e h inside k =
+    goes_laid (commented o i)
+    (ap (λ t. written_if t (closing Round) (lay i (commented_from o (pen_of a)))) e)
+    (goes_round i (λ pen. (commented_adds o pen).text) (λ pen. prefix_append pen.code _) h inside k)
+
+-- arguments, on lines of their own or on one
+pub lined_laid : {a b c d : Printer} {i : Items} (lines : Lines) (starts : List ℕ) (end : ℕ) (lined : Bool) (depth : ℕ) (outer : Bool) → lined ≡ are_lined lines starts end (pen_of a) → depth ≡ (pen_of a).depth → outer ≡ (pen_of a).lines → Goes a b (lines_opened lined) → Lays b c i → Goes c d (lines_closed lined lines end depth outer) → Lays a d (in_lines lines starts end i)
+lined_laid {a} {b} {c} {d} {i} lines starts end lined depth outer e f g h inside k =
+    goes_laid (in_lines lines starts end i)
+    (λ j. lines_closed (e j) lines end (f j) (g j) (lay i (lines_opened (e j) (pen_of a))))
+    (goes_round i (λ pen. (opened_adds lined pen).text) (λ pen. (closed_adds lined lines end depth outer pen).text) h inside k)
+
+-- ---- what stands before an argument
+
+pub broken_laid : {a b : Printer} (at : Break) (o : ℕ) → (pen_of a).lines ≡ true → on_a_line at (pen_of a) ≡ broken_at o (pen_of a) → Goes a b (broken_at o) → Lays a b (line_break at)
+broken_laid {a} at o e f h = goes_laid (line_break at) (sym f ∙ ap (λ t. if t then on_a_line at (pen_of a) else unless_on_line at (pen_of a)) (sym e)) h
+
+pub unbroken_laid : {a b : Printer} {i : Items} (at : Break) → (pen_of a).lines ≡ false → unless_on_line at (pen_of a) ≡ lay i (pen_of a) → Lays a b i → Lays a b (line_break at)
+unbroken_laid {a} {b} {i} at e f h = laid_there (λ going. sym f ∙ ap (λ t. if t then on_a_line at (pen_of a) else unless_on_line at (pen_of a)) (sym e)) h

@@ -5,13 +5,15 @@ use Rattle.std.specs.Str.{skip_leading_whitespace}
 use Rattle.jsgen_syntax.specs.Raw.{tag_free}
 use Rattle.jsgen_tree.specs.declared.statements.CommentKind.{CommentKind}
 use Rattle.jsgen_tree.specs.declared.statements.CommentKind.TheVariants as kinds
-use Rattle.jsgen_model.specs.Comments.{Comment, orphans_below, left_below}
-use Rattle.jsgen_model.specs.Groups.{line_ended, indented_here, softly_spaced, used_up_if, indented_if, opens_block, block_line, block_lines, lines_of, is_mid_line, html_close, text_written, comment_written, last_of, on_new_line, at_line_start, before_first, before_later, is_legal, behind_last, is_line, ends_line, behind, group, with_store, group_at, without_group, ends_in, before_group, behind_group, printed_if, is_printed, comments_at, orphans_before, has_orphans, one_deeper, at_level, soft_line_ended, orphan_lines_at, last_byte, ending_at, without_ending, closing_group, has_no_newlines, body_lines, body_of, empty_body_at, led_on_line, case_begun, case_ended}
+use Rattle.jsgen_model.specs.Comments.{Comment, are_any, orphans_below, left_below}
+use Rattle.jsgen_model.specs.Groups.{line_ended, indented_here, softly_spaced, used_up_if, indented_if, opens_block, block_line, block_lines, lines_of, is_mid_line, html_close, text_written, comment_written, last_of, on_new_line, at_line_start, before_first, before_later, is_legal, behind_last, is_line, ends_line, behind, group, with_store, group_at, without_group, ends_in, before_group, behind_group, printed_if, is_printed, comments_at, orphans_before, has_orphans, one_deeper, at_level, soft_line_ended, orphan_lines_at, last_byte, ending_at, without_ending, closing_group, has_no_newlines, body_lines, body_of, empty_body_at, led_on_line, case_begun, case_ended, used_up, annotation_text, fitting_at, without_annotation, annotation_by, annotation_written, begun_at, annotation_at, annotation_line_at, commented_if, member_line_at, member_space_at, each_on_line, broken_by, broken_at, on_a_line, unless_on_line, break_at, with_lines, lines_opened, indents, lines_closed}
 use Rattle.jsgen_model.specs.Ends.{each_written}
-use Rattle.jsgen_model.specs.Items.{Manner, all_of_them, with_key_annotation, then_space, Lead, to_block, to_body, to_empty}
-use Rattle.jsgen_model.specs.Lay.{case_mark, stood, before_block}
-use Rattle.jsgen_model.specs.Layout.{Pen, Ending, other_end, written, written_if, text_if, not, indented, indent_or_space, at_indentation, led}
+use Rattle.jsgen_model.specs.Items.{Annotation, is_pure, no_side_effects, Lines, Break, first_argument, other_argument, import_source, import_options, Manner, all_of_them, then_space, with_due_space, before_it, annotation_before_it, with_key_annotation, Lead, to_block, to_body, to_empty}
+use Rattle.jsgen_model.specs.Lay.{case_mark, stood, before_block, span_mark, lifts, annotated_if, annotated_from, is_enclosed, commented_from}
+use Rattle.jsgen_model.specs.Layout.{Pen, Start, Ending, other_end, written, written_if, text_if, not, indented, indent_or_space, at_indentation, led}
 use Rattle.jsgen_model.specs.Printing.{IsPrefix}
+use Rattle.jsgen_model.specs.Punctuator.{Round, opening}
+use Rattle.jsgen_syntax.specs.declared.span.Span.{Span}
 use Rattle.jsgen_printer.proofs.Prefixes.{whole_prefix, prefix_append, prefix_of_prefix}
 
 -- a step that adds text, and enters or leaves no class
@@ -142,10 +144,20 @@ before_group_adds : (manner : Manner) (pen : Pen) → Adds pen (before_group man
 before_group_adds all_of_them pen = adds_nothing pen
 before_group_adds with_key_annotation pen = adds_text_if (ends_in 47 pen) (codes " ") pen
 before_group_adds then_space pen = adds_nothing pen
+before_group_adds with_due_space pen = adds_nothing pen
+before_group_adds before_it pen = adds_nothing pen
+before_group_adds annotation_before_it pen = adds_nothing pen
+
+-- what is due before an expression
+pub due_adds : (pen : Pen) → Adds pen (if ends_in 10 pen then indented_here pen else used_up pen)
+due_adds pen = adds_either (ends_in 10 pen) pen _ _ (here_adds pen) (used_up_adds pen.pending_space pen)
 
 pub behind_group_adds : (manner : Manner) (pen : Pen) → Adds pen (behind_group manner pen)
 behind_group_adds all_of_them pen = adds_nothing pen
-behind_group_adds with_key_annotation pen = adds_either (ends_in 10 pen) pen _ _ (here_adds pen) (used_up_adds pen.pending_space pen)
+behind_group_adds with_due_space pen = used_up_adds pen.pending_space pen
+behind_group_adds before_it pen = due_adds pen
+behind_group_adds annotation_before_it pen = due_adds pen
+behind_group_adds with_key_annotation pen = due_adds pen
 behind_group_adds then_space pen = record { text = prefix_append pen.code _; classes = refl }
 
 -- the group at an offset, which leaves the store
@@ -247,3 +259,108 @@ pub block_adds : (before : Bool) (o : ℕ) (pen : Pen) → Adds pen (before_bloc
 block_adds before o pen =
     let at : Pen = comments_at all_of_them o pen in
     adds_then (comments_add all_of_them o pen) (used_up_adds (stood before o pen && (at.pending_space && not at.style.minified)) at)
+
+-- ---- annotations
+
+pub annotation_by_adds : (cs : List Comment) (kind : Annotation) (o : ℕ) (pen : Pen) → Adds pen (annotation_by cs kind o pen)
+annotation_by_adds [] kind o pen = adds_text (annotation_text kind) other_end pen
+annotation_by_adds (c ∷ cs) kind o pen =
+    let at : Pen = without_annotation o pen in
+    let left : Adds pen at = record { text = whole_prefix pen.code; classes = refl } in
+    adds_then left (comment_adds c at)
+
+pub annotation_text_adds : (ends : Bool) (kind : Annotation) (o : ℕ) (pen : Pen) → Adds pen (annotation_written ends kind o pen)
+annotation_text_adds ends kind o pen = adds_then (adds_text_if (ends_in 47 pen) (codes " ") pen) (annotation_by_adds (fitting_at ends kind o pen) kind o (written_if (ends_in 47 pen) (codes " ") pen))
+
+pub annotation_adds : (start : Start) (kind : Annotation) (o : ℕ) (pen : Pen) → Adds pen (begun_at start (annotation_at kind o pen))
+annotation_adds start kind o pen =
+    let at : Pen = annotation_written false kind o pen in
+    let h = adds_then (annotation_text_adds false kind o pen) (adds_text (codes " ") other_end at) in
+    record { text = h.text; classes = h.classes }
+
+pub annotation_line_adds : (indented : Bool) (o : ℕ) (pen : Pen) → Adds pen (annotation_line_at indented o pen)
+annotation_line_adds indented o pen =
+    let at : Pen = indented_if indented pen in
+    adds_then (adds_then (indented_if_adds indented pen) (annotation_text_adds true no_side_effects o at)) (line_adds (annotation_written true no_side_effects o at))
+
+pub annotated_if_adds : (on : Bool) (s : Span) (o : ℕ) (start : Start) (pen : Pen) → Adds pen (annotated_if on s o start pen)
+annotated_if_adds true s o start pen =
+    let at : Pen = span_mark s pen in
+    let marked : Adds pen at = record { text = whole_prefix pen.code; classes = refl } in
+    adds_then marked (annotation_adds start is_pure o at)
+annotated_if_adds false s o start pen = adds_nothing pen
+
+pub annotated_adds : (test lifted pure : Bool) (s : Span) (o : ℕ) (pen : Pen) → Adds pen (annotated_from test lifted pure s o pen)
+annotated_adds test lifted pure s o pen =
+    let wraps : Bool = lifts pure lifted pen || test in
+    adds_then (adds_text_if wraps (opening Round) pen) (annotated_if_adds (pure && pen.style.annotated) s o pen.start (written_if wraps (opening Round) pen))
+
+-- ---- in an object, and before it
+
+pub commented_if_adds : (test : Bool) (o : ℕ) (pen : Pen) → Adds pen (commented_if test o pen)
+commented_if_adds true o pen = lined_adds o pen
+commented_if_adds false o pen = adds_nothing pen
+
+pub commented_adds : (o : ℕ) (pen : Pen) → Adds pen (commented_from o pen)
+commented_adds o pen =
+    let at : Pen = written_if (is_enclosed o pen) (opening Round) pen in
+    adds_then (adds_text_if (is_enclosed o pen) (opening Round) pen) (commented_if_adds (are_any (group_at o pen)) o at)
+
+pub soft_line_adds : (pen : Pen) → Adds pen (soft_line_ended pen)
+soft_line_adds pen = adds_text_if (not pen.style.minified) (codes "\n") pen
+
+pub member_line_adds : (o : ℕ) (pen : Pen) → Adds pen (member_line_at o pen)
+member_line_adds o pen = adds_then (soft_line_adds pen) (lined_adds o (soft_line_ended pen))
+
+pub member_space_adds : (o : ℕ) (pen : Pen) → Adds pen (member_space_at o pen)
+member_space_adds o pen = adds_then (softly_adds pen) (comments_add with_due_space o (softly_spaced pen))
+
+-- ---- arguments on lines
+
+pub each_on_line_adds : (cs : List Comment) (pen : Pen) → Adds pen (each_on_line cs pen)
+each_on_line_adds [] pen = adds_nothing pen
+each_on_line_adds (c ∷ cs) pen =
+    let at : Pen = indented_here (line_ended pen) in
+    adds_then (adds_then (new_line_adds pen) (comment_adds c at)) (each_on_line_adds cs (comment_written c at))
+
+pub broken_adds : (cs : List Comment) (pen : Pen) → Adds pen (broken_by cs pen)
+broken_adds [] pen = soft_line_adds pen
+broken_adds (c ∷ cs) pen = adds_then (each_on_line_adds (c ∷ cs) pen) (line_adds (each_on_line (c ∷ cs) pen))
+
+-- where the group at an offset leaves the store
+pub broken_taken_adds : (o : ℕ) (cs : List Comment) (pen : Pen) → Adds pen (broken_by cs (without_group o pen))
+broken_taken_adds o cs pen =
+    let left : Adds pen (without_group o pen) = record { text = whole_prefix pen.code; classes = refl } in
+    adds_then left (broken_adds cs (without_group o pen))
+
+pub broken_at_adds : (o : ℕ) (pen : Pen) → Adds pen (broken_at o pen)
+broken_at_adds o pen = adds_then (broken_taken_adds o (group_at o pen) pen) (here_adds (broken_by (group_at o pen) (without_group o pen)))
+
+on_a_line_adds : (at : Break) (pen : Pen) → Adds pen (on_a_line at pen)
+on_a_line_adds (first_argument o) pen = broken_at_adds o pen
+on_a_line_adds (other_argument o) pen = broken_at_adds o pen
+on_a_line_adds (import_source o) pen = broken_at_adds o pen
+on_a_line_adds import_options pen = adds_then (soft_line_adds pen) (here_adds (soft_line_ended pen))
+
+unless_on_line_adds : (at : Break) (pen : Pen) → Adds pen (unless_on_line at pen)
+unless_on_line_adds (first_argument o) pen = adds_nothing pen
+unless_on_line_adds (other_argument o) pen = softly_adds pen
+unless_on_line_adds (import_source o) pen = adds_either (are_any (group_at o pen)) pen _ _ (broken_at_adds o pen) (adds_nothing pen)
+unless_on_line_adds import_options pen = softly_adds pen
+
+pub break_adds : (at : Break) (pen : Pen) → Adds pen (break_at at pen)
+break_adds at pen = adds_either pen.lines pen _ _ (on_a_line_adds at pen) (unless_on_line_adds at pen)
+
+pub opened_adds : (lined : Bool) (pen : Pen) → Adds pen (lines_opened lined pen)
+opened_adds true pen = record { text = whole_prefix pen.code; classes = refl }
+opened_adds false pen = record { text = whole_prefix pen.code; classes = refl }
+
+pub closed_adds : (lined : Bool) (lines : Lines) (end depth : ℕ) (outer : Bool) (pen : Pen) → Adds pen (lines_closed lined lines end depth outer pen)
+closed_adds true lines end depth outer pen =
+    let last = last_byte end in
+    let at : Pen = broken_by (ending_at last pen) (without_ending last pen) in
+    let before : Pen = at_level depth (with_lines outer at) in
+    let broken = adds_then (ending_adds last pen) (broken_adds (ending_at last pen) (without_ending last pen)) in
+    let back : Adds at before = record { text = whole_prefix at.code; classes = refl } in
+    adds_then (adds_then broken back) (indented_if_adds (indents lines) before)
+closed_adds false lines end depth outer pen = record { text = whole_prefix pen.code; classes = refl }

@@ -14,13 +14,18 @@ use Rattle.jsgen_model.specs.Items.{Items, word, operator}
 use Rattle.jsgen_model.specs.Operators.{operator_item, unary_sign, update_item}
 use Rattle.jsgen_map.specs.Marks as marks
 use Rattle.jsgen_map.specs.Plain.{mark_plain}
-use Rattle.jsgen_comments.specs.Plain.{group_plain, store_of}
+use Rattle.jsgen_comments.specs.Plain.{comment_plain, group_plain, store_of, annotations_of}
 use Rattle.jsgen_comments.specs.declared.comments.Comments.{Comments}
 use Rattle.jsgen_comments.specs.declared.comments.Group.{Group}
-use Rattle.jsgen_model.specs.Comments.{Comment, Store, empty_store}
+use Rattle.jsgen_model.specs.Comments.{Comment, Store, Groups, empty_store}
 use Rattle.jsgen_model.specs.Groups.{case_ended}
+use Rattle.jsgen_printer.specs.declared.printer.annotations.OneOf.{OneOf}
+use Rattle.jsgen_printer.specs.declared.printer.comments.CommentsBefore.{CommentsBefore}
+use Rattle.jsgen_printer.specs.declared.printer.comments.CommentsBefore.TheVariants as befores
 use Rattle.jsgen_printer.specs.declared.printer.comments.Lead.{Lead}
 use Rattle.jsgen_printer.specs.declared.printer.comments.Lead.TheVariants as leads
+use Rattle.jsgen_printer.specs.declared.printer.lines.ArgumentLines.{ArgumentLines}
+use Rattle.jsgen_printer.specs.declared.printer.lines.ArgumentLines.TheVariants as lines
 use Rattle.jsgen_printer.specs.declared.marks.Marks.{Marks}
 use Rattle.jsgen_printer.specs.declared.printer.Printer.{Printer}
 use Rattle.jsgen_printer.specs.declared.printer.Bracket.{Bracket}
@@ -89,16 +94,30 @@ abbrev pub store_plain : Option Comments → Store
 store_plain None = empty_store
 store_plain (Some c) = store_of c
 
+-- and the annotations
+abbrev pub annotations_plain : Option Comments → Groups
+annotations_plain None = []
+annotations_plain (Some c) = annotations_of c
+
 -- comments that have left the store, if any
 abbrev pub group_of : Option Group → List Comment
 group_of None = []
 group_of (Some g) = group_plain g
+
+-- a comment of a source
+abbrev pub one_plain : OneOf → Comment
+one_plain o = comment_plain o.source.now o.comment
 
 -- what leads to the one statement of a case
 abbrev pub lead_of : Lead → items.Lead
 lead_of leads.Block = items.to_block
 lead_of (leads.Empty s) = items.to_empty s
 lead_of leads.Body = items.to_body
+
+-- which comments stand before an expression
+abbrev pub manner_of : CommentsBefore → items.Manner
+manner_of befores.All = items.before_it
+manner_of befores.ForTools = items.annotation_before_it
 
 -- the level of a case, where its one statement stands on a line of its own
 abbrev pub level_if : Bool → ℕ → Option ℕ
@@ -113,7 +132,7 @@ case_behind (Some depth) end pen = case_ended true depth end pen
 -- the pen, whose code is the characters of the buffer's bytes
 unfoldable pub pen_of : Printer → Pen
 pen_of p = record {
-  style = record { minified = p.minify; ascii = p.ascii_only; quote = p.quote; indent = indent_byte p.code; width = indent_width p.code; tables = tables_plain p.tables; source = source_plain p.marks };
+  style = record { minified = p.minify; ascii = p.ascii_only; quote = p.quote; indent = indent_byte p.code; width = indent_width p.code; tables = tables_plain p.tables; source = source_plain p.marks; annotated = p.annotated };
   code = chars (buffer_bytes p.code);
   depth = p.depth;
   pending_space = p.pending_space;
@@ -124,6 +143,8 @@ pen_of p = record {
   next_class = p.next_class;
   marks = marks_plain p.marks;
   store = store_plain p.comments;
+  annotations = annotations_plain p.comments;
+  lines = p.lines;
 }
 
 -- the same pen, by whose tables names are printed from here on
@@ -134,9 +155,15 @@ by_tables tables pen = record pen { style = record pen.style { tables = tables }
 abbrev pub by_marks : Marks → Pen → Pen
 by_marks m pen = record pen { style = record pen.style { source = Some m.source.now }; marks = map mark_plain m.list.items }
 
--- the same pen, with these comments to be printed
-abbrev pub by_store : Store → Pen → Pen
-by_store store pen = record pen { store = store }
+-- the same pen, with these comments and annotations to be printed
+abbrev pub by_comments : Store → Groups → Pen → Pen
+by_comments store annotations pen = record pen { store = store; annotations = annotations }
+
+-- whether arguments stand on lines, whose they are
+abbrev pub lines_of : ArgumentLines → items.Lines
+lines_of lines.Call = items.of_call false
+lines_of lines.QuotedCall = items.of_call true
+lines_of lines.Import = items.of_import
 
 -- the pen behind a text that was handed in; an empty one leaves what the code ends in as it is
 abbrev pub unless_empty : List ℕ → Pen → Pen → Pen

@@ -13,4 +13,6 @@ pub use context::Context;
 pub use laws::a_flag_that_is_unset_leaves_the_others;
 pub use marks::Marks;
 pub use operator::Operator;
-pub use printer::{Bracket, Ending, Lead, Printer, Start, TemplatePart};
+pub use printer::{
+    ArgumentLines, Around, Bracket, CommentsBefore, Ending, Lead, Printer, Start, TemplatePart,
+};

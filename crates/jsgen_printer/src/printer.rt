@@ -9,9 +9,11 @@ ghost use Rattle.jsgen_model.specs.Layout.{but_backticks};
 use crate::marks::Marks;
 use crate::operator::Operator;
 
+mod annotations;
 mod classes;
 mod comments;
 mod handed;
+mod lines;
 mod marks;
 mod modules;
 mod names;
@@ -19,7 +21,7 @@ mod numbers;
 mod patterns;
 mod templates;
 
-pub use comments::Lead;
+pub use comments::{CommentsBefore, Lead};
 use jsgen_comments::Comments;
 use jsgen_syntax::{
     AssignmentOperator, BinaryOperator, CodeBuffer, JsStr, LogicalOperator, Quote, Span,
@@ -29,6 +31,7 @@ use jsgen_text::{
     cheapest_quote, directive_quote, print_directive_raw, print_name_text, print_string_text,
 };
 use jsgen_tree::{CodegenOptions, Tables};
+pub use lines::{ArgumentLines, Around};
 use std::alloc::Global;
 pub use templates::TemplatePart;
 
@@ -84,6 +87,10 @@ pub struct Printer<'a> {
     marks: Option<Marks<'a>>,
     // where any are to be printed
     comments: Option<Comments<'a>>,
+    // annotations of calls and functions are printed
+    annotated: bool,
+    // the arguments round here stand on lines of their own
+    lines: bool,
     alloc: Global,
     has_failed: bool,
     ghost indents: { width ≡ indent_width code },
@@ -130,6 +137,8 @@ impl<'a> Printer<'a> {
             next_class: 0,
             marks: None,
             comments: None,
+            annotated: options.comments.annotation,
+            lines: false,
             alloc,
             has_failed: false,
         }

@@ -16,7 +16,7 @@ use Rattle.jsgen_tree.specs.Values.{logical_expression_operator}
 use Rattle.jsgen_tree.specs.Nodes as tree
 use Rattle.jsgen_model.specs.Punctuator.{Punctuator, and_and, or_or, nullish}
 use Rattle.jsgen_model.specs.Tokens.{Tokens, piece, ◌⧺◌, Sign}
-use Rattle.jsgen_model.specs.Items.{◌⊕◌, soft_space, punctuator}
+use Rattle.jsgen_model.specs.Items.{◌⊕◌, soft_space, punctuator, annotation_before_it}
 use Rattle.jsgen_model.specs.Layout.{other_end, layout}
 use Rattle.jsgen_model.specs.Grammar.{Allowed, Level, ReadsExpression}
 use Rattle.jsgen_model.specs.Grammar as grammar
@@ -24,7 +24,7 @@ use Rattle.jsgen_model.specs.Normal.{normal, chain, links, joined}
 use Rattle.jsgen_model.specs.Renamed.{renamed}
 use Rattle.jsgen_place.specs.declared.place.Place.{Place}
 use Rattle.jsgen_place.specs.Place.{within, left_operand, child, wraps, continues_chain, logical_wraps}
-use Rattle.jsgen_model.specs.Spell.{spell, unmixed, mixes}
+use Rattle.jsgen_model.specs.Spell.{spell, unmixed, mixes, before_expression}
 use Rattle.jsgen_model.specs.Operators.{logical_item}
 use Rattle.jsgen_token_laws.proofs.Last.{After, Ready, Remembers, NoDot}
 use Rattle.jsgen_token_laws.proofs.Writes.{then_assoc}
@@ -33,6 +33,7 @@ use Rattle.jsgen_reading_laws.proofs.Levels.{number_of, operation_number, operan
 use Rattle.jsgen_reading_laws.proofs.Asked.{is_mixed}
 use Rattle.jsgen_reading_laws.proofs.Joined.{joined_assoc}
 use Rattle.jsgen_reading_laws.proofs.Good.{Good, Printed, Between, good_at, good_since, good_wrapped, good_infix, PrintedBy}
+use Rattle.jsgen_reading_laws.proofs.Marks.{behind_comments}
 
 -- ---- the token between the operands
 
@@ -189,7 +190,7 @@ same_chain o u v x y e f = λ i. chain (bare (logical_operator o ∷ [])) (joine
 pub good_logical_operation : {names : Tables} (c : Allowed) (a : Atoms) (x y : Tree) → Printed names c x → Printed names c y → is_mixed (normal (renamed names x)) ≡ mixes (without_parentheses x) → is_mixed (normal (renamed names y)) ≡ mixes (without_parentheses y) → Printed names c (tree.logical a x y)
 good_logical_operation {names} c a x y f g mx my place =
     let o : LogicalOperator = logical_expression_operator a in
-    good_wrapped c place (own_goal o) (logical_wraps o place) (λ w. spell x (left_operand (unmixed o x (logical_lower_level o)) (within w place)) ⊕ (soft_space ⊕ (logical_item o ⊕ (soft_space ⊕ spell y (child (unmixed o y (logical_level o)) (within w place)))))) (tree.logical a x y)
+    good_wrapped c place (own_goal o) (logical_wraps o place) (λ w. spell x (left_operand (unmixed o x (logical_lower_level o)) (within w place)) ⊕ (soft_space ⊕ (logical_item o ⊕ (soft_space ⊕ (before_expression annotation_before_it y ⊕ spell y (child (unmixed o y (logical_level o)) (within w place))))))) (tree.logical a x y)
     (λ d ts u r. lifted false (looser (logical_level o)) levels.Lowest (omega arith) (own_level false o r)) (λ e ts u r. unwrapped_chain o place e r)
-    (λ v e. good_infix (logical_item o) (Sign (logical_sign o)) (spell x (left_operand (unmixed o x (logical_lower_level o)) (within v place))) (spell y (child (unmixed o y (logical_level o)) (within v place))) x y (tree.logical a x y) (under (within v place) c) (operand_goal o) (operand_goal o) (own_goal o) (logical_between o)
-    (λ ts us line u w ru rw eu ew. let h = join o ts u line ru rw in (h.0, h.1, h.2 ∙ same_chain o u w (renamed names x) (renamed names y) eu ew)) (left_printed o c x f mx (within v place)) (right_printed o c y g my (within v place)))
+    (λ v e. good_infix (logical_item o) (Sign (logical_sign o)) (spell x (left_operand (unmixed o x (logical_lower_level o)) (within v place))) (before_expression annotation_before_it y ⊕ spell y (child (unmixed o y (logical_level o)) (within v place))) x y (tree.logical a x y) (under (within v place) c) (operand_goal o) (operand_goal o) (own_goal o) (logical_between o)
+    (λ ts us line u w ru rw eu ew. let h = join o ts u line ru rw in (h.0, h.1, h.2 ∙ same_chain o u w (renamed names x) (renamed names y) eu ew)) (left_printed o c x f mx (within v place)) (behind_comments annotation_before_it y (spell y (child (unmixed o y (logical_level o)) (within v place))) (right_printed o c y g my (within v place))))

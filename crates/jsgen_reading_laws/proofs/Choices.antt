@@ -1,12 +1,12 @@
 -- Choices between two values, by `?` and `:`.
-use Rattle.std.proofs.Common.{◌≡◌, Bool, false, refl, ◌∙◌, arith}
+use Rattle.std.proofs.Common.{◌≡◌, Bool, false, refl, sym, subst, ◌∙◌, arith}
 use Rattle.jsgen_syntax.specs.declared.precedence.Precedence.TheVariants as levels
 use Rattle.jsgen_tree.specs.Job.{Tables}
 use Rattle.jsgen_tree.specs.Tree.{Tree, Atoms}
 use Rattle.jsgen_tree.specs.Nodes as tree
 use Rattle.jsgen_model.specs.Punctuator.{question, colon}
 use Rattle.jsgen_model.specs.Tokens.{Tokens, done, piece, ◌⧺◌, Sign}
-use Rattle.jsgen_model.specs.Items.{Items, soft_space, punctuator, ◌⊕◌}
+use Rattle.jsgen_model.specs.Items.{Items, soft_space, punctuator, ◌⊕◌, before_it, annotation_before_it}
 use Rattle.jsgen_model.specs.Layout.{Pen, layout}
 use Rattle.jsgen_model.specs.Grammar.{Allowed, with_in}
 use Rattle.jsgen_model.specs.Grammar as grammar
@@ -14,12 +14,13 @@ use Rattle.jsgen_model.specs.Normal.{normal, nothing_of}
 use Rattle.jsgen_model.specs.Renamed.{renamed}
 use Rattle.jsgen_place.specs.declared.place.Place.{Place}
 use Rattle.jsgen_place.specs.Place.{within, child, in_brackets, with_calls, wraps}
-use Rattle.jsgen_model.specs.Spell.{spell}
+use Rattle.jsgen_model.specs.Spell.{spell, before_expression}
 use Rattle.jsgen_token_laws.proofs.Last.{Last, After, line_of}
 use Rattle.jsgen_token_laws.proofs.Writes.{Writes, wrote_both}
 use Rattle.jsgen_token_laws.proofs.Steps.{Soft, wrote_punctuator, soft_space_written}
 use Rattle.jsgen_reading_laws.proofs.Levels.{under, lifted, unwrapped}
 use Rattle.jsgen_reading_laws.proofs.Good.{Good, Printed, begins_then, line_then, good_wrapped, PrintedBy}
+use Rattle.jsgen_reading_laws.proofs.Marks.{comments_laid}
 
 same_choice : (u v w x y z : Tree) → normal u ≡ normal x → normal v ≡ normal y → normal w ≡ normal z → tree.conditional (nothing_of 0) (normal u) (normal v) (normal w) ≡ tree.conditional (nothing_of 0) (normal x) (normal y) (normal z)
 same_choice u v w x y z e f g = λ i. tree.conditional (nothing_of 0) (e i) (f i) (g i)
@@ -43,7 +44,17 @@ choice_parts {names} a x y z {p = p} g s o n h m u r i =
     }
 
 abbrev items_of : Tree → Tree → Tree → Place → Bool → Items
-items_of x y z place w = spell x (with_calls (child levels.Conditional (within w place))) ⊕ (soft_space ⊕ (punctuator question ⊕ (soft_space ⊕ (spell y (in_brackets levels.Yield) ⊕ (soft_space ⊕ (punctuator colon ⊕ (soft_space ⊕ spell z (with_calls (child levels.Yield (within w place))))))))))
+items_of x y z place w = spell x (with_calls (child levels.Conditional (within w place))) ⊕ (soft_space ⊕ (punctuator question ⊕ (soft_space ⊕ (before_expression annotation_before_it y ⊕ (spell y (in_brackets levels.Yield)
+    ⊕ (soft_space ⊕ (punctuator colon ⊕ (soft_space ⊕ (before_expression before_it z ⊕ spell z (with_calls (child levels.Yield (within w place))))))))))))
+
+-- from what is chosen on, without the comments
+abbrev chosen_from : Tree → Tree → Place → Bool → Items
+chosen_from y z place w = spell y (in_brackets levels.Yield) ⊕ (soft_space ⊕ (punctuator colon ⊕ (soft_space ⊕ spell z (with_calls (child levels.Yield (within w place))))))
+
+comments_left_out : (x y z : Tree) (place : Place) (w : Bool) (p : Pen) → let at : Pen = layout soft_space (layout (punctuator question) (layout soft_space (layout (spell x (with_calls (child levels.Conditional (within w place)))) p))) in layout (items_of x y z place w) p ≡ layout (chosen_from y z place w) at
+comments_left_out x y z place w p =
+    let at : Pen = layout soft_space (layout (punctuator question) (layout soft_space (layout (spell x (with_calls (child levels.Conditional (within w place)))) p))) in
+    λ i. layout (spell z (with_calls (child levels.Yield (within w place)))) (comments_laid before_it z (layout soft_space (layout (punctuator colon) (layout soft_space (layout (spell y (in_brackets levels.Yield)) (comments_laid annotation_before_it y at i))))) i)
 
 pub good_choice : {names : Tables} (c : Allowed) (a : Atoms) (x y z : Tree) → Printed names c x → Printed names c y → Printed names c z → Printed names c (tree.conditional a x y z)
 good_choice {names} c a x y z f g h place =
@@ -71,4 +82,4 @@ good_choice {names} c a x y z f g h place =
         let u = wrote_punctuator colon p6 m.last tt tt (m.operand j.operand) m.writes.knows in
         let r = soft_space_written p7 (After (Sign colon)) u.knows in
         let k = h other (layout soft_space p7) r.last (r.semicolon ∙ (m.semicolon ∙ j.semicolon)) (r.ready tt) r.writes.knows in
-        choice_parts a x y z i s o n j m u r k
+        subst (λ q. Good names p l q (under (within v place) c) grammar.Conditional (tree.conditional a x y z)) (sym (comments_left_out x y z place v p)) (choice_parts a x y z i s o n j m u r k)

@@ -20,7 +20,7 @@ use Rattle.jsgen_reading_laws.proofs.Levels.{under, lifted, weaken_member, from_
 use Rattle.jsgen_reading_laws.proofs.Good.{Printed, may_begin, PrintedFrom, wrapped_from, begins_all}
 use Rattle.jsgen_reading_laws.proofs.Links.{ElementOf}
 use Rattle.jsgen_reading_laws.proofs.Properties.{PropertyOf}
-use Rattle.jsgen_reading_laws.proofs.Elements.{InsideAt, nothing_inside, first_inside, hole_inside, inside_lines, inside_braces}
+use Rattle.jsgen_reading_laws.proofs.Elements.{InsideAt, nothing_inside, first_inside, hole_inside, inside_lines, inside_braces, members}
 
 -- ---- elements, in brackets
 
@@ -85,13 +85,13 @@ good_object {names} c a ps f place p =
     (λ d ts u r. lifted false levels.Member levels.Lowest (omega arith) (weaken_member false (grammar.a_primary r))) (λ e ts u r. from_primary place r) inner
   where
     items : Items
-    items = spell_elements (are_more 1 ps) ps (in_brackets levels.Comma) ⊕ comma_if (ends_in_hole ps)
+    items = members (are_more 1 ps) ps (in_brackets levels.Comma)
 
     inner : (v : Bool) → is_barred a_brace p.start ≡ v → PrintedFrom (written_if v (opening Round) p) names (ReadsExpression (under (within v place) c) grammar.Primary) (brackets Brace (object_inside ps items)) (tree.object_expression a ps)
     inner v e l z y k =
         let p1 : Pen = written_if v (opening Round) p in
         let p2 : Pen = written (opening Brace) other_end p1 in
-        let g = inside_braces (ReadsProperties (with_in c)) items ps (f (are_more 1 ps)) p2 (Open false) z tt (within_brackets Brace p1 l k) in
+        let g = inside_braces (ReadsProperties (with_in c)) (are_more 1 ps) (in_brackets levels.Comma) ps (f (are_more 1 ps)) p2 (Open false) z tt (within_brackets Brace p1 l k) in
         record {
           last = Open false;
           tokens = group (line_of l) Brace g.tokens done;

@@ -1,5 +1,5 @@
 -- `new`, with arguments or without.
-use Rattle.std.proofs.Common.{◌≡◌, Bool, true, false, not, ◌||◌, if◌then◌else◌, codes, refl, ap, ◌∙◌, subst, arith, append-nil, ◌++◌, []}
+use Rattle.std.proofs.Common.{◌≡◌, Bool, true, false, not, ◌||◌, if◌then◌else◌, codes, refl, ap, ◌∙◌, arith, append-nil, ◌++◌, []}
 use Rattle.std.proofs.lemmas.Bool.{both_ways, or_parts}
 use Rattle.jsgen_syntax.specs.declared.span.Span.{Span}
 use Rattle.jsgen_syntax.specs.declared.precedence.Precedence.TheVariants as levels
@@ -16,7 +16,7 @@ use Rattle.jsgen_model.specs.Normal.{normal, normal_trees, nothing_of}
 use Rattle.jsgen_model.specs.Renamed.{renamed, renamed_trees}
 use Rattle.jsgen_place.specs.declared.place.Place.{Place}
 use Rattle.jsgen_place.specs.Place.{within, constructed, in_brackets, wraps}
-use Rattle.jsgen_model.specs.Spell.{spell, spell_list, any_given, new_arguments}
+use Rattle.jsgen_model.specs.Spell.{spell, spell_arguments, any_given, argument_items, new_arguments}
 use Rattle.jsgen_token_laws.proofs.Characters.{letters_spelled}
 use Rattle.jsgen_token_laws.proofs.Last.{Last, Open, After, line_of, Knows, Operand}
 use Rattle.jsgen_token_laws.proofs.Writes.{Writes, wrote_both, wrote_and_none}
@@ -24,7 +24,7 @@ use Rattle.jsgen_token_laws.proofs.Steps.{soft_space_written, within_brackets, b
 use Rattle.jsgen_reading_laws.proofs.Levels.{level_of, under, weaken_member, lifted, unwrapped}
 use Rattle.jsgen_reading_laws.proofs.Good.{Good, Printed, good_wrapped, PrintedBy, begins_all, good_at}
 use Rattle.jsgen_reading_laws.proofs.Lists.{Elements}
-use Rattle.jsgen_reading_laws.proofs.Links.{ArgumentsAt, spelled_as_list}
+use Rattle.jsgen_reading_laws.proofs.Links.{ArgumentsAt}
 
 same_construction : (a : Atoms) (u x : Tree) (us xs : Trees) → normal u ≡ normal x → normal_trees us ≡ normal_trees xs → normal (tree.new_expression (nothing_of 1) u us) ≡ normal (tree.new_expression a x xs)
 same_construction a u x us xs e f = λ i. tree.new_expression (nothing_of 1) (e i) (f i)
@@ -67,10 +67,8 @@ with_arguments {names} a t es {p} {p1} {q} {l} g h =
     }
 
 -- the arguments, behind the opening parenthesis
-arguments_written : {names : Tables} (c : Allowed) (es : Trees) → ArgumentsAt names c es → (p : Pen) (l : Last) → p.pending_semicolon ≡ false → Knows names p l → let p1 : Pen = written (opening Round) other_end p in Elements names (ReadsArguments (with_in c)) p1 (Open false) (layout (spell_list es (in_brackets levels.Comma)) p1) es
-arguments_written {names} c es h p l z k =
-    let p1 : Pen = written (opening Round) other_end p in
-    subst (λ items. Elements names (ReadsArguments (with_in c)) p1 (Open false) (layout items p1) es) (spelled_as_list es) (h false false p1 z (within_brackets Round p l k))
+arguments_written : {names : Tables} (c : Allowed) (es : Trees) → ArgumentsAt names c es → (p : Pen) (l : Last) → p.pending_semicolon ≡ false → Knows names p l → let p1 : Pen = written (opening Round) other_end p in Elements names (ReadsArguments (with_in c)) p1 (Open false) (layout (spell_arguments false false es (in_brackets levels.Comma)) p1) es
+arguments_written c es h p l z k = h false false (written (opening Round) other_end p) z (within_brackets Round p l k)
 
 -- ---- without them
 
@@ -95,7 +93,7 @@ alone {names} a t {p} {p1} {l} g =
 
 -- in parentheses or not, as the test says
 abbrev construction_items : Span → Bool → Tree → Trees → Place → Bool → Items
-construction_items s stand t es place w = marked_word s (codes "new") ⊕ (soft_space ⊕ (spell t (constructed (within w place)) ⊕ new_arguments stand s (spell_list es (in_brackets levels.Comma))))
+construction_items s stand t es place w = marked_word s (codes "new") ⊕ (soft_space ⊕ (spell t (constructed (within w place)) ⊕ new_arguments stand (argument_items false es s (spell_arguments false false es (in_brackets levels.Comma)))))
 
 abbrev ConstructionAt : Tables → Allowed → Atoms → Tree → Trees → Place → Bool → Type 0
 ConstructionAt names c a t es place stand = PrintedBy names (under place c) (level_of place) (wrapped (wraps levels.New place) (construction_items a.span stand t es place (wraps levels.New place))) (tree.new_expression a t es)

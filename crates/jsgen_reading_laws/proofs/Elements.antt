@@ -1,15 +1,15 @@
 -- Lists in which members may be left out, on one line or each on a line of its own, whatever the members are.
-use Rattle.std.proofs.Common.{◌≡◌, ℕ, Bool, true, false, refl, ap, ◌∙◌}
+use Rattle.std.proofs.Common.{◌≡◌, ℕ, Bool, true, false, refl, sym, ap, subst, ◌∙◌}
 use Rattle.jsgen_tree.specs.Job.{Tables}
-use Rattle.jsgen_tree.specs.Tree.{Tree, Trees, no_trees, more, hole}
+use Rattle.jsgen_tree.specs.Tree.{Tree, Trees, no_trees, more, hole, span_of}
 use Rattle.jsgen_model.specs.Punctuator.{comma}
 use Rattle.jsgen_model.specs.Tokens.{Tokens, done, piece, ◌⧺◌, Sign}
-use Rattle.jsgen_model.specs.Items.{Items, ◌⊕◌, punctuator, soft_space, soft_line}
+use Rattle.jsgen_model.specs.Items.{Items, ◌⊕◌, punctuator, deeper, soft_space, soft_line}
 use Rattle.jsgen_model.specs.Layout.{Pen, layout, deeper_level}
 use Rattle.jsgen_model.specs.Normal.{normal_trees}
 use Rattle.jsgen_model.specs.Renamed.{renamed, renamed_trees}
 use Rattle.jsgen_place.specs.declared.place.Place.{Place}
-use Rattle.jsgen_model.specs.Spell.{spell, spell_elements, next_line, line_or_space, on_lines, ends_in_hole, comma_if, object_inside}
+use Rattle.jsgen_model.specs.Spell.{spell, spell_elements, spell_more_elements, spell_properties, spell_more_properties, next_line, line_or_space, before_member, on_lines, ends_in_hole, comma_if, object_inside}
 use Rattle.jsgen_token_laws.proofs.Last.{Last, After, line_of, Begun, Knows}
 use Rattle.jsgen_token_laws.proofs.Writes.{Writes, wrote_none, wrote_both, wrote_and_none}
 use Rattle.jsgen_token_laws.proofs.Steps.{Gap, gap, wrote_comma, soft_space_written, soft_line_written, indentation_written}
@@ -117,14 +117,15 @@ hole_inside L r skip lines place (hole us) h p l z b k = hole_parts L skip lines
 at_depth : {names : Tables} {p : Pen} {l : Last} (depth : ℕ) → Knows names p l → Knows names (record p { depth = depth }) l
 at_depth depth k = record { indent = k.indent; tables = k.tables; ending = k.ending }
 
-lined : {names : Tables} (L : Tokens → Trees → Type 0) (items : Items) (ts : Trees) → InsideOf names L items ts → InsideOf names L (on_lines true items) ts
-lined L items ts f p l z b k =
+-- behind a blank one level deeper, and before a line end
+lined : {names : Tables} (L : Tokens → Trees → Type 0) (lines : Bool) (items : Items) (ts : Trees) → InsideOf names L items ts → InsideOf names L (deeper (line_or_space lines ⊕ items) ⊕ next_line) ts
+lined L lines items ts f p l z b k =
     let p1 : Pen = record p { depth = deeper_level p.style.minified p.depth } in
-    let p2 : Pen = layout next_line p1 in
+    let p2 : Pen = layout (line_or_space lines) p1 in
     let p3 : Pen = layout items p2 in
     let p4 : Pen = record p3 { depth = p.depth } in
     let w = wrote_none p p1 l refl (at_depth p1.depth k) in
-    let n = next_line_written p1 l w.knows in
+    let n = between_written lines p1 l w.knows in
     let g = f p2 n.last (n.semicolon ∙ z) (n.begun b) n.writes.knows in
     let v = wrote_none p3 p4 g.last refl (at_depth p.depth g.writes.knows) in
     let m = next_line_written p4 g.last v.knows in
@@ -140,17 +141,17 @@ lined L items ts f p l z b k =
 
 -- or not
 pub inside_lines : {names : Tables} (L : Tokens → Trees → Type 0) (lines : Bool) (items : Items) (ts : Trees) → InsideOf names L items ts → InsideOf names L (on_lines lines items) ts
-inside_lines L true items ts f = lined L items ts f
+inside_lines L true items ts f = lined L true items ts f
 inside_lines L false items ts f = f
 
 -- ---- in the braces of an object
 
--- with a space on each side
-padded : {names : Tables} (L : Tokens → Trees → Type 0) (items : Items) (ts : Trees) → InsideOf names L items ts → InsideOf names L (soft_space ⊕ (items ⊕ soft_space)) ts
-padded L items ts f p l z b k =
-    let p1 : Pen = layout soft_space p in
+-- behind a blank, and before a space
+padded : {names : Tables} (L : Tokens → Trees → Type 0) (lines : Bool) (items : Items) (ts : Trees) → InsideOf names L items ts → InsideOf names L (line_or_space lines ⊕ (items ⊕ soft_space)) ts
+padded L lines items ts f p l z b k =
+    let p1 : Pen = layout (line_or_space lines) p in
     let p2 : Pen = layout items p1 in
-    let a = soft_space_written p l k in
+    let a = between_written lines p l k in
     let g = f p1 a.last (a.semicolon ∙ z) (a.begun b) a.writes.knows in
     let s = soft_space_written p2 g.last g.writes.knows in
     record {
@@ -163,11 +164,61 @@ padded L items ts f p l z b k =
       same = g.same;
     }
 
-pub inside_braces : {names : Tables} (L : Tokens → Trees → Type 0) (items : Items) (ts : Trees) → InsideOf names L items ts → InsideOf names L (object_inside ts items) ts
-inside_braces L items no_trees f = f
-inside_braces L items (more t no_trees) f = padded L items (more t no_trees) f
-inside_braces L items (more t (more u us)) f = lined L items (more t (more u us)) f
-inside_braces L items (more t (hole us)) f = lined L items (more t (hole us)) f
-inside_braces L items (hole no_trees) f = padded L items (hole no_trees) f
-inside_braces L items (hole (more u us)) f = lined L items (hole (more u us)) f
-inside_braces L items (hole (hole us)) f = lined L items (hole (hole us)) f
+-- one alone, and more than one; a blank stands before the first as before the others
+abbrev braced : Bool → Trees → Items → Items
+braced lines no_trees items = items
+braced lines (more t no_trees) items = line_or_space lines ⊕ (items ⊕ soft_space)
+braced lines (hole no_trees) items = line_or_space lines ⊕ (items ⊕ soft_space)
+braced lines ts items = deeper (line_or_space lines ⊕ items) ⊕ next_line
+
+inside_braced : {names : Tables} (L : Tokens → Trees → Type 0) (lines : Bool) (items : Items) (ts : Trees) → InsideOf names L items ts → InsideOf names L (braced lines ts items) ts
+inside_braced L lines items no_trees f = f
+inside_braced L lines items (more t no_trees) f = padded L lines items (more t no_trees) f
+inside_braced L lines items (more t (more u us)) f = lined L lines items (more t (more u us)) f
+inside_braced L lines items (more t (hole us)) f = lined L lines items (more t (hole us)) f
+inside_braced L lines items (hole no_trees) f = padded L lines items (hole no_trees) f
+inside_braced L lines items (hole (more u us)) f = lined L lines items (hole (more u us)) f
+inside_braced L lines items (hole (hole us)) f = lined L lines items (hole (hole us)) f
+
+-- the text has no comments before members
+before_member_laid : (lines : Bool) (start : ℕ) (p : Pen) → layout (before_member lines start) p ≡ layout (line_or_space lines) p
+before_member_laid true start p = refl
+before_member_laid false start p = refl
+
+more_laid : (lines : Bool) (place : Place) (ts : Trees) (p : Pen) → layout (spell_more_properties lines ts place) p ≡ layout (spell_more_elements lines ts place) p
+more_laid lines place no_trees p = refl
+more_laid lines place (more t ts) p =
+    let p1 : Pen = layout (punctuator comma) p in
+    ap (λ q. layout (spell_more_properties lines ts place) (layout (spell t place) q)) (before_member_laid lines (span_of t).start p1) ∙ more_laid lines place ts (layout (spell t place) (layout (line_or_space lines) p1))
+more_laid lines place (hole ts) p = more_laid lines place ts (layout (line_or_space lines) (layout (punctuator comma) p))
+
+-- the members of an object, and those of any list
+abbrev pub members : Bool → Trees → Place → Items
+members lines ts place = spell_properties lines ts place ⊕ comma_if (ends_in_hole ts)
+
+abbrev elements : Bool → Trees → Place → Items
+elements lines ts place = spell_elements lines ts place ⊕ comma_if (ends_in_hole ts)
+
+first_laid : (lines : Bool) (place : Place) (t : Tree) (ts : Trees) (p : Pen) → layout (members lines (more t ts) place) p ≡ layout (elements lines (more t ts) place) (layout (line_or_space lines) p)
+first_laid lines place t ts p =
+    let laid = ap (λ q. layout (spell_more_properties lines ts place) (layout (spell t place) q)) (before_member_laid lines (span_of t).start p) ∙ more_laid lines place ts (layout (spell t place) (layout (line_or_space lines) p)) in
+    ap (layout (comma_if (ends_in_hole (more t ts)))) laid
+
+hole_laid : (lines : Bool) (place : Place) (ts : Trees) (p : Pen) → layout (members lines (hole ts) place) p ≡ layout (elements lines (hole ts) place) (layout (line_or_space lines) p)
+hole_laid lines place ts p = ap (layout (comma_if (ends_in_hole (hole ts)))) (more_laid lines place ts (layout (line_or_space lines) p))
+
+-- one level deeper
+deeper_laid : (p q r : Pen) → q ≡ r → layout next_line (record q { depth = p.depth }) ≡ layout next_line (record r { depth = p.depth })
+deeper_laid p q r e = ap {A = Pen} (λ s. layout next_line (record s { depth = p.depth })) e
+
+braced_laid : (lines : Bool) (place : Place) (ts : Trees) (p : Pen) → layout (object_inside ts (members lines ts place)) p ≡ layout (braced lines ts (elements lines ts place)) p
+braced_laid lines place no_trees p = refl
+braced_laid lines place (more t no_trees) p = ap (layout soft_space) (first_laid lines place t no_trees p)
+braced_laid lines place (more t (more u us)) p = deeper_laid p _ _ (first_laid lines place t (more u us) (record p { depth = deeper_level p.style.minified p.depth }))
+braced_laid lines place (more t (hole us)) p = deeper_laid p _ _ (first_laid lines place t (hole us) (record p { depth = deeper_level p.style.minified p.depth }))
+braced_laid lines place (hole no_trees) p = ap (layout soft_space) (hole_laid lines place no_trees p)
+braced_laid lines place (hole (more u us)) p = deeper_laid p _ _ (hole_laid lines place (more u us) (record p { depth = deeper_level p.style.minified p.depth }))
+braced_laid lines place (hole (hole us)) p = deeper_laid p _ _ (hole_laid lines place (hole us) (record p { depth = deeper_level p.style.minified p.depth }))
+
+pub inside_braces : {names : Tables} (L : Tokens → Trees → Type 0) (lines : Bool) (place : Place) (ts : Trees) → InsideAt names L lines place ts → InsideOf names L (object_inside ts (members lines ts place)) ts
+inside_braces {names} L lines place ts f p l z b k = subst (λ q. Inside names L p l q ts) (sym (braced_laid lines place ts p)) (inside_braced L lines (elements lines ts place) ts f p l z b k)

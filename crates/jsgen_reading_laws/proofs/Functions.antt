@@ -9,7 +9,7 @@ use Rattle.jsgen_tree.specs.Job.{Tables}
 use Rattle.jsgen_tree.specs.Inside.{binding_named}
 use Rattle.jsgen_tree.specs.Named.{printed_name}
 use Rattle.jsgen_tree.specs.Tree.{Tree, Maybe, absent, given, Trees, no_trees, more, hole, Atoms}
-use Rattle.jsgen_tree.specs.Values.{function_kind, function_is_async, function_generator, function_pife}
+use Rattle.jsgen_tree.specs.Values.{function_kind, function_is_async, function_generator, function_pure, function_pife}
 use Rattle.jsgen_tree.specs.Nodes as tree
 use Rattle.jsgen_tree.specs.declared.functions.FunctionKind.{FunctionKind}
 use Rattle.jsgen_tree.specs.declared.functions.FunctionKind.TheVariants as kinds
@@ -219,8 +219,8 @@ abbrev whole_items : Span → Maybe → Tree → Tree → Place → Items
 whole_items s id t u place = items_from s false false id t u place
 
 -- one that is neither `async` nor a generator
-without_words : (a : Atoms) (kind : FunctionKind) (id : Maybe) (t u : Tree) (place : Place) → function_kind a ≡ kind → IsSynchronous a → function_items kind (function_pife a) place a.span.start (whole_items a.span id t u place) ≡ function_items (function_kind a) (function_pife a) place a.span.start (items_from a.span (function_is_async a) (function_generator a) id t u place)
-without_words a kind id t u place h m = λ i. function_items (sym h i) (function_pife a) place a.span.start (items_from a.span (sym m.0 i) (sym m.1 i) id t u place)
+without_words : (a : Atoms) (kind : FunctionKind) (id : Maybe) (t u : Tree) (place : Place) → function_kind a ≡ kind → IsSynchronous a → function_items kind (function_pure a) (function_pife a) place a.span.start (whole_items a.span id t u place) ≡ function_items (function_kind a) (function_pure a) (function_pife a) place a.span.start (items_from a.span (function_is_async a) (function_generator a) id t u place)
+without_words a kind id t u place h m = λ i. function_items (sym h i) (function_pure a) (function_pife a) place a.span.start (items_from a.span (sym m.0 i) (sym m.1 i) id t u place)
 
 abbrev FunctionAt : Tables → FunctionKind → Tree → Items → Type 0
 FunctionAt names kind t items = (p : Pen) (l : Last) → p.pending_semicolon ≡ false → Knows names p l → GoodFunction names kind p l (layout items p) t

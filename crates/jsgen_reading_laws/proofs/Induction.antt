@@ -20,7 +20,7 @@ use Rattle.jsgen_reading_laws.proofs.Operations.{good_operation}
 use Rattle.jsgen_reading_laws.proofs.Prefixes.{good_unary_operation}
 use Rattle.jsgen_reading_laws.proofs.Chains.{good_logical_operation}
 use Rattle.jsgen_reading_laws.proofs.Constructions.{good_construction}
-use Rattle.jsgen_reading_laws.proofs.Links.{ElementOf, ArgumentsAt, BehindFirstAt, MoreArgumentsAt, LinkPrinted, link_expression, link_super, good_named_member, good_computed_member, good_call, good_element, good_spread, no_arguments, first_of_arguments, none_behind_first, second_argument, no_more_arguments, one_more_argument, named_target, computed_target}
+use Rattle.jsgen_reading_laws.proofs.Links.{ElementOf, ArgumentsAt, BehindFirstAt, LinkPrinted, link_expression, link_super, good_named_member, good_computed_member, good_call, good_element, good_spread, no_arguments, first_of_arguments, none_behind_first, one_more_argument, named_target, computed_target}
 use Rattle.jsgen_reading_laws.proofs.OptionalChains.{ChainPrinted, BasePrinted, base_expression, base_chain, optional_named_member, optional_computed_member, optional_call, further_named_member, further_computed_member, further_call, good_chain}
 use Rattle.jsgen_reading_laws.proofs.Collections.{ElementsOf, no_elements, first_of_elements, left_out_of_elements, good_array, PropertiesOf, no_properties, first_of_properties, good_object}
 use Rattle.jsgen_reading_laws.proofs.Updates.{good_update}
@@ -142,11 +142,7 @@ mutual
 
   behind_first : {names : Tables} {c : Allowed} {es : Trees} → AreArguments names c es → BehindFirstAt names c es
   behind_first {names} {c} family.no_argument = none_behind_first c
-  behind_first {names} {c} (family.first_argument {e} {es} v w) = second_argument c e es (printed_element v) (more_arguments w)
-
-  more_arguments : {names : Tables} {c : Allowed} {es : Trees} → AreArguments names c es → MoreArgumentsAt names c es
-  more_arguments {names} {c} family.no_argument = no_more_arguments c
-  more_arguments {names} {c} (family.first_argument {e} {es} v w) = one_more_argument c e es (printed_element v) (more_arguments w)
+  behind_first {names} {c} (family.first_argument {e} {es} v w) = one_more_argument c e es (printed_element v) (behind_first w)
 
   printed_properties : {names : Tables} {c : Allowed} {ps : Trees} → AreProperties names c ps → PropertiesOf names c ps
   printed_properties {names} {c} family.no_property = no_properties c

@@ -52,5 +52,7 @@ pub mod Methods
 pub mod Arrows
 pub mod Induction
 pub mod Quiet
+pub mod Unmarked
+pub mod Unannotated
 pub mod Reading
 pub mod Normals

@@ -6,7 +6,7 @@ use Rattle.jsgen_syntax.specs.Name.{spells_name}
 use Rattle.jsgen_syntax.proofs.Escapes.{word_text_value}
 use Rattle.jsgen_syntax.specs.declared.precedence.Precedence.TheVariants as levels
 use Rattle.jsgen_tree.specs.Job.{Tables}
-use Rattle.jsgen_tree.specs.Tree.{Tree, Trees, no_trees, more, hole, Atoms}
+use Rattle.jsgen_tree.specs.Tree.{Tree, Trees, no_trees, more, Atoms}
 use Rattle.jsgen_tree.specs.Values.{identifier_name_name, static_member_expression_optional, computed_member_expression_optional, call_expression_optional}
 use Rattle.jsgen_tree.specs.Named.{as_written}
 use Rattle.jsgen_tree.specs.Nodes as tree
@@ -21,14 +21,14 @@ use Rattle.jsgen_model.specs.Renamed.{renamed, renamed_trees}
 use Rattle.jsgen_model.specs.Quotes.{is_require_call, is_definition_call}
 use Rattle.jsgen_place.specs.declared.place.Place.{Place}
 use Rattle.jsgen_place.specs.Place.{within, linked, called, in_brackets, quoted_plainly, wraps, call_wraps, with_calls}
-use Rattle.jsgen_model.specs.Spell.{spell, spell_list, spell_more, spell_arguments, spell_behind_first, name_link, bracket_link}
+use Rattle.jsgen_model.specs.Spell.{spell, spell_arguments, spell_behind_first, name_link, bracket_link}
 use Rattle.jsgen_token_laws.proofs.Characters.{letters_spelled}
 use Rattle.jsgen_token_laws.proofs.Last.{Last, Open, After, line_of, Operand, Ready, begun_ready, Knows}
 use Rattle.jsgen_token_laws.proofs.Writes.{Writes, wrote_none, wrote_both}
 use Rattle.jsgen_token_laws.proofs.Steps.{wrote_word, wrote_written_name, wrote_dot, wrote_dots, within_brackets, brackets_written}
 use Rattle.jsgen_reading_laws.proofs.Levels.{number_of, operation_number, left_hand_side, level_of, under, weaken_member, read_left, lifted, unwrapped, from_left}
 use Rattle.jsgen_reading_laws.proofs.Good.{Good, Printed, TargetAt, TargetPrinted, is_word_alone, may_begin, begins_then, line_then, good_wrapped, PrintedBy, begins_all}
-use Rattle.jsgen_reading_laws.proofs.Lists.{Elements, ElementAt, GivesMore, MoreAt, Joins, none_behind, one_behind, no_more, one_more, first_and_others}
+use Rattle.jsgen_reading_laws.proofs.Lists.{Elements, ElementAt, GivesMore, Joins, none_behind, one_behind, first_and_others}
 
 -- ---- a link behind a member or a call
 
@@ -221,9 +221,6 @@ ArgumentsAt names c es = (first second : Bool) (p : Pen) → p.pending_semicolon
 abbrev pub BehindFirstAt : Tables → Allowed → Trees → Type 0
 BehindFirstAt names c es = (second : Bool) → GivesMore names (ReadsElement (with_in c)) (ReadsArgumentList (with_in c)) (spell_behind_first second es (in_brackets levels.Comma)) es
 
-abbrev pub MoreArgumentsAt : Tables → Allowed → Trees → Type 0
-MoreArgumentsAt names c es = MoreAt names (ReadsElement (with_in c)) (ReadsArgumentList (with_in c)) (in_brackets levels.Comma) es
-
 arguments_join : (c : Allowed) → Joins (ReadsElement c) (ReadsArgumentList c)
 arguments_join c = record { one = λ ts e r. grammar.last_argument r; first = λ mark a b e es r s. grammar.first_argument mark refl r s }
 
@@ -238,25 +235,8 @@ first_of_arguments c e es f m first second p z k =
 pub none_behind_first : {names : Tables} (c : Allowed) → BehindFirstAt names c no_trees
 none_behind_first c second = none_behind (ReadsElement (with_in c)) (ReadsArgumentList (with_in c)) (arguments_join (with_in c)).one
 
-pub second_argument : {names : Tables} (c : Allowed) (e : Tree) (es : Trees) → ElementOf names c e → MoreArgumentsAt names c es → BehindFirstAt names c (more e es)
-second_argument c e es f m second = one_behind (ReadsElement (with_in c)) (ReadsArgumentList (with_in c)) (arguments_join (with_in c)).first e es (spell e (element_place second)) (spell_more es (in_brackets levels.Comma)) (f second) m
-
-pub no_more_arguments : {names : Tables} (c : Allowed) → MoreArgumentsAt names c no_trees
-no_more_arguments c = no_more (ReadsElement (with_in c)) (ReadsArgumentList (with_in c)) (arguments_join (with_in c)) (in_brackets levels.Comma)
-
-pub one_more_argument : {names : Tables} (c : Allowed) (e : Tree) (es : Trees) → ElementOf names c e → MoreArgumentsAt names c es → MoreArgumentsAt names c (more e es)
-one_more_argument c e es f m = one_more (ReadsElement (with_in c)) (ReadsArgumentList (with_in c)) (arguments_join (with_in c)) (in_brackets levels.Comma) e es (f false) m
-
--- where neither test holds they are spelled as any list
-behind_as_list : (es : Trees) → spell_behind_first false es (in_brackets levels.Comma) ≡ spell_more es (in_brackets levels.Comma)
-behind_as_list no_trees = refl
-behind_as_list (more e es) = refl
-behind_as_list (hole es) = behind_as_list es
-
-pub spelled_as_list : (es : Trees) → spell_arguments false false es (in_brackets levels.Comma) ≡ spell_list es (in_brackets levels.Comma)
-spelled_as_list no_trees = refl
-spelled_as_list (more e es) = ap (λ items. spell e (in_brackets levels.Comma) ⊕ items) (behind_as_list es)
-spelled_as_list (hole es) = spelled_as_list es
+pub one_more_argument : {names : Tables} (c : Allowed) (e : Tree) (es : Trees) → ElementOf names c e → BehindFirstAt names c es → BehindFirstAt names c (more e es)
+one_more_argument c e es f m second p l z o k = one_behind (ReadsElement (with_in c)) (ReadsArgumentList (with_in c)) (arguments_join (with_in c)).first e es (spell e (element_place second)) (spell_behind_first false es (in_brackets levels.Comma)) (f second) (m false) p l z o k
 
 -- those of a call
 abbrev pub argument_items : Tree → Trees → Items

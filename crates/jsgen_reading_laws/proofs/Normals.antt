@@ -12,7 +12,7 @@ use Rattle.jsgen_tree.specs.declared.collections.PropertyKind.TheVariants as pro
 use Rattle.jsgen_tree.specs.Nodes as tree
 use Rattle.std.proofs.lemmas.Bool.{both_ways}
 use Rattle.std.proofs.lemmas.Option.{same_Some}
-use Rattle.jsgen_model.specs.Normal.{normal, normal_slots, normal_maybe, normal_trees, normal_maybe_trees, unbraced, nothing_of, by_text, number_text, minus_before, big_integer, is_computed, property_values, is_written_as_method, is_proto_shorthand, chain, same_operator, joined, links, parts_of, flattened, link_values, call_values, function_values, if_set, method_values, as_method, normal_quasi, untagged, by_value, by_values, by_raw_text, by_raw_texts, piece_value, by_its_text, maybe_by_its_text}
+use Rattle.jsgen_model.specs.Normal.{normal, normal_slots, normal_maybe, normal_trees, normal_maybe_trees, unbraced, nothing_of, by_text, number_text, minus_before, big_integer, is_computed, property_values, is_written_as_method, is_proto_shorthand, chain, same_operator, joined, links, parts_of, flattened, link_values, call_values, function_values, if_set, method_values, as_method, normal_quasi, untagged, by_value, by_values, by_raw_text, by_raw_texts, by_its_text, maybe_by_its_text}
 use Rattle.jsgen_model.specs.Renamed.{written_out}
 use Rattle.jsgen_tree.specs.declared.classes.MethodDefinitionKind.{MethodDefinitionKind}
 use Rattle.jsgen_tree.specs.declared.classes.MethodDefinitionKind.TheVariants as method_kinds

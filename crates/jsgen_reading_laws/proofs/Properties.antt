@@ -28,7 +28,7 @@ use Rattle.jsgen_model.specs.declared.fault.TreeFault.{TreeFault}
 use Rattle.jsgen_model.specs.Punctuator.{colon, ellipsis, Square, opening}
 use Rattle.jsgen_model.specs.Numbers.{takes_no_dot, is_big_integer}
 use Rattle.jsgen_model.specs.Tokens.{Tokens, done, piece, group, ◌⧺◌, Word, Number, Quoted, Sign}
-use Rattle.jsgen_model.specs.Items.{Items, ◌⊕◌, where_same, number, string, punctuator, soft_space, nothing}
+use Rattle.jsgen_model.specs.Items.{Items, ◌⊕◌, where_same, number, string, punctuator, soft_space, nothing, before_it}
 use Rattle.jsgen_model.specs.Layout.{Pen, Style, other_end, are_same, layout, written, chosen_quote, but_backticks, with_name}
 use Rattle.jsgen_model.specs.Grammar.{Allowed, ReadsExpression, ReadsKey, ReadsProperty, with_in}
 use Rattle.jsgen_model.specs.Grammar as grammar
@@ -36,7 +36,7 @@ use Rattle.jsgen_model.specs.Normal.{normal, nothing_of, named, unnumbered, by_t
 use Rattle.jsgen_model.specs.Renamed.{renamed}
 use Rattle.jsgen_place.specs.declared.place.Place.{Place}
 use Rattle.jsgen_place.specs.Place.{in_brackets}
-use Rattle.jsgen_model.specs.Spell.{spell, key_text, needs_brackets, key_items, accessor_word, method_or_property, method_words, spell_method, signed, number_items, big_text, big_integer_items, before_value, items_unless, unless_said, is_function}
+use Rattle.jsgen_model.specs.Spell.{spell, key_text, needs_brackets, key_items, accessor_word, method_or_property, method_words, spell_method, signed, number_items, big_text, big_integer_items, before_value, before_expression, items_unless, unless_said, is_function}
 use Rattle.jsgen_model.specs.Valid.{named_faults, shorthand_faults}
 use Rattle.jsgen_token_laws.proofs.Last.{Last, Open, After, line_of, Operand, Begun, begun_ready, Knows}
 use Rattle.jsgen_token_laws.proofs.Writes.{Writes, wrote_both}
@@ -48,7 +48,7 @@ use Rattle.jsgen_reading_laws.proofs.Names.{free_spelled}
 use Rattle.jsgen_reading_laws.proofs.Literals.{Numeral, whole_numeral, raw_numeral, big_numeral, big_whole, good_number}
 use Rattle.jsgen_reading_laws.proofs.Levels.{from_primary}
 use Rattle.jsgen_reading_laws.proofs.Good.{Good, Printed}
-use Rattle.jsgen_reading_laws.proofs.Marks.{mark_if_laid}
+use Rattle.jsgen_reading_laws.proofs.Marks.{mark_if_laid, comments_laid}
 use Rattle.jsgen_reading_laws.proofs.Lists.{Element, ElementAt}
 use Rattle.jsgen_reading_laws.proofs.Asked.{asked}
 use Rattle.jsgen_reading_laws.proofs.Unrenamed.{written_as_it_was, signed_as_it_was}
@@ -276,7 +276,7 @@ abbrev before_items : Atoms → Tree → Tree → Items
 before_items a x v = before_value (object_property_shorthand a) (written_name_in x) (looked_up_in (without_parentheses v)) (key_items (needs_brackets (object_property_computed a) x) x (spell x (in_brackets levels.Comma)))
 
 abbrev pub plain_items : Atoms → Tree → Tree → Items
-plain_items a x v = before_items a x v ⊕ spell v (in_brackets levels.Comma)
+plain_items a x v = before_items a x v ⊕ (before_expression before_it v ⊕ spell v (in_brackets levels.Comma))
 
 pub property_spelled : (p : Pen) (a : Atoms) (x v : Tree) (m : Bool) → is_method (object_property_kind a) (object_property_method a) ≡ m → layout (spell (tree.object_property a x v) (in_brackets levels.Comma)) p ≡ layout (method_or_property m (method_items a x v) (plain_items a x v)) p
 property_spelled p a x v m h = λ i. layout (method_or_property (h i) (method_items a x v) (plain_items a x v)) (mark_if_laid (is_function (type_of v)) a.span p i)
@@ -285,7 +285,7 @@ property_spelled p a x v m h = λ i. layout (method_or_property (h i) (method_it
 property_laid : {names : Tables} (p : Pen) (a : Atoms) (x v : Tree) (short : Bool) → is_method (object_property_kind a) (object_property_method a) ≡ false → p.style.tables ≡ names → is_short names (object_property_shorthand a) x v ≡ short → layout (spell (tree.object_property a x v) (in_brackets levels.Comma)) p ≡ layout (spell v (in_brackets levels.Comma)) (layout (if short then nothing else key_items (needs_brackets (object_property_computed a) x) x (spell x (in_brackets levels.Comma)) ⊕ (punctuator colon ⊕ soft_space)) p)
 property_laid p a x v short m t s =
     let key : Items = key_items (needs_brackets (object_property_computed a) x) x (spell x (in_brackets levels.Comma)) in
-    property_spelled p a x v false m ∙ ap (layout (spell v (in_brackets levels.Comma))) (before_laid p (object_property_shorthand a) (written_name_in x) (looked_up_in (without_parentheses v)) key t ∙ ap (λ y. layout (if y then nothing else key ⊕ (punctuator colon ⊕ soft_space)) p) s)
+    property_spelled p a x v false m ∙ ap (layout (spell v (in_brackets levels.Comma))) (comments_laid before_it v (layout (before_items a x v) p) ∙ (before_laid p (object_property_shorthand a) (written_name_in x) (looked_up_in (without_parentheses v)) key t ∙ ap (λ y. layout (if y then nothing else key ⊕ (punctuator colon ⊕ soft_space)) p) s))
 
 -- an expression that is a reference of this name, in parentheses or not
 record Refers (names : Tables) (t : Tree) (n : Named) : Type 0 where

@@ -1,5 +1,5 @@
--- Of a quiet job no comment waits to be printed, and nothing stands behind its program.
-use Rattle.std.proofs.Common.{◌≡◌, ℕ, Bool, true, false, not, ◌&&◌, List, [], ◌∷◌, ◌⊎◌, inl, inr, filter, map, refl, sym, ap, ◌∙◌, if◌then◌else◌}
+-- Of a quiet job no comment and no annotation waits to be printed, and nothing stands behind its program.
+use Rattle.std.proofs.Common.{◌≡◌, ℕ, Bool, true, false, not, ◌&&◌, List, [], ◌∷◌, inl, inr, filter, map, refl, ap, ◌∙◌, if◌then◌else◌}
 use Rattle.std.proofs.lemmas.Bool.{and_parts, both_ways}
 use Rattle.jsgen_tree.specs.declared.statements.CommentContent.{CommentContent}
 use Rattle.jsgen_tree.specs.declared.statements.CommentContent.TheVariants as contents
@@ -9,7 +9,7 @@ use Rattle.jsgen_tree.specs.Nodes as tree
 use Rattle.jsgen_tree.specs.Options.{Comments, Legal, left_out, inline, at_end, linked, external, is_none, is_inline}
 use Rattle.jsgen_tree.specs.Tree.{Tree, Trees, no_trees, more, hole, Atoms}
 use Rattle.jsgen_tree.specs.Values.{comment_leading, comment_content, comment_attached_to}
-use Rattle.jsgen_model.specs.Comments.{Comment, Store, empty_store, is_wanted, comment_at, kept_at, with_row, with_rows, kept}
+use Rattle.jsgen_model.specs.Comments.{Comment, Store, Groups, empty_store, is_wanted, is_annotation, comment_at, kept_at, with_row, with_rows, with_group, with_annotation, with_annotations}
 use Rattle.jsgen_model.specs.Ends.{firsts, rows_of, licensed, ended}
 use Rattle.jsgen_model.specs.Groups.{is_legal}
 use Rattle.jsgen_model.specs.Layout.{Pen}
@@ -61,6 +61,23 @@ none_kept c off source (more (tree.comment a) ts) store =
 none_kept c off source (more t ts) store = none_kept c off source ts store
 none_kept c off source (hole ts) store = none_kept c off source ts store
 
+no_annotation_wanted : (c : Comments) → are_off c ≡ true → c.annotation ≡ false
+no_annotation_wanted c off =
+    let last = and_parts (not c.normal && not c.jsdoc && not c.annotation) (is_none c.legal) off in
+    unset c.annotation (and_parts (not c.normal && not c.jsdoc) (not c.annotation) last.0).1
+
+unless_annotated : (leads is_one wanted : Bool) (new old : Groups) → wanted ≡ false → (if leads && (is_one && wanted) then new else old) ≡ old
+unless_annotated true true wanted new old h = rw h refl
+unless_annotated true false wanted new old h = refl
+unless_annotated false is_one wanted new old h = refl
+
+no_annotation_kept : (c : Comments) → are_off c ≡ true → (source : List ℕ) (rows : Trees) (groups : Groups) → with_annotations c source rows groups ≡ groups
+no_annotation_kept c off source no_trees groups = refl
+no_annotation_kept c off source (more (tree.comment a) ts) groups =
+    no_annotation_kept c off source ts (with_annotation c source a groups) ∙ unless_annotated (comment_leading a) (is_annotation (comment_content a)) c.annotation (with_group (comment_attached_to a) (comment_at source a ∷ []) groups) groups (no_annotation_wanted c off)
+no_annotation_kept c off source (more t ts) groups = no_annotation_kept c off source ts groups
+no_annotation_kept c off source (hole ts) groups = no_annotation_kept c off source ts groups
+
 -- ---- where the program holds none
 
 none_there : (c : Comments) (source : List ℕ) (rows : Trees) (store : Store) → EverywhereInTrees is_quiet_row rows → with_rows c source rows store ≡ store
@@ -68,6 +85,12 @@ none_there c source no_trees store h = refl
 none_there c source (more (tree.comment a) ts) store h = absurd (both_ways false refl h.0.0)
 none_there c source (more t ts) store h = none_there c source ts store h.1
 none_there c source (hole ts) store h = none_there c source ts store h
+
+no_annotation_there : (c : Comments) (source : List ℕ) (rows : Trees) (groups : Groups) → EverywhereInTrees is_quiet_row rows → with_annotations c source rows groups ≡ groups
+no_annotation_there c source no_trees groups h = refl
+no_annotation_there c source (more (tree.comment a) ts) groups h = absurd (both_ways false refl h.0.0)
+no_annotation_there c source (more t ts) groups h = no_annotation_there c source ts groups h.1
+no_annotation_there c source (hole ts) groups h = no_annotation_there c source ts groups h
 
 no_rows : (rows : Trees) → EverywhereInTrees is_quiet_row rows → rows_of rows ≡ []
 no_rows no_trees h = refl
@@ -84,6 +107,10 @@ rows_quiet t h = tt
 pub no_comment : (job : JobData) → IsQuiet job → (first_pen job).store ≡ empty_store
 no_comment job (inl h) = none_there job.options.comments (source_bytes job) (comments_in job.program) empty_store (rows_quiet job.program h)
 no_comment job (inr off) = none_kept job.options.comments off (source_bytes job) (comments_in job.program) empty_store
+
+pub no_annotation : (job : JobData) → IsQuiet job → (first_pen job).annotations ≡ []
+no_annotation job (inl h) = no_annotation_there job.options.comments (source_bytes job) (comments_in job.program) [] (rows_quiet job.program h)
+no_annotation job (inr off) = no_annotation_kept job.options.comments off (source_bytes job) (comments_in job.program) []
 
 -- what stands at the end, by the rows of comments
 abbrev ends_with : Legal → List ℕ → Pen → List Atoms → Pen

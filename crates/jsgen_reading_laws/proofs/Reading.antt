@@ -30,7 +30,8 @@ use Rattle.jsgen_reading_laws.proofs.Families.{IsProgram}
 use Rattle.jsgen_reading_laws.proofs.Valid.{is_program, program_valid}
 use Rattle.jsgen_reading_laws.proofs.Families as family
 use Rattle.jsgen_reading_laws.proofs.Ends.{due_ends}
-use Rattle.jsgen_reading_laws.proofs.Quiet.{no_comment, no_licence}
+use Rattle.jsgen_reading_laws.proofs.Quiet.{no_comment, no_annotation, no_licence}
+use Rattle.jsgen_reading_laws.proofs.Unannotated.{quiet_annotations}
 use Rattle.jsgen_reading_laws.proofs.Prologue.{whole_body}
 use Rattle.jsgen_reading_laws.proofs.Induction.{body_stated}
 
@@ -67,7 +68,7 @@ pub printed_is_read : (job : JobData) → type_of job.program ≡ types.Program 
 printed_is_read job s v p q =
     let items : Items = spell job.program among_statements in
     let whole : printed job ≡ (lay items (first_pen job)).code = ap (λ (pen : Pen). pen.code) (no_licence job q (lay items (first_pen job))) in
-    let same = whole ∙ (same_text items (first_pen job) (no_comment job q) ∙ ap (λ store. (layout items (record (first_pen job) { store = store })).code) (no_comment job q)) in
+    let same = whole ∙ (same_text items (first_pen job) (no_comment job q) refl (quiet_annotations job q) ∙ (λ i. (layout items (record (first_pen job) { store = no_comment job q i; annotations = no_annotation job q i })).code)) in
     subst (λ text. IsReadAs text job) (sym same) (read_as job.options job.tables job.program (program_valid 0 (surroundings_of job) refl job.program p (ap is_program s) v))
 
 -- the bytes spell the characters that they were made of

@@ -7,7 +7,7 @@ ghost use Rattle.jsgen_printer.specs.Steps.{Lays};
 use jsgen_inside::{Nested, PrintInside};
 use jsgen_lists::print_list;
 use jsgen_place::Place;
-use jsgen_printer::Printer;
+use jsgen_printer::{CommentsBefore, Printer};
 use jsgen_syntax::Precedence;
 use jsgen_tree::{ConditionalExpression, SequenceExpression};
 
@@ -29,6 +29,7 @@ pub fn print_conditional_expression<N, L: PrintInside<N>>(
     p.print_soft_space();
     p.print_question();
     p.print_soft_space();
+    L::print_comments_before(node.consequent.get(), CommentsBefore::ForTools, p);
     L::print(
         node.consequent.get(),
         p,
@@ -37,6 +38,7 @@ pub fn print_conditional_expression<N, L: PrintInside<N>>(
     p.print_soft_space();
     p.print_colon();
     p.print_soft_space();
+    L::print_comments_before(node.alternate.get(), CommentsBefore::All, p);
     L::print(
         node.alternate.get(),
         p,

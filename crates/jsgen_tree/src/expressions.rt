@@ -126,7 +126,7 @@ pub struct CallExpression<N = Node> {
     pub arguments: Vec<Argument<N>>,
     /// The link is `?.`.
     pub optional: bool,
-    /// The call has no effect but its result. Nothing is printed for it.
+    /// The call has no effect but its result, and an annotation says so.
     pub pure: bool,
 }
 

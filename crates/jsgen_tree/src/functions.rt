@@ -58,7 +58,7 @@ pub struct Function<N = Node> {
     pub id: Option<Box<BindingIdentifier>>,
     pub is_async: bool,
     pub generator: bool,
-    /// The function has no effect but its result. Nothing is printed for it.
+    /// The function has no effect but its result, and an annotation says so.
     pub pure: bool,
     /// The function is likely called where it stands, so that it is printed in parentheses.
     pub pife: bool,
@@ -79,7 +79,7 @@ pub struct FunctionBody<N = Node> {
 pub struct ArrowFunctionExpression<N = Node> {
     pub span: Span,
     pub is_async: bool,
-    /// The function has no effect but its result. Nothing is printed for it.
+    /// The function has no effect but its result, and an annotation says so.
     pub pure: bool,
     /// The function is likely called where it stands, so that it is printed in parentheses.
     pub pife: bool,

@@ -34,7 +34,7 @@ pub struct NewExpression<N = Node> {
     pub span: Span,
     pub callee: ExpressionNode<N>,
     pub arguments: Vec<Argument<N>>,
-    /// Making it has no effect but its result. Nothing is printed for it.
+    /// Making it has no effect but its result, and an annotation says so.
     pub pure: bool,
 }
 

@@ -6,11 +6,12 @@ import { tmpdir } from "node:os";
 import { join } from "node:path";
 import { test } from "node:test";
 import { fileURLToPath } from "node:url";
+import { commentsOf } from "../../estree/comments.mjs";
 import { jobOf } from "../../estree/convert.mjs";
 import { difference, normal } from "../../estree/normal.mjs";
 import { parsed } from "../../estree/parser.mjs";
 import { randomProgram } from "../../estree/random.mjs";
-import { commentsKept } from "../kept.mjs";
+import { commentsKept, isAnnotation } from "../kept.mjs";
 import { withComments } from "../random.mjs";
 import { judged } from "../rules.mjs";
 import { uncommented } from "./printing.mjs";
@@ -30,9 +31,14 @@ const RIGHT = [
   ["/* b\r\n c */\na;", "/* b\nc */\na;\n"],
   ["/* </script> */ a;", "/* <\\/script> */\na;\n"],
   ["/* <\\/script> */ a;", "/* <\\/script> */\na;\n"],
-  // dropped: it stands within an expression, or is an annotation of a call
+  // dropped: it stands within an expression
   ["f(/* b */ a);", "f(a);\n"],
-  ["/* @__PURE__ */ f();", "f();\n"],
+  // annotations stand by what they say
+  ["/* @__PURE__ */ f();", "/* @__PURE__ */ f();\n"],
+  ["a = //#__PURE__\nf();", "a = /* @__PURE__ */ f();\n"],
+  ["/* @__PURE__ */ f();", "f();\n", { annotation: false }],
+  ["/* @__NO_SIDE_EFFECTS__ */ function f() {}", "/* @__NO_SIDE_EFFECTS__ */\nfunction f() {}\n"],
+  ["/* @__PURE__ */ a;", "a;\n"],
   // a licence goes on
   ["f(/*! b */ a);", "f(a);\n/*! b */\n"],
   ["f(/*! b */ a);\n// c\nd;", "f(a);\n/*! b */\n// c\nd;\n"],
@@ -64,10 +70,16 @@ test("program: it is the source's", () => {
 test("kept: a comment of the text is one of the source's that are kept", () => {
   assert.deepEqual(faults("a; // b", "a;\n// b\n"), ['kept: "// b" is printed, and isn\'t kept']);
   assert.deepEqual(faults("/* b */ a;", "/* c */ /* b */ a;"), ['kept: "/* c */" is printed, and isn\'t kept']);
-  assert.deepEqual(faults("/* @__PURE__ */ f();", "/* @__PURE__ */ f();"), ['kept: "/* @__PURE__ */" is printed, and isn\'t kept']);
   assert.deepEqual(faults("/* </script> */ a;", "/* </script> */ a;"), ['kept: "/* </script> */" is printed, and isn\'t kept']);
   assert.deepEqual(faults("/* b */ a;", "/* b */ a;", { normal: false }), ['kept: "/* b */" is printed, and isn\'t kept']);
   assert.match(faults("/* b\n c */ a;", "/* b c */ a;")[0], /^kept: "\/\* b c \*\/" /);
+});
+
+test("pure: as many calls are as in the source, and no more functions", () => {
+  assert.deepEqual(faults("/* @__PURE__ */ f();", "f();"), ["pure: 0 calls are pure in the text, and 1 are to be"]);
+  assert.deepEqual(faults("f(/* @__PURE__ */ g());", "/* @__PURE__ */ f(/* @__PURE__ */ g());"), ["pure: 2 calls are pure in the text, and 1 are to be"]);
+  assert.deepEqual(faults("/* @__PURE__ */ f();", "/* @__PURE__ */ f();", { annotation: false }), ["pure: 1 calls are pure in the text, and 0 are to be"]);
+  assert.match(faults("function f() {}", "/* @__NO_SIDE_EFFECTS__ */ function f() {}")[0], /^pure: 1 functions /);
 });
 
 test("once: no comment is printed twice", () => {
@@ -141,10 +153,13 @@ test("a printer that echoes has no fault, and one that drops what it has to prin
     const { kept } = commentsKept(source, tree);
     const starts = kept.map(({ start }) => start);
     const needed = kept.filter(({ isNeeded }) => isNeeded);
-    assert.deepEqual(faults(source, echo(source, tree, new Set(starts))), []);
-    assert.deepEqual(faults(source, echo(source, tree, new Set(needed.map(({ start }) => start)))), []);
+    const rows = commentsOf(source, tree.comments);
+    const annotations = tree.comments.filter((_, at) => isAnnotation(rows[at].content)).map(({ start }) => start);
+    const echoed = (some) => faults(source, echo(source, tree, new Set([...some, ...annotations])));
+    assert.deepEqual(echoed(starts), []);
+    assert.deepEqual(echoed(needed.map(({ start }) => start)), []);
     const gone = needed[seed % needed.length];
-    assert.match(faults(source, echo(source, tree, new Set(needed.filter((one) => one !== gone).map(({ start }) => start)))).join(), /^there: /);
+    assert.match(echoed(needed.filter((one) => one !== gone).map(({ start }) => start)).join(), /^there: /);
   }
 });
 

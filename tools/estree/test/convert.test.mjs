@@ -68,6 +68,25 @@ test("comments have what they say", () => {
   for (const [comment, content] of Object.entries(said)) assert.equal(contentOf(comment), content, comment);
 });
 
+test("an annotation marks the call or the function that it stands before", () => {
+  const marked = (source) => {
+    const program = parsed(source, { comments: true });
+    return jobOf(program, { source, comments: program.comments }).rows.filter((row) => row.pure).map(({ span }) => source.slice(...span));
+  };
+  const pure = {
+    "/* @__PURE__ */ f();": ["f()"], "a = /*#__PURE__*/ new F;": ["new F"], "/* @__PURE__ */ f() + g();": ["f()"], "(/* @__PURE__ */ f()).a;": ["f()"],
+    "/* @__PURE__ */ f().a;": [], "/* @__PURE__ */ f()();": ["f()()"], "/* @__PURE__ */ f() ? a : g();": ["f()"],
+    "f(/* @__PURE__ */ g(), h());": ["g()"], "/* @__PURE__ */ f(), g();": ["f()"], "f(); // @__PURE__": [], "/* @__PURE__ */ a;\nf();": [],
+    "/* @__PURE__ */ function f() {}": [], "/* @__NO_SIDE_EFFECTS__ */ f();": [],
+  };
+  const functions = {
+    "/* @__NO_SIDE_EFFECTS__ */ function f() {}": ["function f() {}"], "/*#__NO_SIDE_EFFECTS__*/ export function f() {}": ["function f() {}"],
+    "export default /* @__NO_SIDE_EFFECTS__ */ () => 1;": ["() => 1"], "/* @__NO_SIDE_EFFECTS__ */ const f = () => 1, g = () => 2;": ["() => 1"],
+    "/* @__NO_SIDE_EFFECTS__ */ let f = () => 1;": [], "a = /* @__NO_SIDE_EFFECTS__ */ async function() {};": ["async function() {}"],
+  };
+  for (const [source, found] of Object.entries({ ...pure, ...functions })) assert.deepEqual(marked(source), found, source);
+});
+
 test("a comment belongs to the next token, behind other comments", () => {
   const starts = (source) => commentRows(source).map(({ attached_to }) => attached_to);
   assert.deepEqual(starts("/*a*/ //b\n /*c*/ d"), [17, 17, 17]);

@@ -16,6 +16,7 @@ SPELL = REPOSITORY / "crates" / "jsgen_model" / "specs" / "Spell.antt"
 LEVELS = "Rattle.jsgen_syntax.specs.declared.precedence.Precedence.TheVariants"
 STEPS = {"statement_begins": "begin_statement", "due_semicolon": "print_due_semicolon", "apart": "print_space_apart"}
 COMMENTS = {"all_of_them": "print_comments", "with_key_annotation": "print_key_comments"}
+BEFORE = {"before_it": "CommentsBefore::All", "annotation_before_it": "CommentsBefore::ForTools"}
 
 # What may be there or not, by what stands before it: the definition that spells it, and the function that prints it.
 GIVEN = {(): ("spell_if_given", "print_if_given"), ("soft_space",): ("spell_apart", "print_apart"),
@@ -132,6 +133,9 @@ class Clause:
 
     def item_comments(self, manner):
         return f"comments {manner} a.span.start"
+
+    def item_before(self, manner, f):
+        return f"before_expression {manner} {variable(f)}"
 
     def item_name(self, f):
         return f"name a.span (as_written {self.value(f)})"
@@ -294,6 +298,10 @@ class Body:
 
     def step_comments(self, manner):
         return self.step(COMMENTS[manner], "node.span.start")
+
+    def step_before(self, manner, f):
+        got = self.call("get")
+        return self.said([got], self.call("print_comments_before", f"L::print_comments_before(node.{f.rust}.get(), {BEFORE[manner]}, p);"))
 
     def step_name(self, f):
         return self.step("print_name", "node.span", f"node.{f.rust}.as_str()")
@@ -506,7 +514,7 @@ def write(table):
             homes = [h for h in functions_by_file(table, crate) if h[0] != f"crate::{file}"]
             homes += [("crate::members", ["Rows", "Leaves"]), ("jsgen_inside", ["PrintInside", "Nested", "print_at_link", "print_body", "print_identifier_reference", "print_binding_identifier"]),
                       ("jsgen_lists", ["print_list"] + [f for _, f in GIVEN.values()]), ("jsgen_place", ["Place"]),
-                      ("jsgen_printer", ["Bracket", "Printer"]), ("jsgen_syntax", ["Precedence"]), ("jsgen_tree", list(table.nodes))]
+                      ("jsgen_printer", ["Bracket", "CommentsBefore", "Printer"]), ("jsgen_syntax", ["Precedence"]), ("jsgen_tree", list(table.nodes))]
             files[f"{at}/src/{file}.rt"] = layout.rust(f"Rows by their spelling: {table.files[file][0].lower()}{table.files[file][1:]}", ghosts, [], homes, "\n\n".join(functions))
             for name, text in found.items():
                 files[f"{at}/proofs/{file}/{name}/Answers.antt"] = answer_file(table, crate, file, name, text)

@@ -4,23 +4,30 @@ ghost use Rattle.std.specs.Option.{unwrap_or};
 ghost use Rattle.std.specs.List.{list_all, list_any};
 ghost use Rattle.std.specs.Str.{chars};
 ghost use Rattle.jsgen_syntax.specs.Raw.{tag_free};
-ghost use Rattle.jsgen_comments.specs.Plain.{comment_plain, group_plain, store_of};
-ghost use Rattle.jsgen_model.specs.Comments.{are_any, left_below, orphans_below};
+ghost use Rattle.jsgen_comments.specs.Plain.{annotations_of, comment_plain, group_plain, store_of};
+ghost use Rattle.jsgen_model.specs.Comments.{are_any, empty_store, left_below, orphans_below};
 ghost use Rattle.jsgen_tree.specs.Options.{legal_plain};
 ghost use Rattle.jsgen_model.specs.Ends.{licensed, each_written, reference};
 ghost use Rattle.jsgen_model.specs.Groups as groups;
 ghost use Rattle.jsgen_model.specs.Groups.{group, group_at, comments_at, orphans_before, has_orphans, orphan_lines_at, empty_body_at, body_of, body_lines, last_byte, ending_at, without_ending, without_group, closing_group, case_begun, case_ended, is_printed, before_group, behind_group, comment_written, text_written, block_lines, block_line, lines_of, opens_block, closes_block, indented_if, indented_here, with_pending_space, one_deeper, at_level, soft_line_ended, is_mid_line, html_close, before_first, before_later, behind, behind_last, ends_line, is_line, is_legal, has_no_newlines, used_up, used_up_if, softly_spaced, space_behind, line_ended, on_new_line, at_line_start, ends_in, with_store};
-ghost use Rattle.jsgen_model.specs.Items.{◌⊕◌, comments, orphans, orphan_lines, empty_body, indentation, all_of_them, with_key_annotation, then_space};
+ghost use Rattle.jsgen_model.specs.Items.{◌⊕◌, comments, orphans, orphan_lines, empty_body, indentation, member_line, member_space, all_of_them, then_space, with_due_space, annotation_before_it, with_key_annotation};
 ghost use Rattle.jsgen_model.specs.Layout.{written, written_if, other_end, led};
-ghost use Rattle.jsgen_model.specs.Lay.{lay, case_mark, before_block};
+ghost use Rattle.jsgen_model.specs.Lay.{lay, case_mark, before_block, is_enclosed, commented_from};
 ghost use Rattle.jsgen_model.specs.Spell.{items_if};
-ghost use Rattle.jsgen_printer.specs.Printer.{pen_of, by_store, lead_of, group_of, level_if, case_behind};
+ghost use Rattle.jsgen_printer.specs.Printer.{pen_of, by_comments, lead_of, manner_of, group_of, level_if, case_behind};
 ghost use Rattle.jsgen_printer.specs.Steps.{has_failed, Goes, Lays};
 
 use super::{Ending, Printer};
 use jsgen_comments::{Comments, Group, first_line, text_of};
 use jsgen_syntax::Span;
 use jsgen_tree::{Comment, CommentContent, CommentKind, LegalComment};
+
+/// Which comments stand before an expression: all, or those of a group that holds an annotation for tools.
+#[derive(Clone, Copy)]
+pub enum CommentsBefore {
+    All,
+    ForTools,
+}
 
 /// What leads to the one statement of a case: to a block, to an empty statement of a span, or to any other.
 #[derive(Clone, Copy)]
@@ -36,7 +43,7 @@ impl<'a> Printer<'a> {
 
     /// The same printer, by which these comments are printed.
     pub fn with_comments(self, comments: Comments<'a>) -> Printer<'a>
-        ensures pen { pen_of result ≡ by_store (store_of comments.entry) (pen_of self.entry) }
+        ensures pen { pen_of result ≡ by_comments (store_of comments.entry) (annotations_of comments.entry) (pen_of self.entry) }
         ensures failed { has_failed result ≡ has_failed self.entry }
     {
         let mut printer = self;
@@ -51,13 +58,13 @@ impl<'a> Printer<'a> {
     // ---- steps
 
     // A line end that minified text has too.
-    fn print_line_end(&mut self)
+    pub(super) fn print_line_end(&mut self)
         ensures { Goes self.old self.new line_ended }
     {
         self.print_str("\n", Ending::Other);
     }
 
-    fn print_indentation_where(&mut self, test: bool)
+    pub(super) fn print_indentation_where(&mut self, test: bool)
         ensures { Goes self.old self.new (indented_if test) }
     {
         if test {
@@ -158,7 +165,7 @@ impl<'a> Printer<'a> {
         }
     }
 
-    fn print_comment(&mut self, source: &str, comment: Comment)
+    pub(super) fn print_comment(&mut self, source: &str, comment: Comment)
         ensures { Goes self.old self.new (comment_written (comment_plain source.now comment)) }
     {
         let text = text_of(source, comment.span);
@@ -206,7 +213,7 @@ impl<'a> Printer<'a> {
     }
 
     // A line end, and the next line's indentation.
-    fn print_line_start(&mut self)
+    pub(super) fn print_line_start(&mut self)
         ensures { Goes self.old self.new (λ pen. indented_here (line_ended pen)) }
     {
         self.print_line_end();
@@ -316,7 +323,7 @@ impl<'a> Printer<'a> {
     // ---- what is taken
 
     // The comments at an offset leave the store.
-    fn take(&mut self, offset: u32) -> Option<Group<'a>>
+    pub(super) fn take(&mut self, offset: u32) -> Option<Group<'a>>
         ensures group { group_of result ≡ group_at offset (pen_of self.old) }
         ensures goes { Goes self.old self.new (without_group offset) }
         ensures failed { has_failed self.new ≡ has_failed self.old }
@@ -336,8 +343,15 @@ impl<'a> Printer<'a> {
         }
     }
 
-    // Whether comments stand at an offset.
-    fn has_comments(&self, offset: u32) -> bool
+    /// Whether comments may wait to be printed.
+    pub fn keeps_comments(&self) -> bool
+        ensures { result ≡ false → (pen_of self.now).store ≡ empty_store }
+    {
+        self.comments.is_some()
+    }
+
+    /// Whether comments stand at an offset.
+    pub fn has_comments(&self, offset: u32) -> bool
         ensures { result ≡ are_any (group_at offset (pen_of self.now)) }
     {
         match &self.comments {
@@ -394,7 +408,7 @@ impl<'a> Printer<'a> {
             let is_behind_slash = self.ends_in(b'/');
             self.print_if(is_behind_slash, " ");
             self.print_taken(offset);
-            self.print_behind_key();
+            self.print_due();
         }
     }
 
@@ -407,7 +421,7 @@ impl<'a> Printer<'a> {
         }
     }
 
-    fn ends_in(&self, byte: u8) -> bool
+    pub(super) fn ends_in(&self, byte: u8) -> bool
         requires { byte < 128 }
         ensures { result ≡ ends_in byte (pen_of self.now) }
     {
@@ -417,8 +431,8 @@ impl<'a> Printer<'a> {
         }
     }
 
-    // What stands behind a property-key annotation.
-    fn print_behind_key(&mut self)
+    // What is due behind comments before an expression.
+    fn print_due(&mut self)
         ensures { Goes self.old self.new (behind_group with_key_annotation) }
     {
         if self.ends_in(b'\n') {
@@ -437,6 +451,88 @@ impl<'a> Printer<'a> {
             self.print_soft_space();
             self.drop_pending_space();
         }
+    }
+
+    /// The comments that belong to this offset, with a space behind them that is due.
+    pub fn print_comments_with_space(&mut self, offset: u32)
+        ensures { Lays self.old self.new (comments with_due_space offset) }
+    {
+        if self.has_comments(offset) {
+            self.print_taken(offset);
+            self.use_pending_space();
+        }
+    }
+
+    /// The comments that belong to this offset, before an expression.
+    pub fn print_comments_before(&mut self, which: CommentsBefore, offset: u32)
+        ensures { Lays self.old self.new (comments (manner_of which) offset) }
+    {
+        if self.has_comments_before(which, offset) {
+            self.print_taken(offset);
+            self.print_due();
+        }
+    }
+
+    fn has_comments_before(&self, which: CommentsBefore, offset: u32) -> bool
+        ensures { result ≡ is_printed (manner_of which) (group_at offset (pen_of self.now)) }
+    {
+        match which {
+            CommentsBefore::All => self.has_comments(offset),
+            CommentsBefore::ForTools => self.has_annotation_for_tools(offset),
+        }
+    }
+
+    fn has_annotation_for_tools(&self, offset: u32) -> bool
+        ensures { result ≡ is_printed annotation_before_it (group_at offset (pen_of self.now)) }
+    {
+        match &self.comments {
+            Some(comments) => comments.has_annotation_for_tools(offset),
+            None => false,
+        }
+    }
+
+    /// What an object begins with, which begins at this offset: a parenthesis where comments stand there, which stand behind it, or
+    /// where a brace may not begin here. Tells whether there is one; `print_closing_if` closes it.
+    pub fn begin_object(&mut self, start: u32) -> bool
+        ensures enclosed { result ≡ is_enclosed start (pen_of self.old) }
+        ensures goes { Goes self.old self.new (commented_from start) }
+    {
+        let stood = self.has_comments(start);
+        let enclosed = self.is_enclosed(start);
+        self.print_opening_if(enclosed);
+        self.print_lined_comments_if(stood, start);
+        enclosed
+    }
+
+    // Whether an object stands in parentheses.
+    fn is_enclosed(&self, start: u32) -> bool
+        ensures { result ≡ is_enclosed start (pen_of self.now) }
+    {
+        self.has_comments(start) || self.bars_brace()
+    }
+
+    fn print_lined_comments_if(&mut self, test: bool, start: u32)
+        ensures { Goes self.old self.new (groups.commented_if test start) }
+    {
+        if test {
+            self.print_lined_comments(start);
+        }
+    }
+
+    /// What stands before a member of an object, which begins at this offset and stands on a line of its own.
+    pub fn print_member_line(&mut self, start: u32)
+        ensures { Lays self.old self.new (member_line start) }
+    {
+        self.print_soft_line();
+        self.print_lined_comments(start);
+    }
+
+    /// The same where it stands on the line of its braces.
+    pub fn print_member_space(&mut self, start: u32)
+        ensures { Lays self.old self.new (member_space start) }
+    {
+        self.print_soft_space();
+        self.print_comments_with_space(start);
     }
 
     /// The comments that belong to smaller offsets and outlive their places.

@@ -1,4 +1,4 @@
-use Rattle.std.proofs.Common.{◌≡◌, ℕ, ◌^◌, ◌<◌, List, Bor, map, length, string_bytes, refl, ap, sym, subst, ◌∙◌}
+use Rattle.std.proofs.Common.{◌≡◌, ℕ, ◌^◌, ◌<◌, List, Bor, map, length, string_bytes, ap, sym, subst, ◌∙◌}
 use Rattle.std.specs.Str.{encode_utf8_all}
 use Rattle.jsgen_map.specs.Plain.{mark_plain}
 use Rattle.jsgen_tree.specs.Plain.{program_plain}
@@ -71,3 +71,29 @@ returns-in-None-clause-map c =
     let lent : c.new-marks.result.source.now ≡ source = ap (λ (s : Bor (List ℕ)). s.now) c.new-marks.ensures.source ∙ c.as_str.ensures.value in
     let printed : pen_of c.in_ok-p.p ≡ laid = c.in_ok-p.ensures ∙ (ap (λ (q : Pen). whole items legal cs (at_depth depth q)) c.with_marks.ensures.pen ∙ ap (λ (q : Pen). whole items legal cs q) (begun c.new-marks.result source depth pen lent c.new-marks.ensures.list)) in
     not_none items legal cs depth source pen (pen_of c.in_ok-p.p) c.into_parts-code.result.1 c.in-None.is c.into_parts-code.ensures.source printed
+
+pub returns-in_ok-map-in-Some-clause-code : goal.returns-in_ok-map-in-Some-clause-code
+returns-in_ok-map-in-Some-clause-code c =
+    let items = spell (program_plain c.args.program.now) among_statements in
+    let source = string_bytes c.args.program.now.source in
+    let pen = pen_of c.args.printer in
+    let depth = c.args.depth in
+    let legal = legal_plain c.args.end.legal.now in
+    let cs = map (comment_plain source) c.args.end.licences.items in
+    let laid : Pen = whole items legal cs (mapped_from depth source pen) in
+    let lent : c.new-marks.result.source.now ≡ source = ap (λ (s : Bor (List ℕ)). s.now) c.new-marks.ensures.source ∙ c.as_str.ensures.value in
+    let printed : pen_of c.in_ok-p.p ≡ laid = c.in_ok-p.ensures ∙ (ap (λ (q : Pen). whole items legal cs (at_depth depth q)) c.with_marks.ensures.pen ∙ ap (λ (q : Pen). whole items legal cs q) (begun c.new-marks.result source depth pen lent c.new-marks.ensures.list)) in
+    c.into_parts-code.ensures.text ∙ ap (λ (q : Pen). encode_utf8_all q.code) printed
+
+pub returns-in-None-clause-code : goal.returns-in-None-clause-code
+returns-in-None-clause-code c =
+    let items = spell (program_plain c.args.program.now) among_statements in
+    let source = string_bytes c.args.program.now.source in
+    let pen = pen_of c.args.printer in
+    let depth = c.args.depth in
+    let legal = legal_plain c.args.end.legal.now in
+    let cs = map (comment_plain source) c.args.end.licences.items in
+    let laid : Pen = whole items legal cs (mapped_from depth source pen) in
+    let lent : c.new-marks.result.source.now ≡ source = ap (λ (s : Bor (List ℕ)). s.now) c.new-marks.ensures.source ∙ c.as_str.ensures.value in
+    let printed : pen_of c.in_ok-p.p ≡ laid = c.in_ok-p.ensures ∙ (ap (λ (q : Pen). whole items legal cs (at_depth depth q)) c.with_marks.ensures.pen ∙ ap (λ (q : Pen). whole items legal cs q) (begun c.new-marks.result source depth pen lent c.new-marks.ensures.list)) in
+    c.into_parts-code.ensures.text ∙ ap (λ (q : Pen). encode_utf8_all q.code) printed

@@ -1,4 +1,4 @@
-use Rattle.std.proofs.Common.{ap, sym, ◌∙◌}
+use Rattle.std.proofs.Common.{ap, ◌∙◌}
 use Rattle.std.specs.Str.{encode_utf8_all}
 use Rattle.jsgen_model.specs.Layout.{Pen}
 use Rattle.jsgen.proofs.mapped.print_unmapped.Goals as goal

@@ -8,5 +8,5 @@ use Rattle.jsgen_lists.proofs.templates.print_substitutions.Given as goal
 -- what was laid out so far, and the expressions and pieces left, give the whole
 abbrev pub invariant-loop-expression : goal.invariant-loop-expression
 invariant-loop-expression g l =
-    let items = λ (es : _) (ps : _). spell_substitutions l.tagged (trees (map g.L.PrintMember.plain es)) (trees (map template_element_row ps)) in
+    let items = λ (es : _) (ps : _). spell_substitutions l.tagged (trees (map g.L.PrintSubstitution.plain es)) (trees (map template_element_row ps)) in
     Towards l.fn.p l.p (items (drop l.expression-index l.expressions) l.left) (items l.expressions l.pieces)

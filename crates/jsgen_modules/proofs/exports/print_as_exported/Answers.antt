@@ -1,8 +1,7 @@
-use Rattle.std.specs.Prelude.{codes}
-use Rattle.jsgen_tree.specs.Rows.{in_module_export_name, binding_identifier_row}
+use Rattle.jsgen_tree.specs.Rows.{in_module_export_name}
 use Rattle.jsgen_place.specs.Place.{plainly}
 use Rattle.jsgen_tree.specs.Tree.{span_of}
-use Rattle.jsgen_model.specs.Items.{◌⊕◌, soft_space, word, comments, then_space}
+use Rattle.jsgen_model.specs.Items.{◌⊕◌, comments, then_space}
 use Rattle.jsgen_model.specs.Spell.{spell, as_name}
 use Rattle.jsgen_printer.proofs.Sequence.{◌⨾◌, nothing_laid}
 use Rattle.jsgen_modules.proofs.Same.{unless_same_laid}

@@ -2,7 +2,7 @@ use Rattle.std.specs.Prelude.{codes}
 use Rattle.jsgen_tree.specs.Rows.{in_module_export_name, binding_identifier_row}
 use Rattle.jsgen_place.specs.Place.{plainly}
 use Rattle.jsgen_model.specs.Items.{◌⊕◌, soft_space, word}
-use Rattle.jsgen_model.specs.Spell.{spell, as_name}
+use Rattle.jsgen_model.specs.Spell.{spell}
 use Rattle.jsgen_printer.proofs.Sequence.{◌⨾◌, nothing_laid}
 use Rattle.jsgen_modules.proofs.Same.{unless_same_laid}
 use Rattle.jsgen_modules.proofs.imports.print_before_name.Goals as goal

@@ -1,4 +1,3 @@
-use Rattle.jsgen_printer.proofs.Sequence.{◌⨾◌}
 use Rattle.jsgen_lists.proofs.Braced.{braces_laid}
 use Rattle.jsgen_nodes.proofs.functions.print_filled_body.Goals as goal
 

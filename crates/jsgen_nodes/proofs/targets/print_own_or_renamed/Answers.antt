@@ -1,9 +1,7 @@
-use Rattle.std.proofs.Common.{◌≡◌, Bool, true, false, if◌then◌else◌, refl, sym, ◌∙◌}
 use Rattle.jsgen_tree.specs.Characters.{characters}
 use Rattle.jsgen_tree.specs.Named.{looked_up, as_written}
 use Rattle.jsgen_model.specs.Items.{name}
 use Rattle.jsgen_model.specs.Spell.{renamed_items}
-use Rattle.jsgen_printer.specs.Printer.{pen_of}
 use Rattle.jsgen_printer.proofs.Sequence.{where_same_laid}
 use Rattle.jsgen_nodes.proofs.Said.{number_given}
 use Rattle.jsgen_nodes.proofs.targets.print_own_or_renamed.Goals as goal

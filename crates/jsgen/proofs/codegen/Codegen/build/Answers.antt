@@ -4,7 +4,7 @@ use Rattle.jsgen_tree.specs.Characters.{characters}
 use Rattle.jsgen_tree.specs.Options.{options_plain}
 use Rattle.jsgen_tree.specs.Plain.{program_plain}
 use Rattle.jsgen_tree.specs.Scoping.{tables_plain}
-use Rattle.jsgen_comments.specs.Plain.{store_of}
+use Rattle.jsgen_comments.specs.Plain.{annotations_of, store_of}
 use Rattle.jsgen_model.specs.Spell.{text_bytes}
 use Rattle.jsgen_printer.specs.Printer.{pen_of}
 use Rattle.jsgen.specs.Codegen.{job_for}
@@ -16,15 +16,15 @@ use Rattle.jsgen.proofs.codegen.Codegen.build.Goals as goal
 -- what each way of printing begins with
 begun_mapped : (c : goal.Joined-options-7) → Built (job_for c.args.self (program_plain c.args.program.now)) c.in_ok-end.end (pen_of c.with_comments-printer.result)
 begun_mapped c =
-    built (job_for c.args.self (program_plain c.args.program.now)) c.in_ok-end.end (pen_of c.args.self.printer) (pen_of c.with_comments-printer.result) (store_of c.in_ok-comments.comments) _ (string_bytes c.args.program.now.source) c.as_str.result.now c.deref.result.now c.args.program.now.comments.items
+    built (job_for c.args.self (program_plain c.args.program.now)) c.in_ok-end.end (pen_of c.args.self.printer) (pen_of c.with_comments-printer.result) (store_of c.in_ok-comments.comments) (annotations_of c.in_ok-comments.comments) _ (string_bytes c.args.program.now.source) c.as_str.result.now c.deref.result.now c.args.program.now.comments.items
     c.with_comments-printer.ensures.pen (c.args.self.fresh c.requires.unprinted) c.as_str.ensures.value (source_is c.args.program.now (options_plain c.args.self.options) (tables_plain c.args.self.tables)) c.deref.ensures.value refl
-    c.in_ok-comments.ensures c.in_ok-end.ensures.legal refl c.in_ok-end.ensures.licences
+    c.in_ok-comments.ensures.store c.in_ok-comments.ensures.annotations c.in_ok-end.ensures.legal refl c.in_ok-end.ensures.licences
 
 begun_plain : (c : goal.Joined-options-9) → Built (job_for c.args.self (program_plain c.args.program.now)) c.in_ok-end.end (pen_of c.with_comments-printer.result)
 begun_plain c =
-    built (job_for c.args.self (program_plain c.args.program.now)) c.in_ok-end.end (pen_of c.args.self.printer) (pen_of c.with_comments-printer.result) (store_of c.in_ok-comments.comments) _ (string_bytes c.args.program.now.source) c.as_str.result.now c.deref.result.now c.args.program.now.comments.items
+    built (job_for c.args.self (program_plain c.args.program.now)) c.in_ok-end.end (pen_of c.args.self.printer) (pen_of c.with_comments-printer.result) (store_of c.in_ok-comments.comments) (annotations_of c.in_ok-comments.comments) _ (string_bytes c.args.program.now.source) c.as_str.result.now c.deref.result.now c.args.program.now.comments.items
     c.with_comments-printer.ensures.pen (c.args.self.fresh c.requires.unprinted) c.as_str.ensures.value (source_is c.args.program.now (options_plain c.args.self.options) (tables_plain c.args.self.tables)) c.deref.ensures.value refl
-    c.in_ok-comments.ensures c.in_ok-end.ensures.legal refl c.in_ok-end.ensures.licences
+    c.in_ok-comments.ensures.store c.in_ok-comments.ensures.annotations c.in_ok-end.ensures.legal refl c.in_ok-end.ensures.licences
 
 pub print_mapped-requires : goal.print_mapped-requires
 print_mapped-requires c = record { source = source_is_short c.args.program.now (options_plain c.args.self.options) (tables_plain c.args.self.tables) c.requires.valid }

@@ -9,6 +9,7 @@ loop-orphan-preserved c =
     c.in_ok-move_outliving.ensures.source c.in_ok-move_outliving.ensures.found c.in_ok-move_outliving.ensures.groups in
     record {
       source = c.in_ok-move_outliving.ensures.source ∙ (c.in-Some.ensures.source ∙ c.loop-orphan.invariant.source);
+      annotations = c.in_ok-move_outliving.ensures.annotations ∙ (c.in-Some.ensures.annotations ∙ c.loop-orphan.invariant.annotations);
       group = step.0 ∙ c.loop-orphan.invariant.group;
       store = step.1 ∙ c.loop-orphan.invariant.store;
     }
