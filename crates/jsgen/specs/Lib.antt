@@ -3,3 +3,4 @@ pub mod Context
 pub mod Answer
 pub mod Mapped
 pub mod Licences
+pub mod Commented

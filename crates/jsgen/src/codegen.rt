@@ -19,6 +19,7 @@ ghost use Rattle.jsgen_model.specs.Valid.{job_breaches, expression_breaches, IsV
 ghost use Rattle.jsgen_check.specs.Verdict.{told};
 ghost use Rattle.jsgen_printer.specs.Printer.{pen_of, by_tables, name_written, unless_empty};
 ghost use Rattle.jsgen_place.specs.Place.{free, at_level};
+ghost use Rattle.jsgen.specs.Commented.{HasComments};
 ghost use Rattle.jsgen.specs.Context.{context_at};
 ghost use Rattle.jsgen.specs.Licences.{job_licences, rows_plain};
 ghost use Rattle.jsgen.specs.Mapped.{HasMap, NamesStandIn};
@@ -353,6 +354,9 @@ impl<'a> Codegen<'a> {
 
         // Where each name stands in the text, the map leads to its place in the source.
         ensures names_stand { IfOk result (λ printed. NamesStandIn (job_for self.entry (program_plain program.now)) printed.map) }
+
+        // Each comment of a statement of the program's own, and each licence, has a place of its own in that text; none has two.
+        ensures comments_stand { IfOk result (λ printed. HasComments (job_for self.entry (program_plain program.now)) (string_bytes printed.code)) }
 
         // The licences that stand in a file of their own, each once.
         ensures licences { IfOk result (λ printed. rows_plain printed.legal_comments.items

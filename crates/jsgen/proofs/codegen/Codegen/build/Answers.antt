@@ -8,7 +8,11 @@ use Rattle.jsgen_comments.specs.Plain.{annotations_of, store_of}
 use Rattle.jsgen_model.specs.Spell.{text_bytes}
 use Rattle.jsgen_printer.specs.Printer.{pen_of}
 use Rattle.jsgen.specs.Codegen.{job_for}
+use Rattle.jsgen_model.specs.Spell.{printed}
+use Rattle.jsgen_comment_laws.proofs.Formed.{program_is_formed}
+use Rattle.jsgen_comment_laws.proofs.Laws.{comments_stand}
 use Rattle.jsgen_reading_laws.proofs.Reading.{read_back}
+use Rattle.jsgen.specs.Commented.{HasComments}
 use Rattle.jsgen.proofs.Built.{Built, apart_is, built, mapped_map, mapped_text, plain_text}
 use Rattle.jsgen.proofs.Maps.{if_any, if_ok, names_stand_in, source_is, source_is_short}
 use Rattle.jsgen.proofs.codegen.Codegen.build.Goals as goal
@@ -68,3 +72,15 @@ returns-clause-reads c =
 
 pub returns-clause-licences : goal.returns-clause-licences
 returns-clause-licences c = if_ok c.print_unmapped.result (λ printed is. is ∙ apart_is (job_for c.args.self (program_plain c.args.program.now)) c.in_ok-end.end (pen_of c.with_comments-printer.result) (begun_plain c)) c.print_unmapped.ensures.apart
+
+pub returns-in-Some-clause-comments_stand : goal.returns-in-Some-clause-comments_stand
+returns-in-Some-clause-comments_stand c =
+    let job = job_for c.args.self (program_plain c.args.program.now) in
+    let source = source_is c.args.program.now (options_plain c.args.self.options) (tables_plain c.args.self.tables) in
+    if_ok {Q = λ answer. HasComments job (string_bytes answer.code)} c.print_mapped.result (λ answer is. record { text = printed job; is = is ∙ mapped_text job c.in_ok-end.end (pen_of c.with_comments-printer.result) _ (begun_mapped c) source; stand = comments_stand job (program_is_formed c.args.program.now) c.requires.valid }) c.print_mapped.ensures.code
+
+pub returns-clause-comments_stand : goal.returns-clause-comments_stand
+returns-clause-comments_stand c =
+    let job = job_for c.args.self (program_plain c.args.program.now) in
+    let source = source_is c.args.program.now (options_plain c.args.self.options) (tables_plain c.args.self.tables) in
+    if_ok {Q = λ answer. HasComments job (string_bytes answer.code)} c.print_unmapped.result (λ answer is. record { text = printed job; is = is ∙ plain_text job c.in_ok-end.end (pen_of c.with_comments-printer.result) _ (begun_plain c) source; stand = comments_stand job (program_is_formed c.args.program.now) c.requires.valid }) c.print_unmapped.ensures.code

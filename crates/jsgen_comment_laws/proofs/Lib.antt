@@ -1,0 +1,9 @@
+pub mod Counts
+pub mod Writes
+pub mod Stores
+pub mod Steps
+pub mod Kept
+pub mod Takes
+pub mod Members
+pub mod Laws
+pub mod Formed

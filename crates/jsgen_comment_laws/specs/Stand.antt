@@ -1,0 +1,96 @@
+-- The comments of a program that are kept, and the places where their texts stand.
+use Rattle.std.specs.Prelude.{◌≡◌, ⊤, ℕ, ◌+◌, ◌≤◌, nat_le, List, [], ◌∷◌, ◌++◌, map, Bool, true, false, ◌&&◌, ◌||◌, ◌==◌}
+use Rattle.std.specs.List.{filter}
+use Rattle.jsgen_tree.specs.Job.{JobData}
+use Rattle.jsgen_tree.specs.Options as options
+use Rattle.jsgen_tree.specs.Tree.{Tree, Trees, no_trees, more, hole, Atoms, span_of}
+use Rattle.jsgen_tree.specs.Nodes as tree
+use Rattle.jsgen_tree.specs.Values.{comment_content, comment_leading, comment_attached_to}
+use Rattle.jsgen_model.specs.Comments.{Comment, comment_at, is_wanted, is_outliving}
+use Rattle.jsgen_model.specs.Ends.{rows_of, ended}
+use Rattle.jsgen_model.specs.Groups.{comment_written}
+use Rattle.jsgen_model.specs.Layout.{Pen}
+use Rattle.jsgen_model.specs.Spell.{comments_in, source_bytes}
+
+-- ---- which comments are kept
+
+-- a comment with the offset that it belongs to
+pub record Waiting : Type 0 where
+  pub offset : ℕ
+  pub comment : Comment
+
+-- it belongs to what follows it, and the options want it
+abbrev pub is_kept : options.Comments → Atoms → Bool
+is_kept o a = comment_leading a && is_wanted o (comment_content a)
+
+abbrev pub waiting_row : List ℕ → Atoms → Waiting
+waiting_row source a = record { offset = comment_attached_to a; comment = comment_at source a }
+
+-- those of a job's program, in the order in which it has them
+abbrev pub kept_comments : JobData → List Waiting
+kept_comments job = map (waiting_row (source_bytes job)) (filter (is_kept job.options.comments) (rows_of (comments_in job.program)))
+
+-- ---- how many they are
+
+abbrev pub one_if : Bool → ℕ
+one_if true = 1
+one_if false = 0
+
+-- how many of them pass a test
+abbrev pub count : (Waiting → Bool) → List Waiting → ℕ
+count test [] = 0
+count test (w ∷ ws) = one_if (test w) + count test ws
+
+-- ---- where they stand
+
+-- what a comment adds to the code of a pen, whatever that pen is
+abbrev pub IsTextOf : Comment → List ℕ → Type 0
+IsTextOf c text = (pen : Pen) × ((comment_written c pen).code ≡ pen.code ++ text)
+
+-- a place in a text, and the comment's own text there
+pub record Place (text : List ℕ) (c : Comment) : Type 0 where
+  pub before : List ℕ
+  pub own : List ℕ
+  pub rest : List ℕ
+  pub is : text ≡ before ++ (own ++ rest)
+  pub its : IsTextOf c own
+
+-- a place for each of some comments, each behind the one before
+abbrev pub Stand : List ℕ → List Comment → Type 0
+Stand text [] = ⊤
+Stand text (c ∷ cs) = (place : Place text c) × Stand place.rest cs
+
+-- ---- those that have to stand in the text of a program
+
+-- it belongs to the start of one of these
+abbrev pub is_before : Trees → Waiting → Bool
+is_before no_trees w = false
+is_before (more t ts) w = (w.offset == (span_of t).start) || is_before ts w
+is_before (hole ts) w = is_before ts w
+
+-- it belongs to a directive or a statement of the program's own, or outlives its place (as licences do) and belongs to an offset up to the program's end
+abbrev pub has_to_stand : Tree → Waiting → Bool
+has_to_stand (tree.program a rows hashbang directives body) w = (is_before directives w || is_before body w) || (is_outliving w.comment && nat_le w.offset a.span.end)
+has_to_stand t w = false
+
+-- ---- the end of a text
+
+-- what stands behind a program's text: what its end adds to the code of a pen, whatever that pen is
+abbrev pub IsEndOf : JobData → List ℕ → Type 0
+IsEndOf job text = (pen : Pen) × ((ended job.options.comments.legal (source_bytes job) (comments_in job.program) pen).code ≡ pen.code ++ text)
+
+-- ---- the whole
+
+-- A text is that of the program, and what stands behind it. In that of the program some of the job's comments are printed, each of these
+-- once and at a place of its own, in this order; all that have to stand are among them
+pub record CommentsStandIn (job : JobData) (text : List ℕ) : Type 0 where
+  pub body : List ℕ
+  pub end : List ℕ
+  pub is : text ≡ body ++ end
+  pub ends : IsEndOf job end
+  pub printed : List Waiting
+  pub stand : Stand body (map (λ w. w.comment) printed)
+  -- by any test there are no more of them than are kept
+  pub once : (test : Waiting → Bool) → count test printed ≤ count test (kept_comments job)
+  -- and of those that have to stand as many
+  pub all : (test : Waiting → Bool) → count (λ w. has_to_stand job.program w && test w) printed ≡ count (λ w. has_to_stand job.program w && test w) (kept_comments job)

@@ -1,0 +1,10 @@
+//! Laws on comments, over all items of the layout. Nothing here runs, and no printer is mentioned.
+#![tactic(auto)]
+
+ghost use Rattle.jsgen_comment_laws.specs.Law.{CommentsStand};
+
+/// Each comment that belongs to a statement of a program's own, and each licence up to its end, has a place of its own in the text of
+/// a valid job, and no comment is printed twice.
+pub fn comments_stand()
+    ensures { CommentsStand }
+{}
