@@ -1,5 +1,6 @@
 -- The store of a program's comments: it holds those that are kept, each once.
-use Rattle.std.specs.Prelude.{⊤}
+use Rattle.std.specs.Prelude.{⊤, All, Contains}
+use Rattle.std.proofs.lemmas.List.Elements.{All-head, All-tail, All-contains_itself}
 use Rattle.std.proofs.Common.{◌≡◌, ℕ, ◌+◌, ◌≤◌, ◌<◌, ◌⊎◌, inl, inr, Bool, true, false, ◌&&◌, ◌||◌, ◌==◌, nat_lt, cond, if◌then◌else◌, List, [], ◌∷◌, ◌++◌, map, refl, sym, ap, subst, ◌∙◌, arith}
 use Rattle.std.specs.List.{filter}
 use Rattle.std.proofs.lemmas.Bool.{eqb-true, eqb-false, ltb-true, ltb-false, or_parts, or_from}
@@ -8,9 +9,14 @@ use Rattle.jsgen_tree.specs.Options as options
 use Rattle.jsgen_tree.specs.Tree.{Tree, node, Trees, no_trees, more, hole, Atoms}
 use Rattle.jsgen_tree.specs.Nodes as tree
 use Rattle.jsgen_tree.specs.Values.{comment_content, comment_leading, comment_attached_to}
-use Rattle.jsgen_model.specs.Comments.{Comment, Groups, Store, empty_store, there, without, with_group, outlives, is_outliving, is_wanted, comment_at, with_offset, kept_at, with_row, with_rows, kept}
+use Rattle.jsgen_model.specs.Comments.{Comment, Groups, Store, empty_store, there, without, with_group, outlives, is_outliving, is_wanted, comment_at, with_offset, kept_at, with_row, with_rows, kept, with_annotations, kept_annotations}
 use Rattle.jsgen_model.specs.Ends.{rows_of}
-use Rattle.jsgen_comment_laws.specs.Stand.{Waiting, one_if, count, is_kept, waiting_row}
+use Rattle.jsgen_comment_laws.specs.Stand.{Waiting, one_if, count, is_kept, is_kept_annotation, waiting_row}
+use Rattle.jsgen_syntax.specs.Buffer.{indent_code}
+use Rattle.jsgen_syntax.specs.declared.buffer.IndentChar.{IndentChar}
+use Rattle.jsgen_syntax.specs.declared.buffer.IndentChar.TheVariants as indents
+use Rattle.jsgen_comment_laws.specs.Woven.{is_white}
+use Rattle.jsgen_comment_laws.proofs.Held.{EveryIn, every_there, every_without, every_with, every_both}
 use Rattle.jsgen_comment_laws.proofs.Counts.{waiting, waiting_at, waiting_in, is_at, count_append, lacks, from_without, from_with, above, count_taken, count_with}
 use Rattle.jsgen_comment_laws.proofs.Stores.{Rises, is_in, outlives_at, Covers, Sound}
 
@@ -109,3 +115,50 @@ kept_is_sound o source rows = (rows_grow o source rows empty_store empty_is_soun
 
 pub kept_are : (test : Waiting → Bool) (o : options.Comments) (source : List ℕ) (rows : Trees) → count test (waiting_in (kept o source rows).groups) ≡ count test (map (waiting_row source) (filter (is_kept o) (rows_of rows)))
 kept_are test o source rows = let all = (rows_grow o source rows empty_store empty_is_sound).all test in omega (arith, all)
+
+-- ---- each is one of them
+
+module _ (P : Waiting → Type 0) where
+  abbrev AllOf : List Waiting → Type 0
+  AllOf [] = ⊤
+  AllOf (w ∷ ws) = P w × AllOf ws
+
+  one_more_every : (o : ℕ) (c : Comment) (s : Store) → P (waiting o c) → EveryIn P s.groups → EveryIn P (kept_at o c s).groups
+  one_more_every o c s one h = every_with P o (there o s.groups ++ c ∷ []) (without o s.groups) (every_both P o (there o s.groups) (c ∷ []) (every_there P o s.groups h) (one, tt)) (every_without P o s.groups h)
+
+  every_row : (o : options.Comments) (source : List ℕ) (rows : Trees) (s : Store) → AllOf (map (waiting_row source) (filter (is_kept o) (rows_of rows))) → EveryIn P s.groups → EveryIn P (with_rows o source rows s).groups
+  every_row o source no_trees s k h = h
+  every_row o source (more (tree.comment a) ts) s k h = by (is_kept o a) (every_row o source ts) k
+    where
+      by : (b : Bool) → ((t : Store) → AllOf (map (waiting_row source) (filter (is_kept o) (rows_of ts))) → EveryIn P t.groups → EveryIn P (with_rows o source ts t).groups) → AllOf (map (waiting_row source) (cond b (a ∷ filter (is_kept o) (rows_of ts)) (filter (is_kept o) (rows_of ts)))) → EveryIn P (with_rows o source ts (if b then kept_at (comment_attached_to a) (comment_at source a) s else s)).groups
+      by true rest k = rest (kept_at (comment_attached_to a) (comment_at source a) s) k.1 (one_more_every (comment_attached_to a) (comment_at source a) s k.0 h)
+      by false rest k = rest s k h
+  every_row o source (more t ts) s k h = every_row o source ts s k h
+  every_row o source (hole ts) s k h = every_row o source ts s k h
+
+  every_annotation : (o : options.Comments) (source : List ℕ) (rows : Trees) (gs : Groups) → AllOf (map (waiting_row source) (filter (is_kept_annotation o) (rows_of rows))) → EveryIn P gs → EveryIn P (with_annotations o source rows gs)
+  every_annotation o source no_trees gs k h = h
+  every_annotation o source (more (tree.comment a) ts) gs k h = by (is_kept_annotation o a) (every_annotation o source ts) k
+    where
+      by : (b : Bool) → ((hs : Groups) → AllOf (map (waiting_row source) (filter (is_kept_annotation o) (rows_of ts))) → EveryIn P hs → EveryIn P (with_annotations o source ts hs)) → AllOf (map (waiting_row source) (cond b (a ∷ filter (is_kept_annotation o) (rows_of ts)) (filter (is_kept_annotation o) (rows_of ts)))) → EveryIn P (with_annotations o source ts (if b then with_group (comment_attached_to a) (comment_at source a ∷ []) gs else gs))
+      by true rest k = rest (with_group (comment_attached_to a) (comment_at source a ∷ []) gs) k.1 (every_with P (comment_attached_to a) (comment_at source a ∷ []) gs (k.0, tt) h)
+      by false rest k = rest gs k h
+  every_annotation o source (more t ts) gs k h = every_annotation o source ts gs k h
+  every_annotation o source (hole ts) gs k h = every_annotation o source ts gs k h
+
+  all_of : (ws : List Waiting) → All P ws → AllOf ws
+  all_of [] h = tt
+  all_of (w ∷ ws) h = (All-head P w ws h, all_of ws (All-tail P w ws h))
+
+all_contained : (ws : List Waiting) → AllOf (Contains ws) ws
+all_contained ws = all_of (Contains ws) ws (All-contains_itself ws)
+
+pub all_kept : (o : options.Comments) (source : List ℕ) (rows : Trees) → EveryIn (Contains (map (waiting_row source) (filter (is_kept o) (rows_of rows)))) (kept o source rows).groups
+all_kept o source rows = every_row (Contains (map (waiting_row source) (filter (is_kept o) (rows_of rows)))) o source rows empty_store (all_contained (map (waiting_row source) (filter (is_kept o) (rows_of rows)))) tt
+
+pub all_annotations : (o : options.Comments) (source : List ℕ) (rows : Trees) → EveryIn (Contains (map (waiting_row source) (filter (is_kept_annotation o) (rows_of rows)))) (kept_annotations o source rows)
+all_annotations o source rows = every_annotation (Contains (map (waiting_row source) (filter (is_kept_annotation o) (rows_of rows)))) o source rows [] (all_contained (map (waiting_row source) (filter (is_kept_annotation o) (rows_of rows)))) tt
+
+pub indent_is_white : (c : IndentChar) → is_white (indent_code c) ≡ true
+indent_is_white indents.Tab = refl
+indent_is_white indents.Space = refl

@@ -17,12 +17,15 @@ use Rattle.jsgen_model.specs.Lay.{lay}
 use Rattle.jsgen_model.specs.Plain.{is_formed}
 use Rattle.jsgen_model.specs.Valid.{Surroundings, breaches, IsValid, surroundings_of}
 use Rattle.jsgen_model.specs.Spell.{spell, spell_if_given, spell_directives, spell_body, comments_in, source_bytes, first_pen, printed}
-use Rattle.jsgen_comment_laws.specs.Stand.{Waiting, Stand, one_if, count, has_to_stand, is_before, kept_comments, CommentsStandIn}
+use Rattle.jsgen_comment_laws.specs.Stand.{Waiting, Stand, one_if, count, has_to_stand, is_before, kept_comments, annotation_comments}
+use Rattle.jsgen_comment_laws.specs.Woven.{dark_of, bones, Woven}
+use Rattle.jsgen_comment_laws.specs.Law.{CommentsStandIn}
 use Rattle.jsgen_comment_laws.proofs.Counts.{waiting_in, is_at, count_both}
-use Rattle.jsgen_comment_laws.proofs.Writes.{Writes, writes_licences, writes_group, stand_both}
-use Rattle.jsgen_comment_laws.proofs.Stores.{Sound, Goes, Accounts, outlives_at, NoneBelow, keeps, goes_then, none_below}
-use Rattle.jsgen_comment_laws.proofs.Steps.{lay_goes}
-use Rattle.jsgen_comment_laws.proofs.Kept.{kept_is_sound, kept_are}
+use Rattle.jsgen_comment_laws.proofs.Writes.{Writes, adds_licences, writes_group, stand_both}
+use Rattle.jsgen_comment_laws.proofs.Stores.{Sound, outlives_at, none_below}
+use Rattle.jsgen_comment_laws.proofs.Weaves.{Held}
+use Rattle.jsgen_comment_laws.proofs.Steps.{lay_does, lay_goes}
+use Rattle.jsgen_comment_laws.proofs.Kept.{kept_is_sound, kept_are, all_kept, all_annotations, indent_is_white}
 use Rattle.jsgen_comment_laws.proofs.Takes.{NoneAt, NoneBefore, stays_gone, takes_comments, count_either, none_passes, body_taken, directives_taken}
 use Rattle.jsgen_comment_laws.proofs.Members.{members}
 
@@ -76,7 +79,7 @@ ends_without n p h q l = by (cases_order q n)
     s2 = (lay_goes due_semicolon p1 s1).sound
 
     gone : q < n → count (outlives_at q) (waiting_in p1.store.groups) ≡ 0
-    gone k = subst (λ s. count (outlives_at q) (waiting_in s.groups) ≡ 0) (sym (writes_group true (orphans_below n p.store) (with_store (left_below n p.store) p)).store) (none_below n p.store h q k)
+    gone k = subst (λ s. count (outlives_at q) (waiting_in s.groups) ≡ 0) (sym (writes_group true (orphans_below n p.store) (with_store (left_below n p.store) p)).adds.store) (none_below n p.store h q k)
 
     by : (q ≡ n) ⊎ ((q < n) ⊎ (n < q)) → count (outlives_at q) (waiting_in (lay (comments all_of_them n) p2).store.groups) ≡ 0
     by (inl e) = subst (λ m. count (outlives_at m) (waiting_in (lay (comments all_of_them n) p2).store.groups) ≡ 0) (sym e) ((takes_comments n).none p2 s2 (λ w. is_outliving w.comment))
@@ -114,25 +117,32 @@ none_left next around t formed e p h f = none_passes f (waiting_in (lay (spell t
 
 pub comments_stand : (job : JobData) → Everywhere is_formed job.program → IsValid job → CommentsStandIn job (printed job)
 comments_stand job formed valid =
+    let o = job.options.comments in
+    let source = source_bytes job in
+    let rows = comments_in job.program in
     let p : Pen = first_pen job in
     let items = spell job.program among_statements in
     let q : Pen = lay items p in
-    let sound = kept_is_sound job.options.comments (source_bytes job) (comments_in job.program) in
-    let a = lay_goes items p sound in
-    let end = writes_licences job.options.comments.legal (map (comment_at (source_bytes job)) (moved_licences job.options.comments.legal (source_bytes job) (comments_in job.program))) q in
+    let sound = kept_is_sound o source rows in
+    let d = lay_does (kept_comments job) (annotation_comments job) items p in
+    let a = d.goes sound in
+    let held : Held (kept_comments job) (annotation_comments job) p = record { store = all_kept o source rows; annotations = all_annotations o source rows; white = indent_is_white job.options.indent_char } in
+    let end = adds_licences o.legal (map (comment_at source) (moved_licences o.legal source rows)) q in
     let none = none_left 0 (surroundings_of job) job.program formed valid p sound in
+    let v = d.weaves held in
     record {
       body = a.text;
       end = end.text;
       is = end.code ∙ ap (λ x. x ++ end.text) a.code;
       ends = (q, end.code);
-      printed = a.printed;
+      comments = a.printed;
       stand = a.stand;
-      once = λ test. let all = a.all test in let kept = kept_are test job.options.comments (source_bytes job) (comments_in job.program) in omega (arith, all, kept);
+      once = λ test. let all = a.all test in let kept = kept_are test o source rows in omega (arith, all, kept);
       all = λ test.
           let asked = λ (w : Waiting). has_to_stand job.program w && test w in
           let all = a.all asked in
-          let kept = kept_are asked job.options.comments (source_bytes job) (comments_in job.program) in
+          let kept = kept_are asked o source rows in
           let left = none test in
           omega (arith, all, kept, left);
+      woven = subst (λ t. Woven (kept_comments job) (annotation_comments job) (bones items p) (dark_of t)) (sym v.code ∙ a.code) v.woven;
     }

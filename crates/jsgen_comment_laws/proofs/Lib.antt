@@ -1,9 +1,12 @@
 pub mod Counts
 pub mod Writes
 pub mod Stores
+pub mod Held
+pub mod Weaves
+pub mod Annotations
 pub mod Steps
 pub mod Kept
 pub mod Takes
 pub mod Members
-pub mod Laws
 pub mod Formed
+pub mod Laws

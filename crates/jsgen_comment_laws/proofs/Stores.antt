@@ -8,7 +8,7 @@ use Rattle.jsgen_model.specs.Groups.{group_at, without_group, with_store, ending
 use Rattle.jsgen_model.specs.Layout.{Pen}
 use Rattle.jsgen_comment_laws.specs.Stand.{Waiting, Place, Stand, count}
 use Rattle.jsgen_comment_laws.proofs.Counts.{waiting, waiting_at, waiting_in, is_at, count_append, count_both, From, from_less, from_without, from_without_outliving, count_taken, count_without_outliving, none_outlives}
-use Rattle.jsgen_comment_laws.proofs.Writes.{Writes, stand_both}
+use Rattle.jsgen_comment_laws.proofs.Writes.{Adds, Writes, stand_both}
 
 -- ---- stores
 
@@ -56,7 +56,7 @@ comments_at_offset o (c ∷ cs) = ap (λ ds. c ∷ ds) (comments_at_offset o cs)
 pub comments_both : (vs ws : List Waiting) → comments_of (vs ++ ws) ≡ comments_of vs ++ comments_of ws
 comments_both vs ws = map-append (λ w. w.comment) vs ws
 
-found_are : (n : ℕ) (os : List ℕ) (gs : Groups) → comments_of (found_at n os gs) ≡ orphans_at n os gs
+pub found_are : (n : ℕ) (os : List ℕ) (gs : Groups) → comments_of (found_at n os gs) ≡ orphans_at n os gs
 found_are n [] gs = refl
 found_are n (o ∷ os) gs = by (found_are n os (without_outliving o gs)) (nat_lt o n)
   where
@@ -145,9 +145,14 @@ pub one_goes : (test : Bool) {p a b : Pen} → Goes p a → Goes p b → Goes p 
 one_goes true h k = h
 one_goes false h k = k
 
--- nothing leaves the store
-pub keeps : {p q : Pen} → Writes [] p q → Goes p q
-keeps {p} {q} w h = record {
+-- text behind the code, and nothing leaves the store
+pub record Texts (p q : Pen) : Type 0 where
+  pub text : List ℕ
+  pub code : q.code ≡ p.code ++ text
+  pub store : q.store ≡ p.store
+
+pub keeps_texts : {p q : Pen} → Texts p q → Goes p q
+keeps_texts {p} {q} w h = record {
   text = w.text;
   code = w.code;
   printed = [];
@@ -156,15 +161,21 @@ keeps {p} {q} w h = record {
   sound = subst Sound (sym w.store) h;
 }
 
+pub keeps_adds : {p q : Pen} → Adds p q → Goes p q
+keeps_adds w = keeps_texts (record { text = w.text; code = w.code; store = w.store })
+
+pub keeps : {p q : Pen} → Writes [] p q → Goes p q
+keeps w = keeps_adds w.adds
+
 -- the group at an offset leaves it, and is printed
 pub prints_taken : (o : ℕ) (p q : Pen) → Writes (group_at o p) (without_group o p) q → Goes p q
 prints_taken o p q w h = record {
-  text = w.text;
-  code = w.code;
+  text = w.adds.text;
+  code = w.adds.code;
   printed = waiting_at o (group_at o p);
-  stand = subst (λ cs. Stand w.text cs) (sym (comments_at_offset o (group_at o p))) w.stand;
-  all = λ test. let left = ap (λ s. count test (waiting_in s.groups)) w.store in let all = count_taken test o p.store.groups in omega (arith, left, all);
-  sound = subst Sound (sym w.store) (sound_taken o p.store h);
+  stand = subst (λ cs. Stand w.adds.text cs) (sym (comments_at_offset o (group_at o p))) w.stand;
+  all = λ test. let left = ap (λ s. count test (waiting_in s.groups)) w.adds.store in let all = count_taken test o p.store.groups in omega (arith, left, all);
+  sound = subst Sound (sym w.adds.store) (sound_taken o p.store h);
 }
 
 -- orphans do
@@ -173,12 +184,12 @@ prints_orphans o p q w h =
     let found = found_at o p.store.orphans p.store.groups in
     let left = leaves o 0 p.store.orphans p.store.groups h.groups h.orphans h.covers in
     record {
-      text = w.text;
-      code = w.code;
+      text = w.adds.text;
+      code = w.adds.code;
       printed = found;
-      stand = subst (λ cs. Stand w.text cs) (sym (found_are o p.store.orphans p.store.groups)) w.stand;
-      all = λ test. let same = ap (λ s. count test (waiting_in s.groups)) w.store in let all = left.all test in omega (arith, same, all);
-      sound = subst Sound (sym w.store) left.sound;
+      stand = subst (λ cs. Stand w.adds.text cs) (sym (found_are o p.store.orphans p.store.groups)) w.stand;
+      all = λ test. let same = ap (λ s. count test (waiting_in s.groups)) w.adds.store in let all = left.all test in omega (arith, same, all);
+      sound = subst Sound (sym w.adds.store) left.sound;
     }
 
 -- behind them none that outlives its place is left at smaller offsets
@@ -191,17 +202,17 @@ holds o p q r a w h = held (a (sound_taken o p.store h))
   where
     held : Accounts (without_group o p) q → Accounts p r
     held a = record {
-      text = a.text ++ w.text;
-      code = w.code ∙ (ap (λ x. x ++ w.text) a.code ∙ append_assoc p.code a.text w.text);
+      text = a.text ++ w.adds.text;
+      code = w.adds.code ∙ (ap (λ x. x ++ w.adds.text) a.code ∙ append_assoc p.code a.text w.adds.text);
       printed = a.printed ++ waiting_at o (group_at o p);
-      stand = subst (λ cs. Stand (a.text ++ w.text) cs) (sym (comments_both a.printed (waiting_at o (group_at o p)) ∙ ap (λ cs. comments_of a.printed ++ cs) (comments_at_offset o (group_at o p)))) (stand_both a.text w.text (comments_of a.printed) (group_at o p) a.stand w.stand);
+      stand = subst (λ cs. Stand (a.text ++ w.adds.text) cs) (sym (comments_both a.printed (waiting_at o (group_at o p)) ∙ ap (λ cs. comments_of a.printed ++ cs) (comments_at_offset o (group_at o p)))) (stand_both a.text w.adds.text (comments_of a.printed) (group_at o p) a.stand w.stand);
       all = λ test.
-          let same = ap (λ s. count test (waiting_in s.groups)) w.store in
+          let same = ap (λ s. count test (waiting_in s.groups)) w.adds.store in
           let taken = count_taken test o p.store.groups in
           let rest = a.all test in
           let both = count_append test a.printed (waiting_at o (group_at o p)) in
           omega (arith, same, taken, rest, both);
-      sound = subst Sound (sym w.store) a.sound;
+      sound = subst Sound (sym w.adds.store) a.sound;
     }
 
 pub holds_last : (last : Option ℕ) (p q r : Pen) → Goes (without_ending last p) q → Writes (ending_at last p) q r → Goes p r

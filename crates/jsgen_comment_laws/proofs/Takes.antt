@@ -52,7 +52,7 @@ pub takes_comments : (o : ℕ) → Takes o (comments all_of_them o)
 takes_comments o = record { none = λ p h. by p h (are_any (group_at o p)) refl }
   where
     by : (p : Pen) → Sound p.store → (b : Bool) → are_any (group_at o p) ≡ b → NoneAt o (printed_if b all_of_them o p).store.groups
-    by p h true e f = subst (λ s. count (λ w. is_at o w && f w) (waiting_in s.groups) ≡ 0) (sym (writes_group false (group_at o p) (without_group o p)).store) (none_left f o 0 p.store.groups h.groups)
+    by p h true e f = subst (λ s. count (λ w. is_at o w && f w) (waiting_in s.groups) ≡ 0) (sym (writes_group false (group_at o p) (without_group o p)).adds.store) (none_left f o 0 p.store.groups h.groups)
     by p h false e f = none_of_no_group f o 0 p.store.groups h.groups (no_any (group_at o p) e)
 
 takes_first : (o : ℕ) (items : Items) → Takes o (comments all_of_them o ⊕ items)

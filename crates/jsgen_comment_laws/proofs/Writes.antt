@@ -1,5 +1,8 @@
 -- What steps write behind the code, the texts of some comments among it, where nothing leaves the store.
-use Rattle.std.proofs.Common.{◌≡◌, ℕ, ◌*◌, Bool, true, false, ◌||◌, ◌==◌, List, [], ◌∷◌, ◌++◌, Option, Some, None, codes, drop, replicate, refl, ap, sym, subst, ◌∙◌, append_assoc, append-nil, if◌then◌else◌}
+use Rattle.std.specs.Prelude.{not as isnt}
+use Rattle.std.proofs.lemmas.Bool.{false≢true}
+use Rattle.std.proofs.lemmas.List.Elements.{filter-append}
+use Rattle.std.proofs.Common.{cond, zero, suc, ◌≡◌, ℕ, ◌*◌, Bool, true, false, ◌||◌, ◌==◌, List, [], ◌∷◌, ◌++◌, Option, Some, None, codes, drop, replicate, refl, ap, sym, subst, ◌∙◌, append_assoc, append-nil, if◌then◌else◌}
 use Rattle.std.specs.Str.{skip_leading_whitespace}
 use Rattle.jsgen_syntax.specs.Raw.{tag_free}
 use Rattle.jsgen_tree.specs.declared.statements.CommentKind.{CommentKind}
@@ -11,6 +14,7 @@ use Rattle.jsgen_model.specs.Groups.{line_ended, indented_here, softly_spaced, w
 use Rattle.jsgen_model.specs.Ends.{each_written, licensed, reference}
 use Rattle.jsgen_model.specs.Layout.{Pen, Start, Ending, other_end, written, written_if, text_if, not, indented, indent_or_space, at_indentation, end_statement, led}
 use Rattle.jsgen_comment_laws.specs.Stand.{Place, Stand}
+use Rattle.jsgen_comment_laws.specs.Woven.{is_white, dark_of, InTwo, IsDarkTextOf}
 
 -- ---- places in longer texts
 
@@ -40,43 +44,93 @@ stand_both a b (c ∷ cs) ds h k = (
   stand_both h.0.rest b cs ds h.1 k,
 )
 
+-- ---- characters that aren't white
+
+pub dark_both : (a b : List ℕ) → dark_of (a ++ b) ≡ dark_of a ++ dark_of b
+dark_both a b = filter-append (λ c. isnt (is_white c)) a b
+
+dark_replicate : (n c : ℕ) → is_white c ≡ true → dark_of (replicate n c) ≡ []
+dark_replicate zero c e = refl
+dark_replicate (suc n) c e = by (is_white c) e (dark_replicate n c e)
+  where
+    by : (b : Bool) → b ≡ true → dark_of (replicate n c) ≡ [] → cond (isnt b) (c ∷ dark_of (replicate n c)) (dark_of (replicate n c)) ≡ []
+    by true e rest = rest
+    by false e rest = absurd (false≢true e)
+
+-- the dark characters are those of the comments' texts, one behind the other
+abbrev pub DarkTexts : List Comment → List ℕ → Type 0
+DarkTexts [] bytes = bytes ≡ []
+DarkTexts (c ∷ cs) bytes = InTwo bytes (IsDarkTextOf c) (λ rest. DarkTexts cs rest)
+
+dark_texts_both : (cs ds : List Comment) (x y : List ℕ) → DarkTexts cs x → DarkTexts ds y → DarkTexts (cs ++ ds) (x ++ y)
+dark_texts_both [] ds x y h k = subst (λ z. DarkTexts ds (z ++ y)) (sym h) k
+dark_texts_both (c ∷ cs) ds x y h k = record {
+  first = h.first;
+  second = h.second ++ y;
+  is = ap (λ z. z ++ y) h.is ∙ append_assoc h.first h.second y;
+  one = h.one;
+  other = dark_texts_both cs ds h.second y h.other k;
+}
+
 -- ---- steps
 
--- text behind the code, in which the comments stand; the store stays
-pub record Writes (cs : List Comment) (p q : Pen) : Type 0 where
+-- text behind the code, and nothing else that matters here
+pub record Adds (p q : Pen) : Type 0 where
   pub text : List ℕ
   pub code : q.code ≡ p.code ++ text
-  pub stand : Stand text cs
   pub store : q.store ≡ p.store
+  pub style : q.style ≡ p.style
+  pub annotations : q.annotations ≡ p.annotations
+
+-- text behind the code, in which the comments stand, and what else there is is white
+pub record Writes (cs : List Comment) (p q : Pen) : Type 0 where
+  pub adds : Adds p q
+  pub stand : Stand adds.text cs
+  pub dark : is_white p.style.indent ≡ true → DarkTexts cs (dark_of adds.text)
+
+abbrev pub adds_then : {p q r : Pen} → Adds p q → Adds q r → Adds p r
+adds_then {p} a b = record {
+  text = a.text ++ b.text;
+  code = b.code ∙ (ap (λ x. x ++ b.text) a.code ∙ append_assoc p.code a.text b.text);
+  store = b.store ∙ a.store;
+  style = b.style ∙ a.style;
+  annotations = b.annotations ∙ a.annotations;
+}
 
 pub both : {cs ds : List Comment} {p q r : Pen} → Writes cs p q → Writes ds q r → Writes (cs ++ ds) p r
 both {cs} {ds} {p} a b = record {
-  text = a.text ++ b.text;
-  code = b.code ∙ (ap (λ x. x ++ b.text) a.code ∙ append_assoc p.code a.text b.text);
-  stand = stand_both a.text b.text cs ds a.stand b.stand;
-  store = b.store ∙ a.store;
+  adds = adds_then a.adds b.adds;
+  stand = stand_both a.adds.text b.adds.text cs ds a.stand b.stand;
+  dark = λ w. subst (λ x. DarkTexts (cs ++ ds) x) (sym (dark_both a.adds.text b.adds.text)) (dark_texts_both cs ds (dark_of a.adds.text) (dark_of b.adds.text) (a.dark w) (b.dark (ap (λ st. is_white st.indent) a.adds.style ∙ w)));
 }
 
 -- a step without a comment behind it
 pub ended_by : {cs : List Comment} {p q r : Pen} → Writes cs p q → Writes [] q r → Writes cs p r
-ended_by {cs} {p} a b = record {
-  text = a.text ++ b.text;
-  code = b.code ∙ (ap (λ x. x ++ b.text) a.code ∙ append_assoc p.code a.text b.text);
-  stand = subst (λ ds. Stand (a.text ++ b.text) ds) (append-nil cs) (stand_both a.text b.text cs [] a.stand tt);
-  store = b.store ∙ a.store;
-}
+ended_by {cs} {p} {q} {r} a b = subst (λ ds. Writes ds p r) (append-nil cs) (both a b)
 
-pub stays : (p q : Pen) → q.code ≡ p.code → q.store ≡ p.store → Writes [] p q
-stays p q e f = record { text = []; code = e ∙ sym (append-nil p.code); stand = tt; store = f }
+abbrev pub stays : (p q : Pen) → q.code ≡ p.code → q.store ≡ p.store → q.style ≡ p.style → q.annotations ≡ p.annotations → Writes [] p q
+stays p q e f g h = record { adds = record { text = []; code = e ∙ sym (append-nil p.code); store = f; style = g; annotations = h }; stand = tt; dark = λ w. refl }
 
-pub none : (p : Pen) → Writes [] p p
-none p = stays p p refl refl
+abbrev pub none : (p : Pen) → Writes [] p p
+none p = stays p p refl refl refl refl
 
-pub writes : (t : List ℕ) (e : Ending) (p : Pen) → Writes [] p (written t e p)
-writes t e p = record { text = t; code = refl; stand = tt; store = refl }
+-- any text
+abbrev pub adds : (t : List ℕ) (e : Ending) (p : Pen) → Adds p (written t e p)
+adds t e p = record { text = t; code = refl; store = refl; style = refl; annotations = refl }
 
-pub writes_if : (test : Bool) (t : List ℕ) (p : Pen) → Writes [] p (written_if test t p)
-writes_if test t p = record { text = text_if test t; code = refl; stand = tt; store = refl }
+abbrev pub adds_if : (test : Bool) (t : List ℕ) (p : Pen) → Adds p (written_if test t p)
+adds_if test t p = record { text = text_if test t; code = refl; store = refl; style = refl; annotations = refl }
+
+-- white text
+pub writes : (t : List ℕ) (e : Ending) (p : Pen) → dark_of t ≡ [] → Writes [] p (written t e p)
+writes t e p w = record { adds = adds t e p; stand = tt; dark = λ h. w }
+
+pub writes_if : (test : Bool) (t : List ℕ) (p : Pen) → dark_of t ≡ [] → Writes [] p (written_if test t p)
+writes_if true t p w = record { adds = adds_if true t p; stand = tt; dark = λ h. w }
+writes_if false t p w = record { adds = adds_if false t p; stand = tt; dark = λ h. refl }
+
+pub nothing_written : (t : List ℕ) (p : Pen) → Writes [] p (written_if false t p)
+nothing_written t p = record { adds = adds_if false t p; stand = tt; dark = λ h. refl }
 
 pub one_of : {cs : List Comment} (test : Bool) {p a b : Pen} → Writes cs p a → Writes cs p b → Writes cs p (if test then a else b)
 one_of true h k = h
@@ -84,13 +138,19 @@ one_of false h k = k
 
 -- ---- indentation
 
-indented_step : (t : List ℕ) (p : Pen) → Writes [] p (indented t p)
-indented_step [] p = none p
-indented_step (c ∷ cs) p = writes (c ∷ cs) other_end p
+abbrev indented_adds : (t : List ℕ) (p : Pen) → Adds p (indented t p)
+indented_adds [] p = (none p).adds
+indented_adds (c ∷ cs) p = adds (c ∷ cs) other_end p
+
+indented_dark : (t : List ℕ) (p : Pen) → dark_of t ≡ [] → dark_of (indented_adds t p).text ≡ []
+indented_dark [] p e = refl
+indented_dark (c ∷ cs) p e = e
 
 or_space : (pending : Bool) (p : Pen) → Writes [] p (indent_or_space pending p)
-or_space true p = record { text = codes " "; code = refl; stand = tt; store = refl }
-or_space false p = indented_step (replicate (p.depth * p.style.width) p.style.indent) p
+or_space true p = record { adds = record { text = codes " "; code = refl; store = refl; style = refl; annotations = refl }; stand = tt; dark = λ w. refl }
+or_space false p =
+    let t = replicate (p.depth * p.style.width) p.style.indent in
+    record { adds = indented_adds t p; stand = tt; dark = λ w. indented_dark t p (dark_replicate (p.depth * p.style.width) p.style.indent w) }
 
 pub indents_by : (minified : Bool) (p : Pen) → Writes [] p (at_indentation minified p)
 indents_by true p = none p
@@ -103,61 +163,60 @@ pub indents_if : (b : Bool) (p : Pen) → Writes [] p (indented_if b p)
 indents_if true p = indents p
 indents_if false p = none p
 
-pub ends_statement : (minified : Bool) (p : Pen) → Writes [] p (end_statement minified p)
-ends_statement true p = stays p (end_statement true p) refl refl
-ends_statement false p = writes (codes ";\n") other_end p
+pub ends_statement : (minified : Bool) (p : Pen) → Adds p (end_statement minified p)
+ends_statement true p = (stays p (end_statement true p) refl refl refl refl).adds
+ends_statement false p = adds (codes ";\n") other_end p
 
 pub uses_up_if : (b : Bool) (p : Pen) → Writes [] p (used_up_if b p)
-uses_up_if true p = record { text = text_if (not p.style.minified) (codes " "); code = refl; stand = tt; store = refl }
+uses_up_if true p = ended_by (writes_if (not p.style.minified) (codes " ") p refl) (stays (softly_spaced p) (used_up_if true p) refl refl refl refl)
 uses_up_if false p = none p
 
 uses_up : (p : Pen) → Writes [] p (used_up p)
 uses_up p = uses_up_if p.pending_space p
 
 pub ends_line_softly : (p : Pen) → Writes [] p (soft_line_ended p)
-ends_line_softly p = writes_if (not p.style.minified) (codes "\n") p
+ends_line_softly p = writes_if (not p.style.minified) (codes "\n") p refl
 
 pub spaces : (p : Pen) → Writes [] p (softly_spaced p)
-spaces p = writes_if (not p.style.minified) (codes " ") p
+spaces p = writes_if (not p.style.minified) (codes " ") p refl
 
 -- ---- one comment
 
-writes_line : (l : List ℕ) (p : Pen) → Writes [] p (block_line l p)
-writes_line l p =
+line_adds : (l : List ℕ) (p : Pen) → Adds p (block_line l p)
+line_adds l p =
     let p1 : Pen = indented_if (not (opens_block l)) p in
     let p2 : Pen = written (tag_free (skip_leading_whitespace l)) other_end p1 in
-    both (indents_if (not (opens_block l)) p) (both (writes (tag_free (skip_leading_whitespace l)) other_end p1) (writes_if (not (closes_block l)) (codes "\n") p2))
+    adds_then (indents_if (not (opens_block l)) p).adds (adds_then (adds (tag_free (skip_leading_whitespace l)) other_end p1) (adds_if (not (closes_block l)) (codes "\n") p2))
 
-writes_lines : (ls : List (List ℕ)) (p : Pen) → Writes [] p (block_lines ls p)
-writes_lines [] p = none p
-writes_lines (l ∷ ls) p = both (writes_line l p) (writes_lines ls (block_line l p))
+lines_add : (ls : List (List ℕ)) (p : Pen) → Adds p (block_lines ls p)
+lines_add [] p = (none p).adds
+lines_add (l ∷ ls) p = adds_then (line_adds l p) (lines_add ls (block_line l p))
 
-writes_html : (b : Bool) (text : List ℕ) (p : Pen) → Writes [] p (html_close b text p)
-writes_html true text p = both (writes (codes "//") other_end p) (writes (tag_free (drop 3 text)) other_end (written (codes "//") other_end p))
-writes_html false text p = writes (tag_free text) other_end p
+html_adds : (b : Bool) (text : List ℕ) (p : Pen) → Adds p (html_close b text p)
+html_adds true text p = adds_then (adds (codes "//") other_end p) (adds (tag_free (drop 3 text)) other_end (written (codes "//") other_end p))
+html_adds false text p = adds (tag_free text) other_end p
 
-writes_text : (kind : CommentKind) (text : List ℕ) (p : Pen) → Writes [] p (text_written kind text p)
-writes_text kinds.MultiLineBlock text p = writes_lines (lines_of text) p
-writes_text kinds.HtmlClose text p = writes_html (is_mid_line p.code) text p
-writes_text kinds.Line text p = writes (tag_free text) other_end p
-writes_text kinds.SingleLineBlock text p = writes (tag_free text) other_end p
-writes_text kinds.HtmlOpen text p = writes (tag_free text) other_end p
+text_adds : (kind : CommentKind) (text : List ℕ) (p : Pen) → Adds p (text_written kind text p)
+text_adds kinds.MultiLineBlock text p = lines_add (lines_of text) p
+text_adds kinds.HtmlClose text p = html_adds (is_mid_line p.code) text p
+text_adds kinds.Line text p = adds (tag_free text) other_end p
+text_adds kinds.SingleLineBlock text p = adds (tag_free text) other_end p
+text_adds kinds.HtmlOpen text p = adds (tag_free text) other_end p
 
 -- a comment's text is its own
 pub writes_comment : (c : Comment) (p : Pen) → Writes (c ∷ []) p (comment_written c p)
 writes_comment c p =
-    let w = writes_text c.kind c.text p in
+    let w = text_adds c.kind c.text p in
     record {
-      text = w.text;
-      code = w.code;
+      adds = w;
       stand = (record { before = []; own = w.text; rest = []; is = sym (append-nil w.text); its = (p, w.code) }, tt);
-      store = w.store;
+      dark = λ h. record { first = dark_of w.text; second = []; is = sym (append-nil (dark_of w.text)); one = (w.text, ((p, w.code), refl)); other = refl };
     }
 
 -- ---- a group
 
 pub ends_line_here : (p : Pen) → Writes [] p (line_ended p)
-ends_line_here p = writes (codes "\n") other_end p
+ends_line_here p = writes (codes "\n") other_end p refl
 
 on_line : (p : Pen) → Writes [] p (indented_here (line_ended p))
 on_line p = both (ends_line_here p) (indents (line_ended p))
@@ -177,7 +236,7 @@ goes_on false false p = spaces p
 
 ends : (b : Bool) (p : Pen) → Writes [] p (behind_last b p)
 ends true p = ends_line_here p
-ends false p = stays p (with_pending_space true p) refl refl
+ends false p = stays p (with_pending_space true p) refl refl refl refl
 
 writes_others : (ended : Bool) (c : Comment) (cs : List Comment) (p : Pen) → Writes cs p (behind ended c cs p)
 writes_others ended c [] p = ends (ended || ends_line c) p
@@ -192,7 +251,7 @@ writes_group ended (c ∷ cs) p =
     both (begins c.newline_before p) (both (writes_comment c p1) (writes_others ended c cs (comment_written c p1)))
 
 pub writes_before : (m : Manner) (p : Pen) → Writes [] p (before_group m p)
-writes_before with_key_annotation p = writes_if (ends_in 47 p) (codes " ") p
+writes_before with_key_annotation p = writes_if (ends_in 47 p) (codes " ") p refl
 writes_before all_of_them p = none p
 writes_before then_space p = none p
 writes_before with_due_space p = none p
@@ -204,7 +263,7 @@ writes_due p = one_of (ends_in 10 p) (indents p) (uses_up p)
 
 pub writes_behind : (m : Manner) (p : Pen) → Writes [] p (behind_group m p)
 writes_behind all_of_them p = none p
-writes_behind then_space p = record { text = text_if (not p.style.minified) (codes " "); code = refl; stand = tt; store = refl }
+writes_behind then_space p = ended_by (spaces p) (stays (softly_spaced p) (behind_group then_space p) refl refl refl refl)
 writes_behind with_due_space p = uses_up p
 writes_behind before_it p = writes_due p
 writes_behind annotation_before_it p = writes_due p
@@ -212,7 +271,7 @@ writes_behind with_key_annotation p = writes_due p
 
 pub writes_closing : (cs : List Comment) (p : Pen) → Writes cs p (closing_group cs p)
 writes_closing [] p = none p
-writes_closing (c ∷ cs) p = ended_by (writes_group false (c ∷ cs) p) (stays (group false (c ∷ cs) p) (closing_group (c ∷ cs) p) refl refl)
+writes_closing (c ∷ cs) p = ended_by (writes_group false (c ∷ cs) p) (stays (group false (c ∷ cs) p) (closing_group (c ∷ cs) p) refl refl refl refl)
 
 -- ---- on lines
 
@@ -227,46 +286,22 @@ breaks [] p = ends_line_softly p
 breaks (c ∷ cs) p = ended_by (writes_each (c ∷ cs) p) (ends_line_here (each_on_line (c ∷ cs) p))
 
 pub leads : (lead : Lead) (p : Pen) → Writes [] p (led lead p)
-leads to_block p = writes_if (not p.style.minified) (codes " ") p
-leads to_body p = stays p (led to_body p) refl refl
+leads to_block p = writes_if (not p.style.minified) (codes " ") p refl
+leads to_body p = stays p (led to_body p) refl refl refl refl
 leads (to_empty span) p = none p
-
--- ---- annotations: what they write is none of the comments that wait
-
-without_its : {cs : List Comment} {p q : Pen} → Writes cs p q → Writes [] p q
-without_its w = record { text = w.text; code = w.code; stand = tt; store = w.store }
-
-annotates_by : (cs : List Comment) (kind : Annotation) (o : ℕ) (p : Pen) → Writes [] p (annotation_by cs kind o p)
-annotates_by [] kind o p = writes (annotation_text kind) other_end p
-annotates_by (c ∷ cs) kind o p = both (stays p (without_annotation o p) refl refl) (without_its (writes_comment c (without_annotation o p)))
-
-annotates : (line : Bool) (kind : Annotation) (o : ℕ) (p : Pen) → Writes [] p (annotation_written line kind o p)
-annotates line kind o p =
-    let p1 : Pen = written_if (ends_in 47 p) (codes " ") p in
-    both (writes_if (ends_in 47 p) (codes " ") p) (annotates_by (fitting_at line kind o p) kind o p1)
-
-pub writes_annotation : (start : Start) (kind : Annotation) (o : ℕ) (p : Pen) → Writes [] p (begun_at start (annotation_at kind o p))
-writes_annotation start kind o p =
-    let p1 : Pen = annotation_written false kind o p in
-    both (annotates false kind o p) (both (writes (codes " ") other_end p1) (stays (annotation_at kind o p) (begun_at start (annotation_at kind o p)) refl refl))
-
-pub writes_annotation_line : (indented : Bool) (o : ℕ) (p : Pen) → Writes [] p (annotation_line_at indented o p)
-writes_annotation_line indented o p =
-    let p1 : Pen = indented_if indented p in
-    both (indents_if indented p) (both (annotates true no_side_effects o p1) (ends_line_here (annotation_written true no_side_effects o p1)))
 
 -- ---- at the end
 
-ends_each : (cs : List Comment) (p : Pen) → Writes [] p (each_written cs p)
-ends_each [] p = none p
-ends_each (c ∷ cs) p = both (without_its (writes_comment c p)) (both (ends_line_here (comment_written c p)) (ends_each cs (line_ended (comment_written c p))))
+ends_each : (cs : List Comment) (p : Pen) → Adds p (each_written cs p)
+ends_each [] p = (none p).adds
+ends_each (c ∷ cs) p = adds_then (writes_comment c p).adds (adds_then (ends_line_here (comment_written c p)).adds (ends_each cs (line_ended (comment_written c p))))
 
-pub writes_licences : (legal : Legal) (cs : List Comment) (p : Pen) → Writes [] p (licensed legal cs p)
-writes_licences legal [] p = none p
-writes_licences at_end (c ∷ cs) p =
+pub adds_licences : (legal : Legal) (cs : List Comment) (p : Pen) → Adds p (licensed legal cs p)
+adds_licences legal [] p = (none p).adds
+adds_licences at_end (c ∷ cs) p =
     let p1 : Pen = with_pending_space false (line_ended p) in
-    both (ends_line_here p) (both (stays (line_ended p) p1 refl refl) (ends_each (c ∷ cs) p1))
-writes_licences (linked path) (c ∷ cs) p = writes (reference path) other_end p
-writes_licences left_out (c ∷ cs) p = none p
-writes_licences inline (c ∷ cs) p = none p
-writes_licences external (c ∷ cs) p = none p
+    adds_then (ends_line_here p).adds (adds_then (stays (line_ended p) p1 refl refl refl refl).adds (ends_each (c ∷ cs) p1))
+adds_licences (linked path) (c ∷ cs) p = adds (reference path) other_end p
+adds_licences left_out (c ∷ cs) p = (none p).adds
+adds_licences inline (c ∷ cs) p = (none p).adds
+adds_licences external (c ∷ cs) p = (none p).adds

@@ -1,10 +1,39 @@
 -- What is promised of the comments of a program.
+use Rattle.std.specs.Prelude.{◌≡◌, ℕ, ◌≤◌, List, ◌++◌, map, Bool, ◌&&◌}
 use Rattle.jsgen_tree.specs.Job.{JobData}
 use Rattle.jsgen_tree.specs.Everywhere.{Everywhere}
+use Rattle.jsgen_place.specs.Place.{among_statements}
+use Rattle.jsgen_model.specs.Ends.{ended}
+use Rattle.jsgen_model.specs.Layout.{Pen}
 use Rattle.jsgen_model.specs.Plain.{is_formed}
-use Rattle.jsgen_model.specs.Spell.{printed}
+use Rattle.jsgen_model.specs.Spell.{spell, comments_in, source_bytes, first_pen, printed}
 use Rattle.jsgen_model.specs.Valid.{IsValid}
-use Rattle.jsgen_comment_laws.specs.Stand.{CommentsStandIn}
+use Rattle.jsgen_comment_laws.specs.Stand.{Waiting, kept_comments, annotation_comments, count, Stand, has_to_stand}
+use Rattle.jsgen_comment_laws.specs.Woven.{dark_of, bones, Woven}
+
+-- ---- the end of a text
+
+-- what stands behind a program's text: what its end adds to the code of a pen, whatever that pen is
+abbrev pub IsEndOf : JobData → List ℕ → Type 0
+IsEndOf job text = (pen : Pen) × ((ended job.options.comments.legal (source_bytes job) (comments_in job.program) pen).code ≡ pen.code ++ text)
+
+-- ---- the whole
+
+-- A text is that of the program, and what stands behind it. In that of the program some of the job's comments are printed, each of these
+-- once and at a place of its own, in this order; all that have to stand are among them
+pub record CommentsStandIn (job : JobData) (text : List ℕ) : Type 0 where
+  pub body : List ℕ
+  pub end : List ℕ
+  pub is : text ≡ body ++ end
+  pub ends : IsEndOf job end
+  pub comments : List Waiting
+  pub stand : Stand body (map (λ w. w.comment) comments)
+  -- by any test there are no more of them than are kept
+  pub once : (test : Waiting → Bool) → count test comments ≤ count test (kept_comments job)
+  -- and of those that have to stand as many
+  pub all : (test : Waiting → Bool) → count (λ w. has_to_stand job.program w && test w) comments ≡ count (λ w. has_to_stand job.program w && test w) (kept_comments job)
+  -- and what isn't white in it are the bones of what the program is spelled with, and what fills their gaps
+  pub woven : Woven (kept_comments job) (annotation_comments job) (bones (spell job.program among_statements) (first_pen job)) (dark_of body)
 
 -- each comment that has to stand has a place of its own in the text of a valid job, whose nodes have the children of their types, and none has two
 abbrev pub CommentsStand : Type 0

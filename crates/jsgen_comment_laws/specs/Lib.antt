@@ -1,2 +1,3 @@
 pub mod Stand
+pub mod Woven
 pub mod Law

@@ -6,8 +6,8 @@ use Rattle.jsgen_tree.specs.Options as options
 use Rattle.jsgen_tree.specs.Tree.{Tree, Trees, no_trees, more, hole, Atoms, span_of}
 use Rattle.jsgen_tree.specs.Nodes as tree
 use Rattle.jsgen_tree.specs.Values.{comment_content, comment_leading, comment_attached_to}
-use Rattle.jsgen_model.specs.Comments.{Comment, comment_at, is_wanted, is_outliving}
-use Rattle.jsgen_model.specs.Ends.{rows_of, ended}
+use Rattle.jsgen_model.specs.Comments.{Comment, comment_at, is_wanted, is_outliving, is_annotation}
+use Rattle.jsgen_model.specs.Ends.{rows_of}
 use Rattle.jsgen_model.specs.Groups.{comment_written}
 use Rattle.jsgen_model.specs.Layout.{Pen}
 use Rattle.jsgen_model.specs.Spell.{comments_in, source_bytes}
@@ -29,6 +29,13 @@ waiting_row source a = record { offset = comment_attached_to a; comment = commen
 -- those of a job's program, in the order in which it has them
 abbrev pub kept_comments : JobData → List Waiting
 kept_comments job = map (waiting_row (source_bytes job)) (filter (is_kept job.options.comments) (rows_of (comments_in job.program)))
+
+-- the annotations among them, of which the option `annotation` wants all or none, in the same order
+abbrev pub is_kept_annotation : options.Comments → Atoms → Bool
+is_kept_annotation o a = comment_leading a && (is_annotation (comment_content a) && o.annotation)
+
+abbrev pub annotation_comments : JobData → List Waiting
+annotation_comments job = map (waiting_row (source_bytes job)) (filter (is_kept_annotation job.options.comments) (rows_of (comments_in job.program)))
 
 -- ---- how many they are
 
@@ -72,25 +79,3 @@ is_before (hole ts) w = is_before ts w
 abbrev pub has_to_stand : Tree → Waiting → Bool
 has_to_stand (tree.program a rows hashbang directives body) w = (is_before directives w || is_before body w) || (is_outliving w.comment && nat_le w.offset a.span.end)
 has_to_stand t w = false
-
--- ---- the end of a text
-
--- what stands behind a program's text: what its end adds to the code of a pen, whatever that pen is
-abbrev pub IsEndOf : JobData → List ℕ → Type 0
-IsEndOf job text = (pen : Pen) × ((ended job.options.comments.legal (source_bytes job) (comments_in job.program) pen).code ≡ pen.code ++ text)
-
--- ---- the whole
-
--- A text is that of the program, and what stands behind it. In that of the program some of the job's comments are printed, each of these
--- once and at a place of its own, in this order; all that have to stand are among them
-pub record CommentsStandIn (job : JobData) (text : List ℕ) : Type 0 where
-  pub body : List ℕ
-  pub end : List ℕ
-  pub is : text ≡ body ++ end
-  pub ends : IsEndOf job end
-  pub printed : List Waiting
-  pub stand : Stand body (map (λ w. w.comment) printed)
-  -- by any test there are no more of them than are kept
-  pub once : (test : Waiting → Bool) → count test printed ≤ count test (kept_comments job)
-  -- and of those that have to stand as many
-  pub all : (test : Waiting → Bool) → count (λ w. has_to_stand job.program w && test w) printed ≡ count (λ w. has_to_stand job.program w && test w) (kept_comments job)
