@@ -1,19 +1,19 @@
 -- Annotations as they are woven: those of the source, or as they are written where it has none.
 use Rattle.std.specs.Prelude.{⊤, Contains}
-use Rattle.std.proofs.Common.{◌≡◌, ◌⊎◌, inl, inr, ℕ, Bool, true, false, ◌&&◌, ◌||◌, not, cond, List, [], ◌∷◌, ◌++◌, codes, refl, sym, ap, subst, ◌∙◌, append_assoc, append-nil}
+use Rattle.std.proofs.Common.{◌≡◌, inl, inr, ℕ, Bool, true, false, ◌||◌, not, cond, List, [], ◌∷◌, codes, refl, sym, ap, subst, ◌∙◌, append-nil}
 use Rattle.std.specs.List.{filter}
 use Rattle.std.proofs.lemmas.Bool.{and_parts}
 use Rattle.jsgen_model.specs.Items.{Annotation, no_side_effects}
 use Rattle.jsgen_model.specs.Comments.{Comment, there}
-use Rattle.jsgen_model.specs.Groups.{line_ended, indented_if, comment_written, ends_in, is_line, annotation_text, says, fits, fitting_at, without_annotation, annotation_by, annotation_written, begun_at, annotation_at, annotation_line_at}
-use Rattle.jsgen_model.specs.Layout.{Pen, Start, other_end, written, written_if}
+use Rattle.jsgen_model.specs.Groups.{indented_if, ends_in, is_line, annotation_text, says, fits, fitting_at, without_annotation, annotation_by, annotation_written, begun_at, annotation_at, annotation_line_at}
+use Rattle.jsgen_model.specs.Layout.{Pen, Start, other_end, written_if}
 use Rattle.jsgen_comment_laws.specs.Stand.{Waiting}
-use Rattle.jsgen_comment_laws.specs.Woven.{is_white, dark_of, no_bones, annotation_gap, IsDarkTextOf, IsAnnotation, Woven}
-use Rattle.jsgen_comment_laws.proofs.Writes.{Adds, Writes, stays, writes, writes_if, adds, writes_comment, indents_if, ends_line_here}
-use Rattle.jsgen_comment_laws.proofs.Stores.{Goes, keeps_texts, keeps_adds}
+use Rattle.jsgen_comment_laws.specs.Woven.{is_white, dark_of, no_bones, annotation_gap, IsAnnotation, Woven}
+use Rattle.jsgen_comment_laws.proofs.Writes.{Writes, stays, writes, writes_if, adds, writes_comment, indents_if, ends_line_here}
+use Rattle.jsgen_comment_laws.proofs.Stores.{keeps_texts, keeps_adds}
 use Rattle.jsgen_comment_laws.proofs.Held as helds
 use Rattle.jsgen_comment_laws.proofs.Held.{Every, every_there, every_without, every_filtered}
-use Rattle.jsgen_comment_laws.proofs.Weaves.{Held, Weave, Does, does_then, does_last, white}
+use Rattle.jsgen_comment_laws.proofs.Weaves.{Held, Does, does_then, does_last, white}
 
 -- each says what the annotation says
 abbrev pub AllSay : Annotation → List Comment → Type 0

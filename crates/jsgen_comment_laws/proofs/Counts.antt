@@ -1,8 +1,7 @@
 -- Groups of comments by rising offsets, counted by any test of them.
 use Rattle.std.specs.Prelude.{⊤}
 use Rattle.std.proofs.Common.{◌≡◌, ℕ, ◌+◌, ◌≤◌, ◌<◌, ◌⊎◌, inl, inr, Bool, true, false, not, ◌&&◌, ◌==◌, nat_lt, if◌then◌else◌, List, [], ◌∷◌, ◌++◌, map, refl, sym, ap, subst, ◌∙◌, arith}
-use Rattle.std.specs.List.{filter}
-use Rattle.std.proofs.lemmas.Bool.{cases_order, eqb-true, eq-eqb, ne_eqb, eqb-false, lt-ltb, le-ltb, ltb-true, ltb-false, true≢false, false≢true}
+use Rattle.std.proofs.lemmas.Bool.{cases_order, eqb-true, eq-eqb, ne_eqb, eqb-false, ltb-true, ltb-false, true≢false}
 use Rattle.jsgen_model.specs.Comments.{Comment, Groups, there, without, with_group, unless_none, is_outliving, outliving, others, without_outliving}
 use Rattle.jsgen_comment_laws.specs.Stand.{Waiting, one_if, count}
 
@@ -195,4 +194,3 @@ none_outlives o n gs h =
     let left = none_left (λ w. is_outliving w.comment) o n gs h in
     let none = others_stay o (there o gs) in
     omega (arith, kept, left, none)
-

@@ -1,9 +1,9 @@
 -- What holds of all comments of a store.
 use Rattle.std.specs.Prelude.{⊤}
-use Rattle.std.proofs.Common.{◌≡◌, ℕ, ◌+◌, ◌≤◌, ◌<◌, Bool, true, false, not, ◌&&◌, ◌||◌, ◌==◌, nat_lt, cond, if◌then◌else◌, List, [], ◌∷◌, ◌++◌, refl, sym, ap, subst, ◌∙◌, arith}
+use Rattle.std.proofs.Common.{◌≡◌, ℕ, Bool, true, false, not, ◌==◌, nat_lt, cond, if◌then◌else◌, List, [], ◌∷◌, ◌++◌, refl, subst}
 use Rattle.std.specs.List.{filter}
 use Rattle.std.proofs.lemmas.Bool.{eqb-true}
-use Rattle.jsgen_model.specs.Comments.{Comment, Groups, Store, there, without, with_group, unless_none, is_outliving, outliving, others, without_outliving, orphans_at, left_at, left_below}
+use Rattle.jsgen_model.specs.Comments.{Comment, Groups, there, without, with_group, unless_none, is_outliving, outliving, others, without_outliving, left_at}
 use Rattle.jsgen_comment_laws.specs.Stand.{Waiting}
 use Rattle.jsgen_comment_laws.proofs.Counts.{waiting, waiting_at}
 use Rattle.jsgen_comment_laws.proofs.Stores.{found_at}

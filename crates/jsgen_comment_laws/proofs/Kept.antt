@@ -1,15 +1,15 @@
 -- The store of a program's comments: it holds those that are kept, each once.
 use Rattle.std.specs.Prelude.{⊤, All, Contains}
 use Rattle.std.proofs.lemmas.List.Elements.{All-head, All-tail, All-contains_itself}
-use Rattle.std.proofs.Common.{◌≡◌, ℕ, ◌+◌, ◌≤◌, ◌<◌, ◌⊎◌, inl, inr, Bool, true, false, ◌&&◌, ◌||◌, ◌==◌, nat_lt, cond, if◌then◌else◌, List, [], ◌∷◌, ◌++◌, map, refl, sym, ap, subst, ◌∙◌, arith}
+use Rattle.std.proofs.Common.{◌≡◌, ℕ, ◌+◌, ◌≤◌, Bool, true, false, ◌&&◌, ◌==◌, nat_lt, cond, if◌then◌else◌, List, [], ◌∷◌, ◌++◌, map, refl, sym, ap, ◌∙◌, arith}
 use Rattle.std.specs.List.{filter}
 use Rattle.std.proofs.lemmas.Bool.{eqb-true, eqb-false, ltb-true, ltb-false, or_parts, or_from}
 use Rattle.std.proofs.lemmas.List.{map-append}
 use Rattle.jsgen_tree.specs.Options as options
-use Rattle.jsgen_tree.specs.Tree.{Tree, node, Trees, no_trees, more, hole, Atoms}
+use Rattle.jsgen_tree.specs.Tree.{Trees, no_trees, more, hole}
 use Rattle.jsgen_tree.specs.Nodes as tree
-use Rattle.jsgen_tree.specs.Values.{comment_content, comment_leading, comment_attached_to}
-use Rattle.jsgen_model.specs.Comments.{Comment, Groups, Store, empty_store, there, without, with_group, outlives, is_outliving, is_wanted, comment_at, with_offset, kept_at, with_row, with_rows, kept, with_annotations, kept_annotations}
+use Rattle.jsgen_tree.specs.Values.{comment_attached_to}
+use Rattle.jsgen_model.specs.Comments.{Comment, Groups, Store, empty_store, there, without, with_group, outlives, is_outliving, comment_at, with_offset, kept_at, with_rows, kept, with_annotations, kept_annotations}
 use Rattle.jsgen_model.specs.Ends.{rows_of}
 use Rattle.jsgen_comment_laws.specs.Stand.{Waiting, one_if, count, is_kept, is_kept_annotation, waiting_row}
 use Rattle.jsgen_syntax.specs.Buffer.{indent_code}
@@ -17,7 +17,7 @@ use Rattle.jsgen_syntax.specs.declared.buffer.IndentChar.{IndentChar}
 use Rattle.jsgen_syntax.specs.declared.buffer.IndentChar.TheVariants as indents
 use Rattle.jsgen_comment_laws.specs.Woven.{is_white}
 use Rattle.jsgen_comment_laws.proofs.Held.{EveryIn, every_there, every_without, every_with, every_both}
-use Rattle.jsgen_comment_laws.proofs.Counts.{waiting, waiting_at, waiting_in, is_at, count_append, lacks, from_without, from_with, above, count_taken, count_with}
+use Rattle.jsgen_comment_laws.proofs.Counts.{waiting, waiting_at, waiting_in, count_append, lacks, from_without, from_with, above, count_taken, count_with}
 use Rattle.jsgen_comment_laws.proofs.Stores.{Rises, is_in, outlives_at, Covers, Sound}
 
 -- ---- one more

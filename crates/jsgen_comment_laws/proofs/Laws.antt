@@ -1,32 +1,31 @@
 -- Comments of a valid program stand in its text.
-use Rattle.std.specs.Prelude.{⊤}
-use Rattle.std.proofs.Common.{◌≡◌, ℕ, ◌+◌, ◌≤◌, ◌<◌, ◌⊎◌, inl, inr, Bool, true, false, ◌&&◌, ◌||◌, ◌==◌, nat_le, List, [], ◌∷◌, ◌++◌, map, refl, sym, ap, subst, ◌∙◌, arith}
+use Rattle.std.proofs.Common.{◌≡◌, ℕ, ◌≤◌, ◌<◌, ◌⊎◌, inl, inr, Bool, true, false, ◌&&◌, ◌||◌, ◌==◌, nat_le, List, [], ◌∷◌, ◌++◌, map, refl, sym, ap, subst, ◌∙◌, arith}
 use Rattle.std.proofs.lemmas.Bool.{leb-true, eq-eqb, cases_order}
 use Rattle.std.proofs.lemmas.Bool as bools
 use Rattle.jsgen_tree.specs.Job.{JobData}
-use Rattle.jsgen_tree.specs.Tree.{Tree, node, Maybe, Trees, Atoms, span_of}
+use Rattle.jsgen_tree.specs.Tree.{Tree}
 use Rattle.jsgen_tree.specs.Nodes as tree
 use Rattle.jsgen_tree.specs.Everywhere.{Everywhere}
 use Rattle.jsgen_place.specs.Place.{among_statements}
-use Rattle.jsgen_model.specs.Items.{Items, ◌⊕◌, comments, all_of_them, orphans, due_semicolon}
+use Rattle.jsgen_model.specs.Items.{◌⊕◌, comments, all_of_them, orphans, due_semicolon}
 use Rattle.jsgen_model.specs.Comments.{Groups, comment_at, is_outliving, orphans_below, left_below}
 use Rattle.jsgen_model.specs.Ends.{moved_licences}
-use Rattle.jsgen_model.specs.Groups.{group, with_store}
+use Rattle.jsgen_model.specs.Groups.{with_store}
 use Rattle.jsgen_model.specs.Layout.{Pen}
 use Rattle.jsgen_model.specs.Lay.{lay}
 use Rattle.jsgen_model.specs.Plain.{is_formed}
 use Rattle.jsgen_model.specs.Valid.{Surroundings, breaches, IsValid, surroundings_of}
 use Rattle.jsgen_model.specs.Spell.{spell, spell_if_given, spell_directives, spell_body, comments_in, source_bytes, first_pen, printed}
-use Rattle.jsgen_comment_laws.specs.Stand.{Waiting, Stand, one_if, count, has_to_stand, is_before, kept_comments, annotation_comments}
+use Rattle.jsgen_comment_laws.specs.Stand.{Waiting, one_if, count, has_to_stand, is_before, kept_comments, annotation_comments}
 use Rattle.jsgen_comment_laws.specs.Woven.{dark_of, bones, Woven}
 use Rattle.jsgen_comment_laws.specs.Law.{CommentsStandIn}
-use Rattle.jsgen_comment_laws.proofs.Counts.{waiting_in, is_at, count_both}
-use Rattle.jsgen_comment_laws.proofs.Writes.{Writes, adds_licences, writes_group, stand_both}
+use Rattle.jsgen_comment_laws.proofs.Counts.{waiting_in, count_both}
+use Rattle.jsgen_comment_laws.proofs.Writes.{adds_licences, writes_group}
 use Rattle.jsgen_comment_laws.proofs.Stores.{Sound, outlives_at, none_below}
 use Rattle.jsgen_comment_laws.proofs.Weaves.{Held}
 use Rattle.jsgen_comment_laws.proofs.Steps.{lay_does, lay_goes}
 use Rattle.jsgen_comment_laws.proofs.Kept.{kept_is_sound, kept_are, all_kept, all_annotations, indent_is_white}
-use Rattle.jsgen_comment_laws.proofs.Takes.{NoneAt, NoneBefore, stays_gone, takes_comments, count_either, none_passes, body_taken, directives_taken}
+use Rattle.jsgen_comment_laws.proofs.Takes.{stays_gone, takes_comments, count_either, none_passes, body_taken, directives_taken}
 use Rattle.jsgen_comment_laws.proofs.Members.{members}
 
 -- ---- those that outlive their places, up to an offset

@@ -1,15 +1,13 @@
 -- What items print of the comments that wait, and how it is woven. All laws on comments take this one.
 use Rattle.std.specs.Prelude.{Contains}
 use Rattle.std.proofs.lemmas.Bool.{false≢true}
-use Rattle.std.proofs.Common.{inl, inr, ◌++◌, ap, ◌∙◌, append-nil, ◌≡◌, ℕ, ◌-◌, Bool, true, false, ◌&&◌, ◌||◌, List, [], ◌∷◌, Option, Some, None, codes, refl, sym, subst, append_assoc, if◌then◌else◌}
+use Rattle.std.proofs.Common.{inl, inr, ◌++◌, ap, ◌∙◌, append-nil, ◌≡◌, ℕ, Bool, true, false, ◌&&◌, ◌||◌, List, [], ◌∷◌, Option, Some, None, codes, refl, sym, subst, append_assoc, if◌then◌else◌}
 use Rattle.std.specs.List.{list_all}
-use Rattle.jsgen_syntax.specs.Escapes.{name_text}
 use Rattle.jsgen_syntax.specs.declared.span.Span.{Span}
-use Rattle.jsgen_tree.specs.Named.{printed_name}
-use Rattle.jsgen_model.specs.Punctuator.{Round, opening, closing, punctuator_text}
-use Rattle.jsgen_model.specs.Items.{Items, Annotation, no_side_effects, a_brace, nothing, ◌⊕◌, word, name, private_name, number, literal, regular_expression, template_part, string, first_string, directive, punctuator, operator, member_dot, soft_space, soft_line, hard_space, indentation, body_space, deeper, in_class, brackets, wrapped, wrapped_at_start, parentheses_unless_minified, unless_minified, where_same, statement_end, due_semicolon, drop_semicolon, statement_begins, arrow_body_begins, default_export_begins, mark, end_mark, link_mark, marked_word, marked_operator, marked_number, marked_indentation, apart, comments, orphans, orphan_lines, empty_body, held, lined_case, caught, annotation, annotation_line, annotated, commented, member_line, member_space, in_lines, line_break, is_pure, Manner, all_of_them, with_due_space, Lead, to_block, to_body, to_empty, Lines, of_call, of_import, Break, first_argument, other_argument, import_source, import_options}
+use Rattle.jsgen_model.specs.Punctuator.{Round, opening, closing}
+use Rattle.jsgen_model.specs.Items.{Items, Annotation, no_side_effects, a_brace, nothing, ◌⊕◌, word, name, private_name, number, literal, regular_expression, template_part, string, first_string, directive, punctuator, operator, member_dot, soft_space, soft_line, hard_space, indentation, body_space, deeper, in_class, brackets, wrapped, wrapped_at_start, parentheses_unless_minified, unless_minified, where_same, statement_end, due_semicolon, drop_semicolon, statement_begins, arrow_body_begins, default_export_begins, mark, end_mark, link_mark, marked_word, marked_operator, marked_number, marked_indentation, apart, comments, orphans, orphan_lines, empty_body, held, lined_case, caught, annotation, annotation_line, annotated, commented, member_line, member_space, in_lines, line_break, is_pure, Manner, all_of_them, with_due_space, Lead, to_block, to_body, to_empty, Lines, Break, first_argument, other_argument, import_source, import_options}
 use Rattle.jsgen_model.specs.Comments.{Comment, there, are_any, orphans_below, left_below}
-use Rattle.jsgen_model.specs.Groups.{indented_here, soft_line_ended, one_deeper, at_level, group, with_store, group_at, without_group, is_printed, before_group, behind_group, printed_if, comments_at, orphans_before, has_orphans, orphan_lines_at, last_byte, ending_at, without_ending, closing_group, has_no_newlines, body_lines, body_of, empty_body_at, led_on_line, case_begun, case_ended, space_behind, broken_by, broken_at, on_a_line, unless_on_line, break_at, are_lined, with_lines, lines_opened, indented_if, indents as are_indented, lines_closed, softly_spaced, member_line_at, member_space_at, commented_if}
+use Rattle.jsgen_model.specs.Groups.{indented_here, soft_line_ended, one_deeper, at_level, group, with_store, group_at, without_group, is_printed, before_group, printed_if, comments_at, orphans_before, has_orphans, orphan_lines_at, last_byte, ending_at, without_ending, closing_group, has_no_newlines, body_lines, empty_body_at, led_on_line, case_begun, case_ended, broken_by, broken_at, on_a_line, unless_on_line, break_at, are_lined, with_lines, lines_opened, indents as are_indented, lines_closed, softly_spaced, member_line_at, member_space_at, commented_if}
 use Rattle.jsgen_model.specs.Layout.{Pen, Start, other_end, written, written_if, text_if, not, is_barred, deeper_level, entered, at_indentation, are_same, led}
 use Rattle.jsgen_model.specs.Lay.{lay, lifts, annotated_if, is_enclosed, case_mark, before_block, stood, may_be_indented, mark_behind, span_mark}
 use Rattle.jsgen_comment_laws.specs.Stand.{Waiting}

@@ -1,13 +1,13 @@
 -- What leaves the store of comments is printed, each at a place of its own, and what stays is as it was.
 use Rattle.std.specs.Prelude.{⊤}
-use Rattle.std.proofs.Common.{◌≡◌, ℕ, ◌+◌, ◌≤◌, ◌<◌, Bool, true, false, ◌&&◌, ◌||◌, ◌==◌, nat_lt, if◌then◌else◌, List, [], ◌∷◌, ◌++◌, map, Option, Some, None, refl, sym, ap, subst, ◌∙◌, arith, append_assoc, append-nil}
-use Rattle.std.proofs.lemmas.Bool.{eqb-true, ne_eqb, ltb-true, ltb-false, or_parts}
+use Rattle.std.proofs.Common.{◌≡◌, ℕ, ◌+◌, ◌≤◌, ◌<◌, Bool, true, false, ◌&&◌, ◌||◌, ◌==◌, nat_lt, if◌then◌else◌, List, [], ◌∷◌, ◌++◌, map, Option, Some, None, refl, sym, ap, subst, ◌∙◌, arith, append_assoc}
+use Rattle.std.proofs.lemmas.Bool.{eqb-true, ne_eqb, ltb-false}
 use Rattle.std.proofs.lemmas.List.{map-append}
-use Rattle.jsgen_model.specs.Comments.{Comment, Groups, Store, there, without, taken, is_outliving, outliving, without_outliving, orphans_at, left_at, orphans_below, left_below}
+use Rattle.jsgen_model.specs.Comments.{Comment, Groups, Store, there, taken, is_outliving, outliving, without_outliving, orphans_at, left_at, orphans_below, left_below}
 use Rattle.jsgen_model.specs.Groups.{group_at, without_group, with_store, ending_at, without_ending}
 use Rattle.jsgen_model.specs.Layout.{Pen}
-use Rattle.jsgen_comment_laws.specs.Stand.{Waiting, Place, Stand, count}
-use Rattle.jsgen_comment_laws.proofs.Counts.{waiting, waiting_at, waiting_in, is_at, count_append, count_both, From, from_less, from_without, from_without_outliving, count_taken, count_without_outliving, none_outlives}
+use Rattle.jsgen_comment_laws.specs.Stand.{Waiting, Stand, count}
+use Rattle.jsgen_comment_laws.proofs.Counts.{waiting_at, waiting_in, is_at, count_append, From, from_without, from_without_outliving, count_taken, count_without_outliving, none_outlives}
 use Rattle.jsgen_comment_laws.proofs.Writes.{Adds, Writes, stand_both}
 
 -- ---- stores

@@ -1,14 +1,12 @@
 -- Which comments items leave none of: each statement of a program's own those at its start.
 use Rattle.std.specs.Prelude.{⊤}
-use Rattle.std.proofs.Common.{◌≡◌, ℕ, ◌+◌, ◌≤◌, Bool, true, false, not, ◌&&◌, ◌||◌, ◌++◌, List, [], ◌∷◌, Option, Some, None, refl, sym, ap, subst, ◌∙◌, arith}
-use Rattle.std.proofs.lemmas.Bool.{both_ways, and_parts}
-use Rattle.jsgen_syntax.specs.declared.span.Span.{Span}
-use Rattle.jsgen_tree.specs.Tree.{Tree, node, Maybe, absent, given, Trees, no_trees, more, hole, Atoms, type_of, span_of}
+use Rattle.std.proofs.Common.{◌≡◌, ℕ, ◌+◌, ◌≤◌, Bool, true, false, ◌&&◌, ◌||◌, List, [], ◌∷◌, Option, Some, None, refl, sym, subst, arith}
+use Rattle.std.proofs.lemmas.Bool.{both_ways}
+use Rattle.jsgen_tree.specs.Tree.{Tree, Trees, no_trees, more, hole, type_of, span_of}
 use Rattle.jsgen_tree.specs.Nodes as tree
 use Rattle.jsgen_tree.specs.Values.{function_kind, function_pure, function_pife, class_kind}
 use Rattle.jsgen_tree.specs.Inside.{has_name}
 use Rattle.jsgen_tree.specs.Sets.{is_statement, is_directive}
-use Rattle.jsgen_tree.specs.Everywhere.{EverywhereInTrees}
 use Rattle.jsgen_tree.specs.declared.types.NodeSet.TheVariants as sets
 use Rattle.jsgen_tree.specs.declared.functions.FunctionKind.{FunctionKind}
 use Rattle.jsgen_tree.specs.declared.functions.FunctionKind.TheVariants as function_kinds
@@ -16,15 +14,15 @@ use Rattle.jsgen_tree.specs.declared.classes.ClassKind.{ClassKind}
 use Rattle.jsgen_tree.specs.declared.classes.ClassKind.TheVariants as class_kinds
 use Rattle.jsgen_place.specs.Place.{among_statements}
 use Rattle.jsgen_model.specs.Items.{Items, ◌⊕◌, comments, all_of_them, orphans, due_semicolon, mark, marked_indentation, first_string, statement_end}
-use Rattle.jsgen_model.specs.Comments.{Comment, Groups, Store, there, without, are_any}
-use Rattle.jsgen_model.specs.Groups.{group_at, without_group, group, printed_if}
+use Rattle.jsgen_model.specs.Comments.{Comment, Groups, are_any}
+use Rattle.jsgen_model.specs.Groups.{group_at, without_group, printed_if}
 use Rattle.jsgen_model.specs.Layout.{Pen}
 use Rattle.jsgen_model.specs.Lay.{lay}
 use Rattle.jsgen_model.specs.Plain.{is_formed}
 use Rattle.jsgen_model.specs.Valid.{fits_kind, fits_place, as_function_kind}
 use Rattle.jsgen_model.specs.Spell.{spell, spell_directives, spell_body, spell_statements, function_items, class_items, first_statement, unless_string, span_inside, string_statement}
 use Rattle.jsgen_comment_laws.specs.Stand.{Waiting, one_if, count, is_before}
-use Rattle.jsgen_comment_laws.proofs.Counts.{waiting_in, is_at, count_both, none_left, none_of_no_group}
+use Rattle.jsgen_comment_laws.proofs.Counts.{waiting_in, is_at, none_left, none_of_no_group}
 use Rattle.jsgen_comment_laws.proofs.Writes.{writes_group}
 use Rattle.jsgen_comment_laws.proofs.Stores.{Sound}
 use Rattle.jsgen_comment_laws.proofs.Steps.{lay_goes}

@@ -1,17 +1,15 @@
 -- Steps as they are woven: which gaps they fill, and what they print of the comments that wait.
-use Rattle.std.specs.Prelude.{⊤, Contains}
-use Rattle.std.proofs.Common.{◌≡◌, ◌⊎◌, inl, inr, ℕ, ◌+◌, ◌≤◌, Bool, true, false, ◌&&◌, ◌||◌, nat_lt, if◌then◌else◌, List, [], ◌∷◌, ◌++◌, drop, length, Option, Some, None, codes, refl, sym, ap, subst, ◌∙◌, arith, append_assoc, append-nil}
-use Rattle.std.proofs.lemmas.List.{drop-append-le}
+use Rattle.std.specs.Prelude.{Contains}
+use Rattle.std.proofs.Common.{◌≡◌, ℕ, Bool, true, false, if◌then◌else◌, List, [], ◌∷◌, ◌++◌, drop, length, Option, Some, None, refl, sym, ap, subst, ◌∙◌, arith, append_assoc, append-nil}
 use Rattle.jsgen_model.specs.Punctuator.{Round, opening, closing}
-use Rattle.jsgen_model.specs.Comments.{Comment, Groups, Store, there, without, orphans_below, left_below, orphans_at}
-use Rattle.jsgen_model.specs.Groups.{group_at, without_group, with_store, last_byte, ending_at, without_ending}
-use Rattle.jsgen_model.specs.Layout.{Pen, other_end, written, written_if}
-use Rattle.jsgen_comment_laws.specs.Stand.{Waiting, IsTextOf}
-use Rattle.jsgen_comment_laws.specs.Woven.{is_white, dark_of, Bones, no_bones, dark, comment_gap, orphan_gap, annotation_gap, parentheses_gap, ◌⧺◌, darks, in_parentheses, gap_if, between, InTwo, IsDarkTextOf, FilledBy, Filled, BelongsTo, IsOrphan, InParentheses, Woven}
-use Rattle.jsgen_comment_laws.proofs.Counts.{waiting, waiting_at}
+use Rattle.jsgen_model.specs.Comments.{Comment, orphans_below, left_below}
+use Rattle.jsgen_model.specs.Groups.{group_at, without_group, with_store, ending_at, without_ending}
+use Rattle.jsgen_model.specs.Layout.{Pen, written_if}
+use Rattle.jsgen_comment_laws.specs.Stand.{Waiting}
+use Rattle.jsgen_comment_laws.specs.Woven.{is_white, dark_of, Bones, no_bones, dark, comment_gap, orphan_gap, annotation_gap, parentheses_gap, ◌⧺◌, darks, in_parentheses, gap_if, between, InTwo, FilledBy, BelongsTo, IsOrphan, Woven}
+use Rattle.jsgen_comment_laws.proofs.Counts.{waiting_at}
 use Rattle.jsgen_comment_laws.proofs.Writes.{Adds, Writes, DarkTexts, dark_both, adds_if, nothing_written}
-use Rattle.jsgen_comment_laws.proofs.Stores.{Goes, goes_then, one_goes, keeps, keeps_adds, prints_taken, prints_orphans, holds_last, found_at, comments_of, found_are}
-use Rattle.jsgen_comment_laws.proofs.Held as helds
+use Rattle.jsgen_comment_laws.proofs.Stores.{Goes, goes_then, keeps, keeps_adds, prints_taken, prints_orphans, holds_last, found_at, comments_of, found_are}
 use Rattle.jsgen_comment_laws.proofs.Held.{EveryIn, Every, AreFound, every_there, every_without, every_left, orphans_found}
 
 -- ---- bones in a row

@@ -8,12 +8,12 @@ use Rattle.jsgen_syntax.specs.Raw.{tag_free}
 use Rattle.jsgen_tree.specs.declared.statements.CommentKind.{CommentKind}
 use Rattle.jsgen_tree.specs.declared.statements.CommentKind.TheVariants as kinds
 use Rattle.jsgen_tree.specs.Options.{Legal, left_out, inline, at_end, linked, external}
-use Rattle.jsgen_model.specs.Items.{Annotation, no_side_effects, Break, first_argument, other_argument, import_source, import_options, Manner, all_of_them, then_space, with_due_space, before_it, annotation_before_it, with_key_annotation, Lead, to_block, to_body, to_empty}
+use Rattle.jsgen_model.specs.Items.{Manner, all_of_them, then_space, with_due_space, before_it, annotation_before_it, with_key_annotation, Lead, to_block, to_body, to_empty}
 use Rattle.jsgen_model.specs.Comments.{Comment}
-use Rattle.jsgen_model.specs.Groups.{line_ended, indented_here, softly_spaced, with_pending_space, used_up_if, used_up, lines_of, opens_block, closes_block, indented_if, block_line, block_lines, is_mid_line, html_close, text_written, comment_written, last_of, on_new_line, at_line_start, before_first, is_legal, before_later, is_line, ends_line, behind_last, behind, group, ends_in, before_group, behind_group, closing_group, annotation_text, fitting_at, without_annotation, annotation_by, annotation_written, begun_at, annotation_at, annotation_line_at, each_on_line, broken_by, soft_line_ended}
+use Rattle.jsgen_model.specs.Groups.{line_ended, indented_here, softly_spaced, with_pending_space, used_up_if, used_up, lines_of, opens_block, closes_block, indented_if, block_line, block_lines, is_mid_line, html_close, text_written, comment_written, last_of, on_new_line, at_line_start, before_first, is_legal, before_later, is_line, ends_line, behind_last, behind, group, ends_in, before_group, behind_group, closing_group, each_on_line, broken_by, soft_line_ended}
 use Rattle.jsgen_model.specs.Ends.{each_written, licensed, reference}
-use Rattle.jsgen_model.specs.Layout.{Pen, Start, Ending, other_end, written, written_if, text_if, not, indented, indent_or_space, at_indentation, end_statement, led}
-use Rattle.jsgen_comment_laws.specs.Stand.{Place, Stand}
+use Rattle.jsgen_model.specs.Layout.{Pen, Ending, other_end, written, written_if, text_if, not, indented, indent_or_space, at_indentation, end_statement, led}
+use Rattle.jsgen_comment_laws.specs.Stand.{Stand}
 use Rattle.jsgen_comment_laws.specs.Woven.{is_white, dark_of, InTwo, IsDarkTextOf}
 
 -- ---- places in longer texts

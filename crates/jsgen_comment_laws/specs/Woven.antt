@@ -1,5 +1,5 @@
 -- What of a text stays whatever comments there are, and how comments are woven into it.
-use Rattle.std.specs.Prelude.{◌≡◌, ⊤, ◌⊎◌, ℕ, nat_lt, List, [], ◌∷◌, ◌++◌, length, drop, not, Bool, true, false, Option, Some, None, ◌&&◌, ◌||◌, ◌==◌, Contains, if◌then◌else◌}
+use Rattle.std.specs.Prelude.{◌≡◌, ◌⊎◌, ℕ, nat_lt, List, [], ◌∷◌, ◌++◌, length, drop, not, Bool, true, false, Option, Some, None, ◌&&◌, ◌||◌, ◌==◌, Contains, if◌then◌else◌}
 use Rattle.std.specs.List.{filter}
 use Rattle.jsgen_model.specs.Punctuator.{Round, opening, closing}
 use Rattle.jsgen_model.specs.Items.{Items, ◌⊕◌, a_brace, deeper, in_class, brackets, wrapped, wrapped_at_start, parentheses_unless_minified, unless_minified, where_same, comments, orphans, orphan_lines, empty_body, held, lined_case, caught, annotation, annotation_line, annotated, commented, member_line, member_space, in_lines, line_break, Annotation, is_pure, no_side_effects, Break, first_argument, other_argument, import_source, import_options, all_of_them}
