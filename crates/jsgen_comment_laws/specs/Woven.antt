@@ -71,7 +71,8 @@ break_offset import_options = None
 abbrev pub between : Pen → Pen → Bones
 between p q = darks (dark_of (drop (length p.code) q.code))
 
--- the bones of items from a pen: the characters of each, and its gaps, be there comments or not
+-- The bones of items from a pen: the characters of each, and its gaps. The pens between are those of the text itself, so that a comment has no
+-- part in them but where a pen tells what begins there
 abbrev pub bones : Items → Pen → Bones
 bones (a ⊕ b) p = bones a p ⧺ bones b (lay a p)
 bones (deeper items) p = bones items (record p { depth = deeper_level p.style.minified p.depth })
