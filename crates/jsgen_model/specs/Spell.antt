@@ -35,7 +35,7 @@ use Rattle.jsgen_tree.specs.Nodes as tree
 use Rattle.jsgen_model.specs.Numbers.{takes_no_dot}
 use Rattle.jsgen_model.specs.Punctuator.{ellipsis, comma, semicolon, equal, minus, Round, Square, Brace, colon, question, question_dot, arrow, star}
 use Rattle.jsgen_model.specs.Quotes.{is_require_call, is_definition_call, is_key_of_exports, is_export_mark}
-use Rattle.jsgen_model.specs.Items.{Items, TemplatePart, whole_part, head_part, middle_part, tail_part, nothing, ◌⊕◌, word, name, private_name, number, template_part, with_key_annotation, string, marked_number, first_string, directive, punctuator, operator, member_dot, brackets, soft_space, soft_line, hard_space, body_space, deeper, in_class, indentation, wrapped, wrapped_at_start, a_brace, a_declaration, parentheses_unless_minified, where_same, statement_end, due_semicolon, drop_semicolon, statement_begins, arrow_body_begins, unless_minified, literal, default_export_begins, end_mark, link_mark, marked_operator, marked_indentation, orphans, orphan_lines, empty_body, held, lined_case, caught, then_space, before_it, annotation_before_it, Manner, commented, member_line, member_space, annotation, annotation_line, annotated, no_side_effects, in_lines, of_call, of_import, line_break, first_argument, other_argument, import_source, import_options, Lead, to_block, to_body, to_empty}
+use Rattle.jsgen_model.specs.Items.{Items, TemplatePart, whole_part, head_part, middle_part, tail_part, nothing, ◌⊕◌, word, name, private_name, number, template_part, with_key_annotation, string, marked_number, first_string, directive, punctuator, operator, member_dot, brackets, soft_space, soft_line, hard_space, body_space, deeper, in_class, indentation, wrapped, wrapped_at_start, a_brace, a_declaration, parentheses_unless_minified, where_same, statement_end, due_semicolon, drop_semicolon, statement_begins, arrow_body_begins, unless_minified, literal, default_export_begins, end_mark, link_mark, marked_operator, marked_indentation, orphans, orphan_lines, empty_body, held, lined_case, caught, then_space, before_it, annotation_before_it, none_of_them, Manner, commented, member_line, member_space, annotation, annotation_line, annotated, no_side_effects, in_lines, of_call, of_import, line_break, first_argument, other_argument, import_source, import_options, Lead, to_block, to_body, to_empty}
 use Rattle.jsgen_tree.specs.Nodes as tree
 use Rattle.jsgen_model.specs.Lay.{lay}
 use Rattle.jsgen_model.specs.Comments.{kept, kept_annotations}
@@ -334,6 +334,11 @@ abbrev pub before_expression : Manner → Tree → Items
 before_expression manner (tree.parenthesized a expression) = comments manner a.span.start ⊕ before_expression manner expression
 before_expression manner t = if is_marked_as_called t then nothing else comments manner (span_of t).start
 
+-- the same inside of the parentheses, of a function that is marked so
+abbrev pub before_called : Bool → Manner
+before_called true = before_it
+before_called false = none_of_them
+
 -- a string that is a key is never in backticks
 abbrev pub key_text : Tree → Items → Items
 key_text (tree.string_literal a) items = comments with_key_annotation a.span.start ⊕ (mark a.span ⊕ string false (string_literal_value a))
@@ -442,7 +447,7 @@ parameter_items false items = brackets Round items
 abbrev pub function_items : FunctionKind → Bool → Bool → Place → ℕ → Items → Items
 function_items function_kinds.Declaration pure pife place start items = items_if place.in_list (comments all_of_them start ⊕ annotation_line true pure start) ⊕ block_items place.in_list items
 -- an expression stands in parentheses where it is marked so, and where a statement or a default export begins with it
-function_items function_kinds.Expression pure pife place start items = annotation pure no_side_effects start ⊕ wrapped_at_start pife a_declaration items
+function_items function_kinds.Expression pure pife place start items = annotation pure no_side_effects start ⊕ wrapped_at_start pife a_declaration (comments (before_called pife) start ⊕ items)
 
 -- the words before a function's name (ECMA-262, 15.2, 15.5, 15.6 and 15.8); the tests tell that it is `async`, and a generator. Of two
 -- marks of one span, one behind the other, the second is left out
@@ -747,9 +752,9 @@ abbrev mutual
   spell (tree.formal_parameters a items rest) place = spell_list items place ⊕ (comma_between items rest ⊕ spell_if_given rest place)
   -- no line end stands before the arrow (ECMA-262, 15.3)
   spell (tree.arrow_function a params body) place =
-      annotation (arrow_function_expression_pure a) no_side_effects a.span.start ⊕ wrapped (arrow_wraps (arrow_function_expression_pife a) place) (items_if (arrow_function_expression_is_async a) (marked_word a.span (codes "async") ⊕ soft_space)
-      ⊕ (parameter_items (is_name_alone params) (spell params (child Comma (within true place)))
-      ⊕ (soft_space ⊕ (punctuator arrow ⊕ (soft_space ⊕ (body_begins (type_of body) ⊕ spell body (child Comma (within (arrow_wraps (arrow_function_expression_pife a) place) place))))))))
+      annotation (arrow_function_expression_pure a) no_side_effects a.span.start ⊕ wrapped (arrow_wraps (arrow_function_expression_pife a) place) (comments (before_called (arrow_function_expression_pife a)) a.span.start
+      ⊕ (items_if (arrow_function_expression_is_async a) (marked_word a.span (codes "async") ⊕ soft_space) ⊕ (parameter_items (is_name_alone params) (spell params (child Comma (within true place)))
+      ⊕ (soft_space ⊕ (punctuator arrow ⊕ (soft_space ⊕ (body_begins (type_of body) ⊕ spell body (child Comma (within (arrow_wraps (arrow_function_expression_pife a) place) place)))))))))
   spell (tree.function a id params body) place =
       function_items (function_kind a) (function_pure a) (function_pife a) place a.span.start (function_words a.span (function_is_async a) (function_generator a) ⊕ (spell_if_given id (child Lowest place)
       ⊕ (brackets Round (spell params (with_calls (child Comma place))) ⊕ spell_apart body within_statement)))
