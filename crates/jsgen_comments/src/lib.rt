@@ -9,4 +9,4 @@ mod text;
 pub use annotations::AnnotationKind;
 pub use comments::{Comments, Group};
 pub use legal::licences;
-pub use text::{first_line, text_of};
+pub use text::{first_line, text_at, text_of};

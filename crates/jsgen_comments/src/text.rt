@@ -23,8 +23,8 @@ fn spans_characters(source: &str, span: Span) -> bool
     is_offset(source, span.start) && is_offset(source, span.end)
 }
 
-// What the source has at a span that begins and ends at characters of it.
-fn text_at(source: &str, span: Span) -> Option<&str>
+/// What the source has at a span that begins and ends at characters of it.
+pub fn text_at(source: &str, span: Span) -> Option<&str>
     ensures { option_copied result ≡ name_text_at source.now span }
 {
     if span.start <= span.end && spans_characters(source, span) {

@@ -6,7 +6,7 @@ use Rattle.jsgen_syntax.specs.Raw.{tag_free}
 use Rattle.jsgen_tree.specs.declared.statements.CommentKind.{CommentKind}
 use Rattle.jsgen_tree.specs.declared.statements.CommentKind.TheVariants as kinds
 use Rattle.jsgen_map.specs.Marks.{Mark}
-use Rattle.jsgen_model.specs.Items.{Annotation, no_side_effects, Lines, of_call, of_import, Break, first_argument, other_argument, import_source, import_options, Manner, all_of_them, then_space, with_due_space, before_it, annotation_before_it, with_key_annotation, Lead, to_block, to_body, to_empty}
+use Rattle.jsgen_model.specs.Items.{Annotation, no_side_effects, Lines, of_call, of_import, Break, first_argument, other_argument, import_source, import_options, Manner, all_of_them, then_space, with_due_space, before_it, annotation_before_it, with_key_annotation, none_of_them, Lead, to_block, to_body, to_empty}
 use Rattle.jsgen_model.specs.Comments.{Comment, Store, are_any, left_below, orphans_below}
 use Rattle.jsgen_model.specs.Groups.{line_ended, indented_here, softly_spaced, with_pending_space, used_up_if, used_up, lines_of, opens_block, closes_block, indented_if, block_line, block_lines, is_mid_line, html_close, text_written, comment_written, last_of, on_new_line, at_line_start, before_first, is_legal, before_later, is_line, ends_line, behind_last, behind, group, with_store, group_at, without_group, is_printed, ends_in, before_group, behind_group, printed_if, comments_at, orphans_before, has_orphans, one_deeper, at_level, soft_line_ended, orphan_lines_at, last_byte, ending_at, without_ending, closing_group, has_no_newlines, body_lines, body_of, empty_body_at, led_on_line, case_begun, case_ended, space_behind, annotation_text, fitting_at, without_annotation, annotation_by, annotation_written, begun_at, annotation_at, annotation_line_at, each_on_line, broken_by, broken_at, on_a_line, unless_on_line, break_at, any_group, may_be_lined, are_lined, with_lines, lines_opened, indents as are_indented, lines_closed, member_line_at, member_space_at, commented_if}
 use Rattle.jsgen_model.specs.Layout.{Pen, Start, Ending, other_end, written, written_if, indented, indent_or_space, at_indentation, deeper_level, led}
@@ -155,6 +155,7 @@ passes_before_group then_space p = record { adds = none p; alike = λ s ms. refl
 passes_before_group with_due_space p = record { adds = none p; alike = λ s ms. refl }
 passes_before_group before_it p = record { adds = none p; alike = λ s ms. refl }
 passes_before_group annotation_before_it p = record { adds = none p; alike = λ s ms. refl }
+passes_before_group none_of_them p = record { adds = none p; alike = λ s ms. refl }
 
 -- what is due before an expression
 passes_due : (p : Pen) → Passes (λ q. if ends_in 10 q then indented_here q else used_up q) p
@@ -166,6 +167,7 @@ passes_behind_group with_due_space p = uses_up p
 passes_behind_group before_it p = passes_due p
 passes_behind_group annotation_before_it p = passes_due p
 passes_behind_group with_key_annotation p = passes_due p
+passes_behind_group none_of_them p = passes_due p
 passes_behind_group then_space p = record { adds = step_then (written_if_step (layouts.not p.style.minified) (codes " ") p) (same (softly_spaced p) (behind_group then_space p) refl refl refl); alike = λ s ms. refl }
 
 pub passes_taken : (o : ℕ) (p : Pen) → Passes (without_group o) p

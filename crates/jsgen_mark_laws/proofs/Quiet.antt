@@ -4,7 +4,7 @@ use Rattle.jsgen_syntax.specs.Escapes.{name_text, has_escapes}
 use Rattle.jsgen_syntax.specs.Raw.{template_text}
 use Rattle.jsgen_tree.specs.Named.{printed_name}
 use Rattle.jsgen_model.specs.Punctuator.{Round, opening, closing, punctuator_text}
-use Rattle.jsgen_model.specs.Items.{Items, a_brace, annotation, annotation_line, annotated, commented, member_line, in_lines, line_break, Lines, Break, first_argument, other_argument, import_source, import_options, with_due_space, before_it, annotation_before_it, TemplatePart, whole_part, head_part, middle_part, tail_part, ◌⊕◌, name, private_name, template_part, indentation, deeper, in_class, brackets, wrapped, wrapped_at_start, parentheses_unless_minified, unless_minified, where_same, statement_end, mark, end_mark, link_mark, marked_word, marked_operator, marked_number, marked_indentation, comments, empty_body, held, lined_case, caught, all_of_them, with_key_annotation, then_space, Lead, to_block, to_body, to_empty}
+use Rattle.jsgen_model.specs.Items.{Items, a_brace, annotation, annotation_line, annotated, commented, member_line, in_lines, line_break, Lines, Break, first_argument, other_argument, import_source, import_options, with_due_space, before_it, annotation_before_it, none_of_them, TemplatePart, whole_part, head_part, middle_part, tail_part, ◌⊕◌, name, private_name, template_part, indentation, deeper, in_class, brackets, wrapped, wrapped_at_start, parentheses_unless_minified, unless_minified, where_same, statement_end, mark, end_mark, link_mark, marked_word, marked_operator, marked_number, marked_indentation, comments, empty_body, held, lined_case, caught, all_of_them, with_key_annotation, then_space, Lead, to_block, to_body, to_empty}
 use Rattle.jsgen_map.specs.Marks.{Mark}
 use Rattle.jsgen_model.specs.Layout.{Pen, Ending, nowhere, other_end, operator_end, number_ending, joins, written, written_if, text_if, space_if, is_apart, name_ending, is_barred, deeper_level, entered, indented, indent_or_space, at_indentation, end_statement, are_same, not, part_text, led, on_one_line, layout}
 use Rattle.jsgen_model.specs.Comments.{empty_store, are_any}
@@ -227,6 +227,7 @@ alike (line_break at) ms q printed e h = record { marks = ms; same = break_alike
 alike (comments with_due_space o) ms q printed e h = record { marks = ms; same = refl }
 alike (comments before_it o) ms q printed e h = record { marks = ms; same = refl }
 alike (comments annotation_before_it o) ms q printed e h = record { marks = ms; same = refl }
+alike (comments none_of_them o) ms q printed e h = record { marks = ms; same = refl }
 alike item ms q printed e h = record { marks = ms; same = refl }
 
 stored_alike : (items : Items) (q : Pen) → layout items (quiet q) ≡ quiet (layout items q)

@@ -8,7 +8,7 @@ use Rattle.jsgen_tree.specs.declared.statements.CommentKind.{CommentKind}
 use Rattle.jsgen_tree.specs.declared.statements.CommentKind.TheVariants as kinds
 use Rattle.jsgen_tree.specs.declared.statements.CommentContent.{CommentContent}
 use Rattle.jsgen_tree.specs.declared.statements.CommentContent.TheVariants as contents
-use Rattle.jsgen_model.specs.Items.{Annotation, is_pure, no_side_effects, Lines, of_call, of_import, Break, first_argument, other_argument, import_source, import_options, Manner, all_of_them, then_space, with_due_space, annotation_before_it, with_key_annotation, Lead, to_body}
+use Rattle.jsgen_model.specs.Items.{Annotation, is_pure, no_side_effects, Lines, of_call, of_import, Break, first_argument, other_argument, import_source, import_options, Manner, all_of_them, then_space, with_due_space, annotation_before_it, with_key_annotation, none_of_them, Lead, to_body}
 use Rattle.jsgen_model.specs.Comments.{Comment, Store, there, without, are_any, taken, orphans_below, left_below, has_orphans_below}
 use Rattle.jsgen_model.specs.Layout.{Pen, Style, Start, on_one_line, other_end, written, written_if, not, at_indentation, deeper_level, led}
 use Rattle.jsgen_model.specs.Tokens.{is_line_terminator}
@@ -179,6 +179,7 @@ is_tool_annotation c = is_for_tools c.content
 abbrev pub is_printed : Manner → List Comment → Bool
 is_printed with_key_annotation cs = list_any is_key_annotation cs
 is_printed annotation_before_it cs = list_any is_tool_annotation cs
+is_printed none_of_them cs = false
 is_printed manner cs = are_any cs
 
 abbrev pub ends_in : ℕ → Pen → Bool

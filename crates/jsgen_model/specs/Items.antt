@@ -10,9 +10,9 @@ pub data Opener : Type 0 where
 
 -- Which comments at an offset a row prints, and what stands behind them: the group; the group with a space, in place of any that is
 -- due, or with one that is due. Before an expression what is due stands behind the group: indentation on a new line, and else a space.
--- It may be the group where it holds an annotation, or one of a property's key
+-- It may be the group where it holds an annotation, or one of a property's key, or none
 pub data Manner : Type 0 where
-  all_of_them then_space with_due_space before_it annotation_before_it with_key_annotation : Manner
+  all_of_them then_space with_due_space before_it annotation_before_it with_key_annotation none_of_them : Manner
 
 -- what leads to the one statement of a case: to a block, to an empty statement of a span, or to any other
 pub data Lead : Type 0 where

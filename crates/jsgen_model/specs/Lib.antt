@@ -10,6 +10,7 @@ pub mod Ends
 pub mod Lay
 pub mod Printing
 pub mod Quotes
+pub mod Spellings
 pub mod Spell
 pub mod Valid
 pub mod Mapped

@@ -6,7 +6,7 @@ ghost use Rattle.jsgen_tree.specs.Rows.{formal_parameters_row, formal_parameter_
 ghost use Rattle.jsgen_place.specs.Place.{child, within};
 ghost use Rattle.jsgen_model.specs.Punctuator.{Round, Brace, star};
 ghost use Rattle.jsgen_model.specs.Items.{marked_word, punctuator, brackets, soft_space, hard_space, parentheses_unless_minified, ◌⊕◌, a_declaration, comments, all_of_them, annotation_line, mark, end_mark, empty_body, drop_semicolon, held, orphans};
-ghost use Rattle.jsgen_model.specs.Spell.{spell, items_if, key_word, function_words, method_words, is_name_alone, parameter_items, body_begins, spell_method, spell_directives, spell_body, filled_braces};
+ghost use Rattle.jsgen_model.specs.Spell.{spell, items_if, key_word, function_words, method_words, before_called, is_name_alone, parameter_items, body_begins, spell_method, spell_directives, spell_body, filled_braces};
 ghost use Rattle.jsgen_printer.specs.Steps.{Lays};
 ghost use Rattle.jsgen_questions.specs.Names.{is_name_parameter};
 ghost use Rattle.jsgen_model.specs.Layout.{is_barred};
@@ -22,7 +22,7 @@ use jsgen_lists::{
     print_if_given, print_key_word, print_list,
 };
 use jsgen_place::Place;
-use jsgen_printer::{Bracket, Printer};
+use jsgen_printer::{Bracket, CommentsBefore, Printer};
 use jsgen_spelled::{print_formal_parameter, print_formal_parameter_rest};
 use jsgen_syntax::{Precedence, Span};
 use jsgen_tree::{
@@ -79,6 +79,7 @@ pub fn print_arrow_function_expression<N: PrintNode>(
     p.print_annotation_if(node.pure, node.span.start);
     let wrap = place.wraps_arrow(node.pife);
     p.print_opening_if(wrap);
+    print_comments_within(node.pife, node.span.start, p);
     let within = place.within(wrap);
     print_marked_async_if(node.is_async, node.span, p);
     print_arrow_parameters(&node.params, p, place);
@@ -217,6 +218,7 @@ pub fn print_function<N: PrintNode>(node: &Function<N>, p: &mut Printer<'_>, pla
             p.print_annotation_if(node.pure, node.span.start);
             let wrap = is_in_parentheses(node.pife, p);
             p.print_opening_if(wrap);
+            print_comments_within(node.pife, node.span.start, p);
             print_from_word(node, p, place);
             p.print_closing_if(wrap);
         }
@@ -238,6 +240,15 @@ fn is_in_parentheses(pife: bool, p: &Printer<'_>) -> bool
     ensures { result ≡ (pife || is_barred a_declaration (pen_of p.now).start) }
 {
     pife || p.bars_declaration()
+}
+
+// The comments of a function that is marked so, which stand inside of its parentheses.
+fn print_comments_within(pife: bool, start: u32, p: &mut Printer<'_>)
+    ensures { Lays p.old p.new (comments (before_called pife) start) }
+{
+    if pife {
+        p.print_comments_before(CommentsBefore::All, start);
+    }
 }
 
 // From the word on.

@@ -8,7 +8,7 @@ use Rattle.jsgen_tree.specs.declared.statements.CommentKind.TheVariants as kinds
 use Rattle.jsgen_model.specs.Comments.{Comment, are_any, orphans_below, left_below}
 use Rattle.jsgen_model.specs.Groups.{line_ended, indented_here, softly_spaced, used_up_if, indented_if, opens_block, block_line, block_lines, lines_of, is_mid_line, html_close, text_written, comment_written, last_of, on_new_line, at_line_start, before_first, before_later, is_legal, behind_last, is_line, ends_line, behind, group, with_store, group_at, without_group, ends_in, before_group, behind_group, printed_if, is_printed, comments_at, orphans_before, has_orphans, one_deeper, at_level, soft_line_ended, orphan_lines_at, last_byte, ending_at, without_ending, closing_group, has_no_newlines, body_lines, body_of, empty_body_at, led_on_line, case_begun, case_ended, used_up, annotation_text, fitting_at, without_annotation, annotation_by, annotation_written, begun_at, annotation_at, annotation_line_at, commented_if, member_line_at, member_space_at, each_on_line, broken_by, broken_at, on_a_line, unless_on_line, break_at, with_lines, lines_opened, indents, lines_closed}
 use Rattle.jsgen_model.specs.Ends.{each_written}
-use Rattle.jsgen_model.specs.Items.{Annotation, is_pure, no_side_effects, Lines, Break, first_argument, other_argument, import_source, import_options, Manner, all_of_them, then_space, with_due_space, before_it, annotation_before_it, with_key_annotation, Lead, to_block, to_body, to_empty}
+use Rattle.jsgen_model.specs.Items.{Annotation, is_pure, no_side_effects, Lines, Break, first_argument, other_argument, import_source, import_options, Manner, all_of_them, then_space, with_due_space, before_it, annotation_before_it, with_key_annotation, none_of_them, Lead, to_block, to_body, to_empty}
 use Rattle.jsgen_model.specs.Lay.{case_mark, stood, before_block, span_mark, lifts, annotated_if, annotated_from, is_enclosed, commented_from}
 use Rattle.jsgen_model.specs.Layout.{Pen, Start, Ending, other_end, written, written_if, text_if, not, indented, indent_or_space, at_indentation, led}
 use Rattle.jsgen_model.specs.Printing.{IsPrefix}
@@ -147,6 +147,7 @@ before_group_adds then_space pen = adds_nothing pen
 before_group_adds with_due_space pen = adds_nothing pen
 before_group_adds before_it pen = adds_nothing pen
 before_group_adds annotation_before_it pen = adds_nothing pen
+before_group_adds none_of_them pen = adds_nothing pen
 
 -- what is due before an expression
 pub due_adds : (pen : Pen) → Adds pen (if ends_in 10 pen then indented_here pen else used_up pen)
@@ -158,6 +159,7 @@ behind_group_adds with_due_space pen = used_up_adds pen.pending_space pen
 behind_group_adds before_it pen = due_adds pen
 behind_group_adds annotation_before_it pen = due_adds pen
 behind_group_adds with_key_annotation pen = due_adds pen
+behind_group_adds none_of_them pen = due_adds pen
 behind_group_adds then_space pen = record { text = prefix_append pen.code _; classes = refl }
 
 -- the group at an offset, which leaves the store

@@ -16,6 +16,6 @@ mod Templates
 pub mod Prefixes
 pub mod Pushed
 pub mod Sequence
-pub mod Sources
+pub mod Hashes
 pub mod Texts
 pub mod Turns

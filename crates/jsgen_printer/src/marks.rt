@@ -5,9 +5,9 @@ ghost use Rattle.std.specs.Option.{option_copied};
 ghost use Rattle.jsgen_map.specs.Marks.{last_from, is_last, unless_last};
 ghost use Rattle.jsgen_map.specs.Plain.{mark_plain};
 ghost use Rattle.jsgen_model.specs.Marks.{name_text_at, other_than};
-ghost use Rattle.jsgen_model.specs.Spans.{is_offset, spans_characters};
 
 use crate::same::{is_behind_hash, is_same};
+use jsgen_comments::text_at;
 use jsgen_map::Mark;
 use jsgen_syntax::{Memory, Span};
 use std::alloc::Global;
@@ -69,35 +69,11 @@ impl<'a> Marks<'a> {
     }
 }
 
-fn is_offset(source: &str, offset: u32) -> bool
-    ensures { result ≡ is_offset source.now offset }
-{
-    source.is_char_boundary(offset as usize)
-}
-
-// Whether a span begins and ends at characters of the source.
-fn spans_characters(source: &str, span: Span) -> bool
-    ensures { result ≡ spans_characters source.now span }
-{
-    is_offset(source, span.start) && is_offset(source, span.end)
-}
-
-// What the source has at a span that begins and ends at characters of it.
-fn name_text_at(source: &str, span: Span) -> Option<&str>
-    ensures { option_copied result ≡ name_text_at source.now span }
-{
-    if span.start <= span.end && spans_characters(source, span) {
-        source.get(span.start as usize..span.end as usize)
-    } else {
-        None
-    }
-}
-
 /// What the source has at the span of a name, where it is another name than is printed there.
 pub fn other_name<'a>(source: &'a str, span: Span, printed: &str) -> Option<&'a str>
     ensures { option_copied result ≡ other_than (name_text_at source.now span) (chars printed.now) }
 {
-    match name_text_at(source, span) {
+    match text_at(source, span) {
         Some(was) => if is_same(was, printed) {
             None
         } else {
@@ -111,7 +87,7 @@ pub fn other_name<'a>(source: &'a str, span: Span, printed: &str) -> Option<&'a 
 pub fn other_private_name<'a>(source: &'a str, span: Span, printed: &str) -> Option<&'a str>
     ensures { option_copied result ≡ other_than (name_text_at source.now span) (35 ∷ chars printed.now) }
 {
-    match name_text_at(source, span) {
+    match text_at(source, span) {
         Some(was) => if is_behind_hash(was, printed) {
             None
         } else {

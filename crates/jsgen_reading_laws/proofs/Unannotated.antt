@@ -119,7 +119,7 @@ mutual
       (before_target_none (written_name_in key) (target_named binding) _ (said, (tt, tt)), tree_none binding _ h.1.1.0)
   tree_none (tree.formal_parameters a items rest) place h = (list_none items _ h.1.0, (comma_between_none items rest, if_given_none rest _ h.1.1.0))
   tree_none (tree.arrow_function a params body) place h =
-      (unmarked_none (arrow_function_expression_pure a) h.0, (items_if_none (arrow_function_expression_is_async a) _ (tt, tt), (parameter_items_none (is_name_alone params) _ (tree_none params _ h.1.0), (tt, (tt, (tt, (body_begins_none (type_of body), tree_none body _ h.1.1.0)))))))
+      (unmarked_none (arrow_function_expression_pure a) h.0, (tt, (items_if_none (arrow_function_expression_is_async a) _ (tt, tt), (parameter_items_none (is_name_alone params) _ (tree_none params _ h.1.0), (tt, (tt, (tt, (body_begins_none (type_of body), tree_none body _ h.1.1.0))))))))
   tree_none (tree.function a id params body) place h =
       function_items_none (function_kind a) (function_pure a) _ place _ _ (unmarked_none (function_pure a) h.0) (function_words_none a.span (function_is_async a) (function_generator a), (if_given_none id _ h.1.0, (tree_none params _ h.1.1.0, apart_none body _ h.1.1.1.0)))
   tree_none (tree.function_body a directives statements) place h =

@@ -277,7 +277,7 @@ parameter_items_none false items h = h
 
 pub function_items_none : (kind : FunctionKind) (pure pife : Bool) (place : Place) (start : ℕ) (items : Items) → (pure && true) ≡ false → Unannotated items → Unannotated (function_items kind pure pife place start items)
 function_items_none function_kinds.Declaration pure pife place start items e h = (items_if_none place.in_list _ (tt, e), block_items_none place.in_list items h)
-function_items_none function_kinds.Expression pure pife place start items e h = (e, h)
+function_items_none function_kinds.Expression pure pife place start items e h = (e, (tt, h))
 
 pub function_words_none : (s : Span) (is_async generator : Bool) → Unannotated (function_words s is_async generator)
 function_words_none s is_async generator = (items_if_none is_async _ (tt, tt), (tt, items_if_none generator _ (tt, tt)))

@@ -1,7 +1,7 @@
 use Rattle.std.proofs.Common.{Some, None, ◌∙◌, arith}
 use Rattle.std.specs.Str.{chars}
 use Rattle.std.proofs.lemmas.Str.Pattern.{strip_prefix_char}
-use Rattle.jsgen_printer.proofs.Sources.{same_behind_hash, no_hash}
+use Rattle.jsgen_printer.proofs.Hashes.{same_behind_hash, no_hash}
 use Rattle.jsgen_printer.proofs.same.is_behind_hash.Goals as goal
 
 pub returns-in-Some : goal.returns-in-Some
