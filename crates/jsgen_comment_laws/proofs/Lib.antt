@@ -8,5 +8,4 @@ pub mod Steps
 pub mod Kept
 pub mod Takes
 pub mod Members
-pub mod Formed
 pub mod Laws

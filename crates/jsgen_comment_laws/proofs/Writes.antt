@@ -8,7 +8,7 @@ use Rattle.jsgen_syntax.specs.Raw.{tag_free}
 use Rattle.jsgen_tree.specs.declared.statements.CommentKind.{CommentKind}
 use Rattle.jsgen_tree.specs.declared.statements.CommentKind.TheVariants as kinds
 use Rattle.jsgen_tree.specs.Options.{Legal, left_out, inline, at_end, linked, external}
-use Rattle.jsgen_model.specs.Items.{Manner, all_of_them, then_space, with_due_space, before_it, annotation_before_it, with_key_annotation, Lead, to_block, to_body, to_empty}
+use Rattle.jsgen_model.specs.Items.{Manner, all_of_them, then_space, with_due_space, before_it, annotation_before_it, with_key_annotation, none_of_them, Lead, to_block, to_body, to_empty}
 use Rattle.jsgen_model.specs.Comments.{Comment}
 use Rattle.jsgen_model.specs.Groups.{line_ended, indented_here, softly_spaced, with_pending_space, used_up_if, used_up, lines_of, opens_block, closes_block, indented_if, block_line, block_lines, is_mid_line, html_close, text_written, comment_written, last_of, on_new_line, at_line_start, before_first, is_legal, before_later, is_line, ends_line, behind_last, behind, group, ends_in, before_group, behind_group, closing_group, each_on_line, broken_by, soft_line_ended}
 use Rattle.jsgen_model.specs.Ends.{each_written, licensed, reference}
@@ -257,6 +257,7 @@ writes_before then_space p = none p
 writes_before with_due_space p = none p
 writes_before before_it p = none p
 writes_before annotation_before_it p = none p
+writes_before none_of_them p = none p
 
 writes_due : (p : Pen) → Writes [] p (if ends_in 10 p then indented_here p else used_up p)
 writes_due p = one_of (ends_in 10 p) (indents p) (uses_up p)
@@ -268,6 +269,7 @@ writes_behind with_due_space p = uses_up p
 writes_behind before_it p = writes_due p
 writes_behind annotation_before_it p = writes_due p
 writes_behind with_key_annotation p = writes_due p
+writes_behind none_of_them p = writes_due p
 
 pub writes_closing : (cs : List Comment) (p : Pen) → Writes cs p (closing_group cs p)
 writes_closing [] p = none p

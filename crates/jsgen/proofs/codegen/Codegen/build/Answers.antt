@@ -9,7 +9,7 @@ use Rattle.jsgen_model.specs.Spell.{text_bytes}
 use Rattle.jsgen_printer.specs.Printer.{pen_of}
 use Rattle.jsgen.specs.Codegen.{job_for}
 use Rattle.jsgen_model.specs.Spell.{printed}
-use Rattle.jsgen_comment_laws.proofs.Formed.{program_is_formed}
+use Rattle.jsgen_model.proofs.PlainPrograms.{program_is_formed}
 use Rattle.jsgen_comment_laws.proofs.Laws.{comments_stand}
 use Rattle.jsgen_reading_laws.proofs.Reading.{read_back}
 use Rattle.jsgen.specs.Commented.{HasComments}
