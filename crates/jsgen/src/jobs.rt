@@ -157,22 +157,16 @@ pub fn check_job(alloc: Global, bytes: &[u8]) -> Result<(), JobFault>
     ensures verdict { Verdict bytes.now result }
     ensures rule { Tells told bytes.now result }
 {
-    match job_in(alloc, bytes) {
-        Ok(
-            Job {
-                options,
-                scoping,
-                private,
-                program,
-            },
-        ) => {
-            let printer = printer_for(alloc, options, &scoping, &private);
-            let verdict = verdict_on(printer, &program);
-            let_go(program, scoping, private);
-            verdict
-        }
-        Err(fault) => Err(fault),
-    }
+    let Job {
+        options,
+        scoping,
+        private,
+        program,
+    } = job_in(alloc, bytes)?;
+    let printer = printer_for(alloc, options, &scoping, &private);
+    let verdict = verdict_on(printer, &program);
+    let_go(program, scoping, private);
+    verdict
 }
 
 /// Reads a job from its bytes, and prints its program under the job's options and by its tables. What is wrong is answered as
@@ -181,22 +175,16 @@ pub fn print_job(alloc: Global, bytes: &[u8]) -> Result<String, JobFault>
     ensures answer { Answers bytes.now result }
     ensures rule { Tells told bytes.now result }
 {
-    match job_in(alloc, bytes) {
-        Ok(
-            Job {
-                options,
-                scoping,
-                private,
-                program,
-            },
-        ) => {
-            let printer = printer_for(alloc, options, &scoping, &private);
-            let text = text_of(printer, &program);
-            let_go(program, scoping, private);
-            text
-        }
-        Err(fault) => Err(fault),
-    }
+    let Job {
+        options,
+        scoping,
+        private,
+        program,
+    } = job_in(alloc, bytes)?;
+    let printer = printer_for(alloc, options, &scoping, &private);
+    let text = text_of(printer, &program);
+    let_go(program, scoping, private);
+    text
 }
 
 /// Reads a job from its bytes, and gives the lines of its source map: a line for each token, with line and column in the text and
@@ -206,22 +194,16 @@ pub fn map_job(alloc: Global, bytes: &[u8]) -> Result<String, JobFault>
     ensures answer { AnswersBy map_bytes bytes.now result }
     ensures rule { Tells told bytes.now result }
 {
-    match job_in(alloc, bytes) {
-        Ok(
-            Job {
-                options,
-                scoping,
-                private,
-                program,
-            },
-        ) => {
-            let printer = printer_for(alloc, options, &scoping, &private);
-            let lines = map_text_of(alloc, printer, &program);
-            let_go(program, scoping, private);
-            lines
-        }
-        Err(fault) => Err(fault),
-    }
+    let Job {
+        options,
+        scoping,
+        private,
+        program,
+    } = job_in(alloc, bytes)?;
+    let printer = printer_for(alloc, options, &scoping, &private);
+    let lines = map_text_of(alloc, printer, &program);
+    let_go(program, scoping, private);
+    lines
 }
 
 /// Reads a job from its bytes, and gives a line for each licence that stands in a file of its own: where it begins in the source, and
@@ -230,22 +212,16 @@ pub fn legal_job(alloc: Global, bytes: &[u8]) -> Result<String, JobFault>
     ensures answer { AnswersBy legal_bytes bytes.now result }
     ensures rule { Tells told bytes.now result }
 {
-    match job_in(alloc, bytes) {
-        Ok(
-            Job {
-                options,
-                scoping,
-                private,
-                program,
-            },
-        ) => {
-            let printer = printer_for(alloc, options, &scoping, &private);
-            let lines = legal_text_of(alloc, printer, &program);
-            let_go(program, scoping, private);
-            lines
-        }
-        Err(fault) => Err(fault),
-    }
+    let Job {
+        options,
+        scoping,
+        private,
+        program,
+    } = job_in(alloc, bytes)?;
+    let printer = printer_for(alloc, options, &scoping, &private);
+    let lines = legal_text_of(alloc, printer, &program);
+    let_go(program, scoping, private);
+    lines
 }
 
 /// This library, where a caller is generic in what prints jobs.

@@ -5,9 +5,9 @@ use Rattle.jsgen.specs.Codegen.{job_for}
 use Rattle.jsgen.proofs.Answered.{answered, same_job}
 use Rattle.jsgen.proofs.jobs.map_job.Goals as goal
 
-pub returns-in-Ok-clause-answer : goal.returns-in-Ok-clause-answer
-returns-in-Ok-clause-answer c =
+pub returns-clause-answer : goal.returns-clause-answer
+returns-clause-answer c =
     let made = c.printer_for-printer.ensures in
-    let program = program_plain c.in-Ok.field-0.program in
-    answered map_bytes c.args.bytes.now _ (job_for c.printer_for-printer.result program) c.map_text_of-lines.result c.in-Ok.ensures.read
+    let program = program_plain c.in_ok-options.field-0.program in
+    answered map_bytes c.args.bytes.now _ (job_for c.printer_for-printer.result program) c.map_text_of-lines.result c.in_ok-options.ensures.read
     (same_job (job_for c.printer_for-printer.result program) _ made.options made.scoping made.private refl) c.map_text_of-lines.ensures
