@@ -171,14 +171,14 @@ begun m source depth pen e f =
     ∙ ap (λ (ms : List declared.Mark). record pen { style = record pen.style { source = Some source }; depth = depth; marks = map mark_plain ms }) f
 
 -- the source stays
-kept_source : (items : Items) (legal : Legal) (cs : List Comment) (depth : ℕ) (source : List ℕ) (pen : Pen) → (whole items legal cs (mapped_from depth source pen)).style.source ≡ Some source
+pub kept_source : (items : Items) (legal : Legal) (cs : List Comment) (depth : ℕ) (source : List ℕ) (pen : Pen) → (whole items legal cs (mapped_from depth source pen)).style.source ≡ Some source
 kept_source items legal cs depth source pen = source_behind source (whole_adds items legal cs (mapped_from depth source pen)) refl
 
-pub its_source : (items : Items) (legal : Legal) (cs : List Comment) (depth : ℕ) (source : List ℕ) (pen p : Pen) (parts : Option Marks) (m : Marks) → parts ≡ Some m → source_plain parts ≡ p.style.source → p ≡ whole items legal cs (mapped_from depth source pen) → m.source.now ≡ source
-its_source items legal cs depth source pen p parts m is s e = ap (λ (o : Option (List ℕ)). unwrap_or o []) (ap source_plain (sym is) ∙ (s ∙ (ap (λ (q : Pen). q.style.source) e ∙ kept_source items legal cs depth source pen)))
+pub its_source : {source : List ℕ} (parts : Option Marks) (m : Marks) → parts ≡ Some m → source_plain parts ≡ Some source → m.source.now ≡ source
+its_source parts m is s = ap (λ (o : Option (List ℕ)). unwrap_or o []) (ap source_plain (sym is) ∙ s)
 
-pub not_none : (items : Items) (legal : Legal) (cs : List Comment) (depth : ℕ) (source : List ℕ) (pen p : Pen) (parts : Option Marks) → parts ≡ None → source_plain parts ≡ p.style.source → p ≡ whole items legal cs (mapped_from depth source pen) → ⊥
-not_none items legal cs depth source pen p parts is s e = both_ways false refl (ap is_some (ap source_plain (sym is) ∙ (s ∙ (ap (λ (q : Pen). q.style.source) e ∙ kept_source items legal cs depth source pen))))
+pub not_none : {source : List ℕ} (parts : Option Marks) → parts ≡ None → source_plain parts ≡ Some source → ⊥
+not_none parts is s = both_ways false refl (ap is_some (ap source_plain (sym is) ∙ s))
 
 pub same_map : {code whole was source : List ℕ} {old marks : List Mark} {names : List (List ℕ)} {tokens : List Token} → code ≡ whole → was ≡ source → old ≡ marks → MapOf code was old names tokens → MapOf whole source marks names tokens
 same_map {code} {whole} {was} {source} {old} {marks} {names} {tokens} e f g h = subst (λ ms. MapOf whole source ms names tokens) g (subst (λ s. MapOf whole s old names tokens) f (subst (λ c. MapOf c was old names tokens) e h))

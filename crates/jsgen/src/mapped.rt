@@ -8,7 +8,7 @@ ghost use Rattle.jsgen_tree.specs.Plain.{program_plain};
 ghost use Rattle.jsgen_place.specs.Place.{among_statements};
 ghost use Rattle.jsgen_model.specs.Lay.{lay};
 ghost use Rattle.jsgen_model.specs.Spell.{spell};
-ghost use Rattle.jsgen_printer.specs.Printer.{pen_of, at_depth};
+ghost use Rattle.jsgen_printer.specs.Printer.{pen_of, at_depth, marks_plain, source_plain};
 ghost use Rattle.jsgen.specs.Codegen.{mapped_from, MapsTo};
 ghost use Rattle.jsgen.specs.Licences.{apart, ended_by, rows_plain};
 
@@ -60,6 +60,25 @@ pub(crate) fn print_unmapped<'a>(
     })
 }
 
+// The code of a program and the marks in it, which lead to its source.
+fn print_marked<'a>(
+    alloc: Global,
+    depth: u32,
+    printer: Printer<'a>,
+    program: &'a Program,
+    end: &End<'_>,
+) -> Result<(String, Option<Marks<'a>>), CodegenError>
+    ensures code { IfOk result (λ made. string_bytes made.0
+        ≡ encode_utf8_all (ended_by end.now (string_bytes program.now.source) (lay (spell (program_plain program.now) among_statements) (mapped_from depth (string_bytes program.now.source) (pen_of printer.entry)))).code) }
+    ensures source { IfOk result (λ made. source_plain made.1 ≡ Some (string_bytes program.now.source)) }
+    ensures marks { IfOk result (λ made. marks_plain made.1
+        ≡ (ended_by end.now (string_bytes program.now.source) (lay (spell (program_plain program.now) among_statements) (mapped_from depth (string_bytes program.now.source) (pen_of printer.entry)))).marks) }
+{
+    let marks = Marks::new(alloc, program.source.as_str());
+    let p = print_whole(depth, printer.with_marks(marks), program, end)?;
+    Ok(p.into_parts())
+}
+
 /// A program with the map of its marks.
 pub(crate) fn print_mapped<'a>(
     alloc: Global,
@@ -76,9 +95,7 @@ pub(crate) fn print_mapped<'a>(
         (string_bytes program.now.source) path.now printed.map) }
     ensures apart { IfOk result (λ printed. rows_plain printed.legal_comments.items ≡ apart end.entry) }
 {
-    let marks = Marks::new(alloc, program.source.as_str());
-    let p = print_whole(depth, printer.with_marks(marks), program, &end)?;
-    let (code, marks) = p.into_parts();
+    let (code, marks) = print_marked(alloc, depth, printer, program, &end)?;
     match marks {
         Some(marks) => {
             let map = map_of(alloc, path, &code, &marks)?;
