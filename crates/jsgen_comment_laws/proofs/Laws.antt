@@ -7,7 +7,7 @@ use Rattle.jsgen_tree.specs.Tree.{Tree}
 use Rattle.jsgen_tree.specs.Nodes as tree
 use Rattle.jsgen_tree.specs.Everywhere.{Everywhere}
 use Rattle.jsgen_place.specs.Place.{among_statements}
-use Rattle.jsgen_model.specs.Items.{◌⊕◌, comments, all_of_them, orphans, due_semicolon}
+use Rattle.jsgen_model.specs.Items.{Items, ◌⊕◌, comments, all_of_them, orphans, due_semicolon}
 use Rattle.jsgen_model.specs.Comments.{Groups, comment_at, is_outliving, orphans_below, left_below}
 use Rattle.jsgen_model.specs.Ends.{moved_licences}
 use Rattle.jsgen_model.specs.Groups.{with_store}
@@ -17,13 +17,14 @@ use Rattle.jsgen_model.specs.Plain.{is_formed}
 use Rattle.jsgen_model.specs.Valid.{Surroundings, breaches, IsValid, surroundings_of}
 use Rattle.jsgen_model.specs.Spell.{spell, spell_if_given, spell_directives, spell_body, comments_in, source_bytes, first_pen, printed}
 use Rattle.jsgen_comment_laws.specs.Stand.{Waiting, one_if, count, has_to_stand, is_before, kept_comments, annotation_comments}
-use Rattle.jsgen_comment_laws.specs.Woven.{dark_of, bones, Woven}
+use Rattle.jsgen_comment_laws.specs.Woven.{is_white, dark_of, bones, without_comments, Woven}
 use Rattle.jsgen_comment_laws.specs.Law.{CommentsStandIn}
 use Rattle.jsgen_comment_laws.proofs.Counts.{waiting_in, count_both}
 use Rattle.jsgen_comment_laws.proofs.Writes.{adds_licences, writes_group}
 use Rattle.jsgen_comment_laws.proofs.Stores.{Sound, outlives_at, none_below}
 use Rattle.jsgen_comment_laws.proofs.Weaves.{Held}
 use Rattle.jsgen_comment_laws.proofs.Steps.{lay_does, lay_goes}
+use Rattle.jsgen_comment_laws.proofs.Alike.{alike}
 use Rattle.jsgen_comment_laws.proofs.Kept.{kept_is_sound, kept_are, all_kept, all_annotations, indent_is_white}
 use Rattle.jsgen_comment_laws.proofs.Takes.{stays_gone, takes_comments, count_either, none_passes, body_taken, directives_taken}
 use Rattle.jsgen_comment_laws.proofs.Members.{members}
@@ -114,6 +115,12 @@ none_left next around t formed e p h f = none_passes f (waiting_in (lay (spell t
 
 -- ---- the law
 
+-- the text of items for which no comment waits
+nothing_woven : (items : Items) (p : Pen) → is_white p.style.indent ≡ true → p.code ≡ [] → Woven [] [] (bones items (without_comments p)) (dark_of (lay items (without_comments p)).code)
+nothing_woven items p w e =
+    let v = (lay_does [] [] items (without_comments p)).weaves (record { store = tt; annotations = tt; white = w }) in
+    subst (λ t. Woven [] [] (bones items (without_comments p)) (dark_of t)) (sym (v.code ∙ ap (λ x. x ++ v.text) e)) v.woven
+
 pub comments_stand : (job : JobData) → Everywhere is_formed job.program → IsValid job → CommentsStandIn job (printed job)
 comments_stand job formed valid =
     let o = job.options.comments in
@@ -144,4 +151,6 @@ comments_stand job formed valid =
           let left = none test in
           omega (arith, all, kept, left);
       woven = subst (λ t. Woven (kept_comments job) (annotation_comments job) (bones items p) (dark_of t)) (sym v.code ∙ a.code) v.woven;
+      alike = sym (alike items p (without_comments p) (indent_is_white job.options.indent_char) refl).same;
+      bare = nothing_woven items p (indent_is_white job.options.indent_char) refl;
     }

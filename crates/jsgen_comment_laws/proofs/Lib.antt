@@ -9,3 +9,5 @@ pub mod Kept
 pub mod Takes
 pub mod Members
 pub mod Laws
+pub mod Rests
+pub mod Alike

@@ -11,7 +11,7 @@ use Rattle.jsgen_model.specs.Groups.{indented_here, soft_line_ended, one_deeper,
 use Rattle.jsgen_model.specs.Layout.{Pen, Start, other_end, written, written_if, text_if, not, is_barred, deeper_level, entered, at_indentation, are_same, led}
 use Rattle.jsgen_model.specs.Lay.{lay, lifts, annotated_if, is_enclosed, case_mark, before_block, stood, may_be_indented, mark_behind, span_mark}
 use Rattle.jsgen_comment_laws.specs.Stand.{Waiting}
-use Rattle.jsgen_comment_laws.specs.Woven.{dark_of, Bones, no_bones, comment_gap, orphan_gap, annotation_gap, parentheses_gap, gap_if, annotation_if, object_bones, break_offset, bones}
+use Rattle.jsgen_comment_laws.specs.Woven.{dark_of, Bones, no_bones, comment_gap, orphan_gap, annotation_gap, start_gap, object_gap, gap_if, annotation_if, start_bones, break_offset, bones, InTwo, InRound, Woven}
 use Rattle.jsgen_comment_laws.proofs.Counts.{waiting}
 use Rattle.jsgen_comment_laws.proofs.Writes.{Writes, both, ended_by, stays, none, adds, adds_if, adds_then, dark_both, indents_by, indents, indents_if, ends_statement, uses_up_if, ends_line_softly, spaces, writes_group, writes_before, writes_behind, writes_closing, breaks, leads}
 use Rattle.jsgen_comment_laws.proofs.Stores.{Goes}
@@ -179,39 +179,43 @@ module _ (k a : List Waiting) where
   some_there o [] e h = absurd (false≢true e)
   some_there o (c ∷ cs) e h = (c, h.0)
 
-  in_gap : (o : ℕ) {bs : Bones} {p q : Pen} → Does k a bs p q → Does k a (parentheses_gap o bs no_bones) p q
-  in_gap o {bs} {p} {q} d = record { goes = d.goes; weaves = λ h. bare (d.weaves h) }
+  -- a part of a text in a gap of its own
+  gap_does : (Gap : Bones → Bones) {bs : Bones} {p q : Pen} → Goes p q → (Held k a p → Weave k a bs p q) → ((bytes : List ℕ) → Woven k a bs bytes → Woven k a (Gap bs) bytes) → Does k a (Gap bs) p q
+  gap_does Gap {bs} {p} {q} g w f = record { goes = g; weaves = λ h. in_it (w h) }
     where
-      bare : Weave k a bs p q → Weave k a (parentheses_gap o bs no_bones) p q
-      bare v = record {
-        text = v.text;
-        code = v.code;
-        woven = record { first = dark_of v.text; second = []; is = sym (append-nil (dark_of v.text)); one = inl v.woven; other = refl };
-        held = v.held;
-      }
+      in_it : Weave k a bs p q → Weave k a (Gap bs) p q
+      in_it v = record { text = v.text; code = v.code; woven = f (dark_of v.text) v.woven; held = v.held }
 
-  in_gap_round : (o : ℕ) {bs : Bones} (p q : Pen) → are_any (group_at o p) ≡ true → Does k a bs (written_if true (opening Round) p) q → Does k a (parentheses_gap o bs no_bones) p (written_if true (closing Round) q)
-  in_gap_round o {bs} p q e d = record { goes = (in_round k a true d).goes; weaves = λ h. round h (d.weaves (record { store = h.store; annotations = h.annotations; white = h.white })) }
+  -- in parentheses
+  abbrev InRoundHere : Bones → List ℕ → Type 0
+  InRoundHere bs bytes = InRound true (λ own. Woven k a bs own) bytes
+
+  round_does : (Gap : Bones → Bones) {bs : Bones} (p q : Pen) → (Held k a p → (bytes : List ℕ) → InRoundHere bs bytes → Woven k a (Gap bs) bytes) → Does k a bs (written_if true (opening Round) p) q → Does k a (Gap bs) p (written_if true (closing Round) q)
+  round_does Gap {bs} p q f d = record { goes = (in_round k a true d).goes; weaves = λ h. round h (d.weaves (record { store = h.store; annotations = h.annotations; white = h.white })) }
     where
-      round : Held k a p → Weave k a bs (written_if true (opening Round) p) q → Weave k a (parentheses_gap o bs no_bones) p (written_if true (closing Round) q)
+      round : Held k a p → Weave k a bs (written_if true (opening Round) p) q → Weave k a (Gap bs) p (written_if true (closing Round) q)
       round h v = record {
         text = opening Round ++ (v.text ++ closing Round);
         code = ap (λ x. x ++ closing Round) v.code ∙ (append_assoc (p.code ++ opening Round) v.text (closing Round) ∙ append_assoc p.code (opening Round) (v.text ++ closing Round));
-        woven = record {
-          first = dark_of (opening Round ++ (v.text ++ closing Round));
-          second = [];
-          is = sym (append-nil (dark_of (opening Round ++ (v.text ++ closing Round))));
-          one = inr (dark_of v.text, (dark_both (opening Round) (v.text ++ closing Round) ∙ ap (λ x. opening Round ++ x) (dark_both v.text (closing Round)), (v.woven, some_there o (group_at o p) e (every_there (Contains k) o p.store.groups h.store))));
-          other = refl;
-        };
+        woven = f h (dark_of (opening Round ++ (v.text ++ closing Round))) (dark_of v.text, (dark_both (opening Round) (v.text ++ closing Round) ∙ ap (λ x. opening Round ++ x) (dark_both v.text (closing Round)), v.woven));
         held = record { store = v.held.store; annotations = v.held.annotations; white = v.held.white };
       }
 
-  object_does : (barred stand : Bool) (o : ℕ) (bs : Bones) (p q : Pen) → are_any (group_at o p) ≡ stand → Does k a (comment_gap (o ∷ []) bs) (written_if (stand || barred) (opening Round) p) q → Does k a (object_bones barred o bs) p (written_if (stand || barred) (closing Round) q)
-  object_does true true o bs p q e d = in_round k a true d
-  object_does true false o bs p q e d = in_round k a true d
-  object_does false true o bs p q e d = in_gap_round o p q e d
-  object_does false false o bs p q e d = in_gap o (in_round k a false d)
+  alone : {First : List ℕ → Type 0} (bytes : List ℕ) → First bytes → InTwo bytes First (λ rest. rest ≡ [])
+  alone bytes h = record { first = bytes; second = []; is = sym (append-nil bytes); one = h; other = refl }
+
+  -- ---- what may not begin a statement so
+
+  start_does : (test barred : Bool) {bs : Bones} (p q : Pen) → Does k a bs (written_if (test || barred) (opening Round) p) q → Does k a (start_bones test barred bs) p (written_if (test || barred) (closing Round) q)
+  start_does true barred p q d = in_round k a true d
+  start_does false true {bs} p q d = round_does (λ x. start_gap true x no_bones) p q (λ h bytes r. alone bytes r) d
+  start_does false false {bs} p q d = let e = in_round k a false d in gap_does (λ x. start_gap false x no_bones) e.goes e.weaves (λ bytes w. alone bytes w)
+
+  object_does : (barred stand : Bool) (o : ℕ) {bs : Bones} (p q : Pen) → are_any (group_at o p) ≡ stand → Does k a bs (written_if (stand || barred) (opening Round) p) q → Does k a (object_gap barred o bs no_bones) p (written_if (stand || barred) (closing Round) q)
+  object_does true true o p q e d = round_does (λ x. object_gap true o x no_bones) p q (λ h bytes r. alone bytes r) d
+  object_does true false o p q e d = round_does (λ x. object_gap true o x no_bones) p q (λ h bytes r. alone bytes r) d
+  object_does false true o p q e d = round_does (λ x. object_gap false o x no_bones) p q (λ h bytes r. alone bytes (inr (r, some_there o (group_at o p) e (every_there (Contains k) o p.store.groups h.store)))) d
+  object_does false false o p q e d = let f = in_round k a false d in gap_does (λ x. object_gap false o x no_bones) f.goes f.weaves (λ bytes w. alone bytes (inl w))
 
   -- ---- the whole
 
@@ -236,7 +240,8 @@ module _ (k a : List Waiting) where
       in_round k a test (lay_does items (written_if test (opening Round) p))
   lay_does (wrapped_at_start own opener items) p =
       let test : Bool = own || is_barred opener p.start in
-      in_round k a test (lay_does items (written_if test (opening Round) p))
+      let p1 : Pen = written_if test (opening Round) p in
+      start_does own (is_barred opener p.start) p (lay items p1) (lay_does items p1)
   lay_does (parentheses_unless_minified items) p =
       let test : Bool = not p.style.minified in
       in_round k a test (lay_does items (written_if test (opening Round) p))
@@ -298,7 +303,7 @@ module _ (k a : List Waiting) where
       let stand : Bool = are_any (group_at o p) in
       let p1 : Pen = written_if (is_enclosed o p) (opening Round) p in
       let p2 : Pen = commented_if stand o p1 in
-      object_does (is_barred a_brace p.start) stand o (bones items p2) p (lay items p2) refl (does_then k a (does_commented stand o p1) (lay_does items p2))
+      object_does (is_barred a_brace p.start) stand o p (lay items p2) refl (does_then k a (does_commented stand o p1) (lay_does items p2))
   lay_does (member_line o) p = does_member_line o p
   lay_does (member_space o) p = does_member_space o p
   lay_does (in_lines lines starts end items) p =

@@ -163,7 +163,7 @@ pub indents_if : (b : Bool) (p : Pen) → Writes [] p (indented_if b p)
 indents_if true p = indents p
 indents_if false p = none p
 
-pub ends_statement : (minified : Bool) (p : Pen) → Adds p (end_statement minified p)
+abbrev pub ends_statement : (minified : Bool) (p : Pen) → Adds p (end_statement minified p)
 ends_statement true p = (stays p (end_statement true p) refl refl refl refl).adds
 ends_statement false p = adds (codes ";\n") other_end p
 
