@@ -20,8 +20,8 @@ IsEndOf job text = (pen : Pen) × ((ended job.options.comments.legal (source_byt
 
 -- ---- the whole
 
--- A text is that of the program, and what stands behind it. In that of the program some of the job's comments are printed, each of these
--- once and at a place of its own, in this order; all that have to stand are among them
+-- A text is that of the program, and what stands behind it. In that of the program some of the job's comments have places, each of these
+-- one of its own, in this order; all that have to stand are among them. That a comment stands nowhere else isn't said
 pub record CommentsStandIn (job : JobData) (text : List ℕ) : Type 0 where
   pub body : List ℕ
   pub end : List ℕ
@@ -40,6 +40,6 @@ pub record CommentsStandIn (job : JobData) (text : List ℕ) : Type 0 where
   -- and of them alone, with annotations as they are written, is the text without comments
   pub bare : Woven [] [] (bones (spell job.program among_statements) (without_comments (first_pen job))) (dark_of (lay (spell job.program among_statements) (without_comments (first_pen job))).code)
 
--- each comment that has to stand has a place of its own in the text of a valid job, whose nodes have the children of their types, and none has two
+-- each comment that has to stand has a place of its own in the text of a valid job, whose nodes have the children of their types
 abbrev pub CommentsStand : Type 0
 CommentsStand = (job : JobData) → Everywhere is_formed job.program → IsValid job → CommentsStandIn job (printed job)
