@@ -5,8 +5,8 @@ use Rattle.std.specs.List.{filter}
 use Rattle.std.proofs.lemmas.Bool.{and_parts}
 use Rattle.jsgen_model.specs.Items.{Annotation, no_side_effects}
 use Rattle.jsgen_model.specs.Comments.{Comment, there}
-use Rattle.jsgen_model.specs.Groups.{indented_if, ends_in, is_line, annotation_text, says, fits, fitting_at, without_annotation, annotation_by, annotation_written, begun_at, annotation_at, annotation_line_at}
-use Rattle.jsgen_model.specs.Layout.{Pen, Start, other_end, written_if}
+use Rattle.jsgen_model.specs.Groups.{indented_if, ends_in, is_line, annotation_text, says, fits, fitting_at, without_annotation, annotation_by, annotation_written, annotation_at, annotation_line_at}
+use Rattle.jsgen_model.specs.Layout.{Pen, Start, other_end, written_if, begun_at}
 use Rattle.jsgen_comment_laws.specs.Stand.{Waiting}
 use Rattle.jsgen_comment_laws.specs.Woven.{is_white, dark_of, no_bones, annotation_gap, IsAnnotation, Woven}
 use Rattle.jsgen_comment_laws.proofs.Writes.{Writes, stays, writes, writes_if, adds, writes_comment, indents_if, ends_line_here}

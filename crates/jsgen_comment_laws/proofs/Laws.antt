@@ -150,7 +150,8 @@ comments_stand job formed valid =
           let kept = kept_are asked o source rows in
           let left = none test in
           omega (arith, all, kept, left);
-      woven = subst (λ t. Woven (kept_comments job) (annotation_comments job) (bones items p) (dark_of t)) (sym v.code ∙ a.code) v.woven;
-      alike = sym (alike items p (without_comments p) (indent_is_white job.options.indent_char) refl).same;
+      woven =
+          let same = (alike items p (without_comments p) (indent_is_white job.options.indent_char) refl refl).same in
+          subst (λ bs. Woven (kept_comments job) (annotation_comments job) bs (dark_of a.text)) (sym same) (subst (λ t. Woven (kept_comments job) (annotation_comments job) (bones items p) (dark_of t)) (sym v.code ∙ a.code) v.woven);
       bare = nothing_woven items p (indent_is_white job.options.indent_char) refl;
     }

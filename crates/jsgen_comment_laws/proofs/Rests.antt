@@ -1,4 +1,4 @@
--- What comments leave as it was: the style, the classes round here, and whether a semicolon is due.
+-- What comments leave as it was: the style, the classes round here, whether a semicolon is due, and what begins there.
 use Rattle.std.proofs.Common.{◌≡◌, ℕ, ◌*◌, Bool, true, false, ◌&&◌, ◌||◌, ◌==◌, List, [], ◌∷◌, Option, Some, None, codes, replicate, refl, ◌∙◌, if◌then◌else◌}
 use Rattle.std.specs.List.{list_all}
 use Rattle.jsgen_syntax.specs.declared.span.Span.{Span}
@@ -6,8 +6,8 @@ use Rattle.jsgen_tree.specs.declared.statements.CommentKind.{CommentKind}
 use Rattle.jsgen_tree.specs.declared.statements.CommentKind.TheVariants as kinds
 use Rattle.jsgen_model.specs.Items.{Annotation, is_pure, no_side_effects, Break, first_argument, other_argument, import_source, import_options, Manner, all_of_them, then_space, with_due_space, before_it, annotation_before_it, with_key_annotation, none_of_them, Lead, to_block, to_body, to_empty, Lines}
 use Rattle.jsgen_model.specs.Comments.{Comment, are_any, orphans_below, left_below}
-use Rattle.jsgen_model.specs.Groups.{line_ended, indented_here, softly_spaced, used_up_if, used_up, lines_of, opens_block, indented_if, block_line, block_lines, is_mid_line, html_close, text_written, comment_written, last_of, on_new_line, at_line_start, before_first, is_legal, before_later, is_line, ends_line, behind_last, behind, group, with_store, group_at, without_group, is_printed, ends_in, before_group, behind_group, printed_if, comments_at, orphans_before, has_orphans, one_deeper, at_level, soft_line_ended, orphan_lines_at, last_byte, ending_at, without_ending, closing_group, has_no_newlines, body_lines, body_of, empty_body_at, fitting_at, without_annotation, annotation_by, annotation_written, begun_at, annotation_at, annotation_line_at, each_on_line, broken_by, broken_at, on_a_line, unless_on_line, break_at, with_lines, lines_opened, indents as are_indented, lines_closed, led_on_line, case_begun, case_ended, member_line_at, member_space_at, commented_if}
-use Rattle.jsgen_model.specs.Layout.{Pen, Style, Start, written_if, not, indented, indent_or_space, at_indentation, led}
+use Rattle.jsgen_model.specs.Groups.{line_ended, indented_here, used_up_if, used_up, lines_of, opens_block, indented_if, block_line, block_lines, is_mid_line, html_close, text_written, comment_written, last_of, on_new_line, at_line_start, before_first, is_legal, before_later, is_line, ends_line, behind_last, behind, group, with_store, group_at, without_group, is_printed, ends_in, before_group, behind_group, printed_if, comments_at, orphans_before, has_orphans, one_deeper, at_level, soft_line_ended, orphan_lines_at, last_byte, ending_at, without_ending, closing_group, has_no_newlines, body_lines, body_of, empty_body_at, fitting_at, without_annotation, annotation_by, annotation_written, annotation_at, annotation_line_at, each_on_line, broken_by, broken_at, on_a_line, unless_on_line, break_at, with_lines, lines_opened, indents as are_indented, lines_closed, led_on_line, case_begun, case_ended, member_line_at, member_space_at, commented_if}
+use Rattle.jsgen_model.specs.Layout.{Pen, Style, Start, nowhere, written_if, unless_printed, not, indented, indent_or_space, at_indentation, led, on_one_line, begun_at}
 use Rattle.jsgen_model.specs.Lay.{case_mark, before_block, stood, annotated_if, span_mark}
 
 pub record Rest : Type 0 where
@@ -221,10 +221,10 @@ commented_keeps true o p = own_line_keeps o p
 commented_keeps false o p = refl
 
 pub member_line_keeps : (o : ℕ) (p : Pen) → Keeps p (member_line_at o p)
-member_line_keeps o p = own_line_keeps o (soft_line_ended p)
+member_line_keeps o p = own_line_keeps o (written_if (not p.style.minified) (codes "\n") p)
 
 pub member_space_keeps : (o : ℕ) (p : Pen) → Keeps p (member_space_at o p)
-member_space_keeps o p = comments_keep with_due_space o (softly_spaced p)
+member_space_keeps o p = comments_keep with_due_space o (written_if (not p.style.minified) (codes " ") p)
 
 -- ---- arguments on lines
 
@@ -245,7 +245,7 @@ on_a_line_keeps : (at : Break) (p : Pen) → Keeps p (on_a_line at p)
 on_a_line_keeps (first_argument o) p = broken_keeps o p
 on_a_line_keeps (other_argument o) p = broken_keeps o p
 on_a_line_keeps (import_source o) p = broken_keeps o p
-on_a_line_keeps import_options p = here (soft_line_ended p)
+on_a_line_keeps import_options p = here (written_if (not p.style.minified) (codes "\n") p)
 
 unless_keeps : (at : Break) (p : Pen) → Keeps p (unless_on_line at p)
 unless_keeps (first_argument o) p = refl
@@ -270,3 +270,169 @@ closed_keeps true lines end depth outer p =
     let p1 : Pen = broken_by (ending_at last p) (without_ending last p) in
     here_if (are_indented lines) (at_level depth (with_lines outer p1)) ∙ last_break_keeps last p
 closed_keeps false lines end depth outer p = refl
+
+-- ---- what begins there
+
+pub if_start : (b : Bool) (x p : Pen) → x.start ≡ p.start → (if b then x else p).start ≡ p.start
+if_start true x p e = e
+if_start false x p e = refl
+
+-- nothing begins behind a line
+pub line_start : (b : Bool) (x p : Pen) → x.start ≡ nowhere → (if b then x else p).start ≡ unless_printed b p.start
+line_start true x p e = e
+line_start false x p e = refl
+
+indented_start : (t : List ℕ) (p : Pen) → (indented t p).start ≡ p.start
+indented_start [] p = refl
+indented_start (c ∷ cs) p = refl
+
+or_space_start : (b : Bool) (p : Pen) → (indent_or_space b p).start ≡ p.start
+or_space_start true p = refl
+or_space_start false p = indented_start (replicate (p.depth * p.style.width) p.style.indent) p
+
+pub indentation_start : (b : Bool) (p : Pen) → (at_indentation b p).start ≡ p.start
+indentation_start true p = refl
+indentation_start false p = or_space_start p.pending_space p
+
+group_start : (ended : Bool) (cs : List Comment) (p : Pen) → (group ended cs p).start ≡ p.start
+group_start ended [] p = refl
+group_start ended (c ∷ cs) p = refl
+
+used_up_start : (b : Bool) (p : Pen) → (used_up_if b p).start ≡ p.start
+used_up_start true p = refl
+used_up_start false p = refl
+
+before_start : (m : Manner) (p : Pen) → (before_group m p).start ≡ p.start
+before_start with_key_annotation p = refl
+before_start all_of_them p = refl
+before_start then_space p = refl
+before_start with_due_space p = refl
+before_start before_it p = refl
+before_start annotation_before_it p = refl
+before_start none_of_them p = refl
+
+either_start : (b : Bool) (x y p : Pen) → x.start ≡ p.start → y.start ≡ p.start → (if b then x else y).start ≡ p.start
+either_start true x y p e f = e
+either_start false x y p e f = f
+
+due_start : (p : Pen) → (if ends_in 10 p then indented_here p else used_up p).start ≡ p.start
+due_start p = either_start (ends_in 10 p) (indented_here p) (used_up p) p (indentation_start p.style.minified p) (used_up_start p.pending_space p)
+
+behind_group_start : (m : Manner) (p : Pen) → (behind_group m p).start ≡ p.start
+behind_group_start all_of_them p = refl
+behind_group_start then_space p = refl
+behind_group_start with_due_space p = used_up_start p.pending_space p
+behind_group_start before_it p = due_start p
+behind_group_start annotation_before_it p = due_start p
+behind_group_start with_key_annotation p = due_start p
+behind_group_start none_of_them p = due_start p
+
+printed_start : (b : Bool) (m : Manner) (o : ℕ) (p : Pen) → (printed_if b m o p).start ≡ p.start
+printed_start true m o p =
+    let p1 : Pen = before_group m p in
+    let p2 : Pen = group false (group_at o p) (without_group o p1) in
+    behind_group_start m p2 ∙ (group_start false (group_at o p) (without_group o p1) ∙ before_start m p)
+printed_start false m o p = refl
+
+pub comments_start : (m : Manner) (o : ℕ) (p : Pen) → (comments_at m o p).start ≡ p.start
+comments_start m o p = printed_start (is_printed m (group_at o p)) m o p
+
+pub orphans_start : (o : ℕ) (p : Pen) → (orphans_before o p).start ≡ p.start
+orphans_start o p = group_start true (orphans_below o p.store) (with_store (left_below o p.store) p)
+
+here_start : (p : Pen) → (indented_here p).start ≡ p.start
+here_start p = indentation_start p.style.minified p
+
+pub own_line_start : (o : ℕ) (p : Pen) → (indented_here (comments_at all_of_them o p)).start ≡ p.start
+own_line_start o p = here_start (comments_at all_of_them o p) ∙ comments_start all_of_them o p
+
+pub orphan_lines_start : (o : ℕ) (p : Pen) → (orphan_lines_at o p).start ≡ p.start
+orphan_lines_start o p =
+    let p1 : Pen = one_deeper (soft_line_ended p) in
+    if_start (has_orphans o p) (indented_here (at_level p.depth (orphans_before o p1))) p (here_start (at_level p.depth (orphans_before o p1)) ∙ orphans_start o p1)
+
+pub ending_start : (last : Option ℕ) (p : Pen) → (without_ending last p).start ≡ p.start
+ending_start None p = refl
+ending_start (Some o) p = refl
+
+pub closing_start : (cs : List Comment) (p : Pen) → (closing_group cs p).start ≡ p.start
+closing_start [] p = refl
+closing_start (c ∷ cs) p = refl
+
+pub empty_body_start : (o : ℕ) (p : Pen) → (empty_body_at o p).start ≡ p.start
+empty_body_start o p =
+    let cs = ending_at (last_byte o) p in
+    let p1 : Pen = without_ending (last_byte o) p in
+    let p2 : Pen = one_deeper (soft_line_ended p1) in
+    let p3 : Pen = closing_group cs (orphans_before o p2) in
+    let lines = here_start (at_level p1.depth p3) ∙ (closing_start cs (orphans_before o p2) ∙ orphans_start o p2) in
+    either_start (not (has_orphans o p1) && list_all has_no_newlines cs) (closing_group cs p1) (body_lines o cs p1) p1 (closing_start cs p1) lines ∙ ending_start (last_byte o) p
+
+pub annotated_start : (on : Bool) (span : Span) (o : ℕ) (start : Start) (p : Pen) → (annotated_if on span o start p).start ≡ (if on then start else p.start)
+annotated_start true span o start p = refl
+annotated_start false span o start p = refl
+
+case_mark_start : (b : Bool) (lead : Lead) (p : Pen) → (case_mark b lead p).start ≡ p.start
+case_mark_start true to_block p = refl
+case_mark_start true to_body p = refl
+case_mark_start true (to_empty span) p = refl
+case_mark_start false lead p = refl
+
+led_start : (b : Bool) (lead : Lead) (o : ℕ) (p : Pen) → (case_begun b lead o p).start ≡ (led lead p).start
+led_start true lead o p = refl
+led_start false lead o p = refl
+
+-- before the one statement of a case begins what does so where no comment waits
+pub begun_start : (b : Bool) (lead : Lead) (o : ℕ) (p : Pen) → (case_mark b lead (case_begun b lead o p)).start ≡ (led lead p).start
+begun_start b lead o p = case_mark_start b lead (case_begun b lead o p) ∙ led_start b lead o p
+
+pub ended_start : (b : Bool) (depth end : ℕ) (p : Pen) → (case_ended b depth end p).start ≡ p.start
+ended_start true depth end p = orphans_start end p
+ended_start false depth end p = refl
+
+pub opened_start : (b : Bool) (p : Pen) → (lines_opened b p).start ≡ p.start
+opened_start true p = refl
+opened_start false p = refl
+
+pub block_start : (before : Bool) (o : ℕ) (p : Pen) → (before_block before o p).start ≡ p.start
+block_start before o p =
+    let p1 : Pen = comments_at all_of_them o p in
+    used_up_start (stood before o p && (p1.pending_space && not p1.style.minified)) p1 ∙ comments_start all_of_them o p
+
+broken_by_start : (cs : List Comment) (p : Pen) → (broken_by cs p).start ≡ p.start
+broken_by_start [] p = refl
+broken_by_start (c ∷ cs) p = refl
+
+broken_start : (o : ℕ) (p : Pen) → (broken_at o p).start ≡ p.start
+broken_start o p = here_start (broken_by (group_at o p) (without_group o p)) ∙ broken_by_start (group_at o p) (without_group o p)
+
+on_a_line_start : (at : Break) (p : Pen) → (on_a_line at p).start ≡ (on_one_line at p).start
+on_a_line_start (first_argument o) p = broken_start o p
+on_a_line_start (other_argument o) p = refl
+on_a_line_start (import_source o) p = broken_start o p
+on_a_line_start import_options p = here_start (written_if (not p.style.minified) (codes "\n") p)
+
+unless_start : (at : Break) (p : Pen) → (unless_on_line at p).start ≡ (on_one_line at p).start
+unless_start (first_argument o) p = refl
+unless_start (other_argument o) p = refl
+unless_start (import_source o) p = if_start (are_any (group_at o p)) (broken_at o p) p (broken_start o p)
+unless_start import_options p = refl
+
+-- before an argument begins what does so where all stand on one line
+pub break_start : (at : Break) (p : Pen) → (break_at at p).start ≡ (on_one_line at p).start
+break_start at p = either_start p.lines (on_a_line at p) (unless_on_line at p) (on_one_line at p) (on_a_line_start at p) (unless_start at p)
+
+last_break_start : (last : Option ℕ) (p : Pen) → (broken_by (ending_at last p) (without_ending last p)).start ≡ p.start
+last_break_start None p = refl
+last_break_start (Some o) p = broken_by_start (group_at o p) (without_group o p)
+
+here_if_start : (b : Bool) (p : Pen) → (indented_if b p).start ≡ p.start
+here_if_start true p = here_start p
+here_if_start false p = refl
+
+pub closed_start : (b : Bool) (lines : Lines) (end depth : ℕ) (outer : Bool) (p : Pen) → (lines_closed b lines end depth outer p).start ≡ p.start
+closed_start true lines end depth outer p =
+    let last = last_byte end in
+    let p1 : Pen = broken_by (ending_at last p) (without_ending last p) in
+    here_if_start (are_indented lines) (at_level depth (with_lines outer p1)) ∙ last_break_start last p
+closed_start false lines end depth outer p = refl

@@ -7,19 +7,23 @@ use Rattle.jsgen_syntax.specs.declared.span.Span.{Span}
 use Rattle.jsgen_model.specs.Punctuator.{Round, opening, closing}
 use Rattle.jsgen_model.specs.Items.{Items, Annotation, no_side_effects, a_brace, nothing, ◌⊕◌, word, name, private_name, number, literal, regular_expression, template_part, string, first_string, directive, punctuator, operator, member_dot, soft_space, soft_line, hard_space, indentation, body_space, deeper, in_class, brackets, wrapped, wrapped_at_start, parentheses_unless_minified, unless_minified, where_same, statement_end, due_semicolon, drop_semicolon, statement_begins, arrow_body_begins, default_export_begins, mark, end_mark, link_mark, marked_word, marked_operator, marked_number, marked_indentation, apart, comments, orphans, orphan_lines, empty_body, held, lined_case, caught, annotation, annotation_line, annotated, commented, member_line, member_space, in_lines, line_break, is_pure, Manner, all_of_them, with_due_space, Lead, to_block, to_body, to_empty, Lines, Break, first_argument, other_argument, import_source, import_options}
 use Rattle.jsgen_model.specs.Comments.{Comment, there, are_any, orphans_below, left_below}
-use Rattle.jsgen_model.specs.Groups.{indented_here, soft_line_ended, one_deeper, at_level, group, with_store, group_at, without_group, is_printed, before_group, printed_if, comments_at, orphans_before, has_orphans, orphan_lines_at, last_byte, ending_at, without_ending, closing_group, has_no_newlines, body_lines, empty_body_at, led_on_line, case_begun, case_ended, broken_by, broken_at, on_a_line, unless_on_line, break_at, are_lined, with_lines, lines_opened, indents as are_indented, lines_closed, softly_spaced, member_line_at, member_space_at, commented_if}
-use Rattle.jsgen_model.specs.Layout.{Pen, Start, other_end, written, written_if, text_if, not, is_barred, deeper_level, entered, at_indentation, are_same, led}
-use Rattle.jsgen_model.specs.Lay.{lay, lifts, annotated_if, is_enclosed, case_mark, before_block, stood, may_be_indented, mark_behind, span_mark}
+use Rattle.jsgen_model.specs.Groups.{indented_here, soft_line_ended, one_deeper, at_level, group, with_store, group_at, without_group, is_printed, before_group, printed_if, comments_at, orphans_before, has_orphans, orphan_lines_at, last_byte, ending_at, without_ending, closing_group, has_no_newlines, body_lines, empty_body_at, led_on_line, case_begun, case_ended, broken_by, broken_at, on_a_line, unless_on_line, break_at, are_lined, with_lines, lines_opened, indents as are_indented, lines_closed, member_line_at, member_space_at, commented_if}
+use Rattle.jsgen_model.specs.Layout.{Pen, Start, nowhere, begun_at, on_one_line, is_apart, other_end, written, written_if, text_if, not, is_barred, deeper_level, entered, at_indentation, are_same, led}
+use Rattle.jsgen_model.specs.Lay.{lay, lifts, annotated_if, is_enclosed, commented_from, case_mark, before_block, stood, may_be_indented, mark_behind, span_mark}
 use Rattle.jsgen_comment_laws.specs.Stand.{Waiting}
-use Rattle.jsgen_comment_laws.specs.Woven.{dark_of, Bones, no_bones, comment_gap, orphan_gap, annotation_gap, start_gap, object_gap, gap_if, annotation_if, start_bones, break_offset, bones, InTwo, InRound, Woven}
+use Rattle.jsgen_comment_laws.specs.Woven.{dark_of, Bones, no_bones, comment_gap, orphan_gap, annotation_gap, object_gap, gap_if, annotation_if, object_bones, break_offset, bones, InTwo, InRound, Woven}
 use Rattle.jsgen_comment_laws.proofs.Counts.{waiting}
-use Rattle.jsgen_comment_laws.proofs.Writes.{Writes, both, ended_by, stays, none, adds, adds_if, adds_then, dark_both, indents_by, indents, indents_if, ends_statement, uses_up_if, ends_line_softly, spaces, writes_group, writes_before, writes_behind, writes_closing, breaks, leads}
+use Rattle.jsgen_comment_laws.proofs.Writes.{Writes, both, ended_by, stays, none, adds, adds_if, adds_then, dark_both, indents_by, indents, indents_if, ends_statement, uses_up_if, writes_if, ends_line_softly, writes_group, writes_before, writes_behind, writes_closing, breaks, leads}
 use Rattle.jsgen_comment_laws.proofs.Stores.{Goes}
 use Rattle.jsgen_comment_laws.proofs.Held.{Every, every_there}
 use Rattle.jsgen_comment_laws.proofs.Weaves.{Held, Weave, Does, does_then, does_last, one_does, white, prints, prints_between, fills_none, finds_none, fills, finds, holds_ending, in_round}
 use Rattle.jsgen_comment_laws.proofs.Annotations.{does_annotation, does_annotation_line}
 
 module _ (k a : List Waiting) where
+  -- what begins there has no part in it
+  begun : (start : Start) {bs : Bones} {p q : Pen} → Does k a bs p q → Does k a bs p (begun_at start q)
+  begun start {bs} {p} {q} d = does_last k a d (white k a (stays q (begun_at start q) refl refl refl refl))
+
   -- ---- groups
 
   does_printed : (b : Bool) (m : Manner) (o : ℕ) (p : Pen) → Does k a (comment_gap (o ∷ []) no_bones) p (printed_if b m o p)
@@ -79,7 +83,7 @@ module _ (k a : List Waiting) where
   does_begun : (b : Bool) (lead : Lead) (o : ℕ) (p : Pen) → Does k a (orphan_gap o (comment_gap (o ∷ []) no_bones)) p (case_begun b lead o p)
   does_begun true lead o p =
       let p1 : Pen = one_deeper (soft_line_ended p) in
-      does_then k a (goes_deeper p) (does_then k a (does_orphans o p1) (does_led lead o (orphans_before o p1)))
+      begun (led lead p).start (does_then k a (goes_deeper p) (does_then k a (does_orphans o p1) (does_led lead o (orphans_before o p1))))
   does_begun false lead o p = does_then k a (finds_none k a o (leads lead p)) (fills_none k a (o ∷ []) (none (led lead p)))
 
   does_mark : (long : Bool) (lead : Lead) (p : Pen) → Does k a no_bones p (case_mark long lead p)
@@ -104,10 +108,14 @@ module _ (k a : List Waiting) where
   does_commented false o p = fills_none k a (o ∷ []) (none p)
 
   does_member_line : (o : ℕ) (p : Pen) → Does k a (comment_gap (o ∷ []) no_bones) p (member_line_at o p)
-  does_member_line o p = does_then k a (white k a (ends_line_softly p)) (own_line o (soft_line_ended p))
+  does_member_line o p =
+      let p1 : Pen = written_if (not p.style.minified) (codes "\n") p in
+      does_then k a (white k a (writes_if (not p.style.minified) (codes "\n") p refl)) (own_line o p1)
 
   does_member_space : (o : ℕ) (p : Pen) → Does k a (comment_gap (o ∷ []) no_bones) p (member_space_at o p)
-  does_member_space o p = does_then k a (white k a (spaces p)) (does_comments with_due_space o (softly_spaced p))
+  does_member_space o p =
+      let p1 : Pen = written_if (not p.style.minified) (codes " ") p in
+      does_then k a (white k a (writes_if (not p.style.minified) (codes " ") p refl)) (does_comments with_due_space o p1)
 
   -- ---- arguments on lines
 
@@ -118,15 +126,17 @@ module _ (k a : List Waiting) where
 
   does_on_a_line : (at : Break) (p : Pen) → Does k a (gap_if (break_offset at)) p (on_a_line at p)
   does_on_a_line (first_argument o) p = does_broken o p
-  does_on_a_line (other_argument o) p = does_broken o p
+  does_on_a_line (other_argument o) p = begun (on_one_line (other_argument o) p).start (does_broken o p)
   does_on_a_line (import_source o) p = does_broken o p
-  does_on_a_line import_options p = white k a (both (ends_line_softly p) (indents (soft_line_ended p)))
+  does_on_a_line import_options p =
+      let p1 : Pen = written_if (not p.style.minified) (codes "\n") p in
+      white k a (both (writes_if (not p.style.minified) (codes "\n") p refl) (indents p1))
 
   does_unless : (at : Break) (p : Pen) → Does k a (gap_if (break_offset at)) p (unless_on_line at p)
   does_unless (first_argument o) p = fills_none k a (o ∷ []) (none p)
-  does_unless (other_argument o) p = fills_none k a (o ∷ []) (spaces p)
+  does_unless (other_argument o) p = fills_none k a (o ∷ []) (writes_if (not p.style.minified) (codes " ") p refl)
   does_unless (import_source o) p = one_does k a (are_any (group_at o p)) (does_broken o p) (fills_none k a (o ∷ []) (none p))
-  does_unless import_options p = white k a (spaces p)
+  does_unless import_options p = white k a (writes_if (not p.style.minified) (codes " ") p refl)
 
   does_break : (at : Break) (p : Pen) → Does k a (gap_if (break_offset at)) p (break_at at p)
   does_break at p = one_does k a p.lines (does_on_a_line at p) (does_unless at p)
@@ -188,7 +198,7 @@ module _ (k a : List Waiting) where
 
   -- in parentheses
   abbrev InRoundHere : Bones → List ℕ → Type 0
-  InRoundHere bs bytes = InRound true (λ own. Woven k a bs own) bytes
+  InRoundHere bs bytes = InRound (λ own. Woven k a bs own) bytes
 
   round_does : (Gap : Bones → Bones) {bs : Bones} (p q : Pen) → (Held k a p → (bytes : List ℕ) → InRoundHere bs bytes → Woven k a (Gap bs) bytes) → Does k a bs (written_if true (opening Round) p) q → Does k a (Gap bs) p (written_if true (closing Round) q)
   round_does Gap {bs} p q f d = record { goes = (in_round k a true d).goes; weaves = λ h. round h (d.weaves (record { store = h.store; annotations = h.annotations; white = h.white })) }
@@ -204,18 +214,11 @@ module _ (k a : List Waiting) where
   alone : {First : List ℕ → Type 0} (bytes : List ℕ) → First bytes → InTwo bytes First (λ rest. rest ≡ [])
   alone bytes h = record { first = bytes; second = []; is = sym (append-nil bytes); one = h; other = refl }
 
-  -- ---- what may not begin a statement so
-
-  start_does : (test barred : Bool) {bs : Bones} (p q : Pen) → Does k a bs (written_if (test || barred) (opening Round) p) q → Does k a (start_bones test barred bs) p (written_if (test || barred) (closing Round) q)
-  start_does true barred p q d = in_round k a true d
-  start_does false true {bs} p q d = round_does (λ x. start_gap true x no_bones) p q (λ h bytes r. alone bytes r) d
-  start_does false false {bs} p q d = let e = in_round k a false d in gap_does (λ x. start_gap false x no_bones) e.goes e.weaves (λ bytes w. alone bytes w)
-
-  object_does : (barred stand : Bool) (o : ℕ) {bs : Bones} (p q : Pen) → are_any (group_at o p) ≡ stand → Does k a bs (written_if (stand || barred) (opening Round) p) q → Does k a (object_gap barred o bs no_bones) p (written_if (stand || barred) (closing Round) q)
-  object_does true true o p q e d = round_does (λ x. object_gap true o x no_bones) p q (λ h bytes r. alone bytes r) d
-  object_does true false o p q e d = round_does (λ x. object_gap true o x no_bones) p q (λ h bytes r. alone bytes r) d
-  object_does false true o p q e d = round_does (λ x. object_gap false o x no_bones) p q (λ h bytes r. alone bytes (inr (r, some_there o (group_at o p) e (every_there (Contains k) o p.store.groups h.store)))) d
-  object_does false false o p q e d = let f = in_round k a false d in gap_does (λ x. object_gap false o x no_bones) f.goes f.weaves (λ bytes w. alone bytes (inl w))
+  object_does : (barred stand : Bool) (o : ℕ) {bs : Bones} (p q : Pen) → are_any (group_at o p) ≡ stand → Does k a bs (written_if (stand || barred) (opening Round) p) q → Does k a (object_bones barred o bs) p (written_if (stand || barred) (closing Round) q)
+  object_does true true o p q e d = in_round k a true d
+  object_does true false o p q e d = in_round k a true d
+  object_does false true o p q e d = round_does (λ x. object_gap o x no_bones) p q (λ h bytes r. alone bytes (inr (r, some_there o (group_at o p) e (every_there (Contains k) o p.store.groups h.store)))) d
+  object_does false false o p q e d = let f = in_round k a false d in gap_does (λ x. object_gap o x no_bones) f.goes f.weaves (λ bytes w. alone bytes (inl w))
 
   -- ---- the whole
 
@@ -241,7 +244,7 @@ module _ (k a : List Waiting) where
   lay_does (wrapped_at_start own opener items) p =
       let test : Bool = own || is_barred opener p.start in
       let p1 : Pen = written_if test (opening Round) p in
-      start_does own (is_barred opener p.start) p (lay items p1) (lay_does items p1)
+      in_round k a test (lay_does items p1)
   lay_does (parentheses_unless_minified items) p =
       let test : Bool = not p.style.minified in
       in_round k a test (lay_does items (written_if test (opening Round) p))
@@ -254,7 +257,7 @@ module _ (k a : List Waiting) where
   lay_does (marked_operator span sign) p = prints_between k a (record { text = _; code = append_assoc p.code _ _; store = refl; style = refl; annotations = refl })
   lay_does (marked_number span dot_is_its_own w) p = prints_between k a (record { text = _; code = append_assoc p.code _ _; store = refl; style = refl; annotations = refl })
   lay_does (marked_indentation span) p = prints_between k a (adds_then (indents_by p.style.minified p).adds (stays (at_indentation p.style.minified p) (mark_behind (may_be_indented p) span (at_indentation p.style.minified p)) refl refl refl refl).adds)
-  lay_does apart p = prints_between k a (adds_if _ _ p)
+  lay_does apart p = prints_between k a (record { text = text_if (is_apart p.ending p.code) (codes " "); code = refl; store = refl; style = refl; annotations = refl })
   lay_does (word w) p = prints_between k a (adds _ _ p)
   lay_does (number dot_is_its_own w) p = prints_between k a (adds _ _ p)
   lay_does (literal w) p = prints_between k a (adds _ _ p)
@@ -302,8 +305,8 @@ module _ (k a : List Waiting) where
   lay_does (commented o items) p =
       let stand : Bool = are_any (group_at o p) in
       let p1 : Pen = written_if (is_enclosed o p) (opening Round) p in
-      let p2 : Pen = commented_if stand o p1 in
-      object_does (is_barred a_brace p.start) stand o p (lay items p2) refl (does_then k a (does_commented stand o p1) (lay_does items p2))
+      let p2 : Pen = commented_from o p in
+      begun nowhere (object_does (is_barred a_brace p.start) stand o p (lay items p2) refl (does_then k a (begun nowhere (does_commented stand o p1)) (lay_does items p2)))
   lay_does (member_line o) p = does_member_line o p
   lay_does (member_space o) p = does_member_space o p
   lay_does (in_lines lines starts end items) p =

@@ -6,7 +6,7 @@ use Rattle.jsgen_model.specs.Comments.{Comment, orphans_below, left_below}
 use Rattle.jsgen_model.specs.Groups.{group_at, without_group, with_store, ending_at, without_ending}
 use Rattle.jsgen_model.specs.Layout.{Pen, written_if}
 use Rattle.jsgen_comment_laws.specs.Stand.{Waiting}
-use Rattle.jsgen_comment_laws.specs.Woven.{is_white, dark_of, Bones, no_bones, dark, comment_gap, orphan_gap, annotation_gap, start_gap, object_gap, ◌⧺◌, darks, in_parentheses, gap_if, between, InTwo, FilledBy, BelongsTo, IsOrphan, Woven}
+use Rattle.jsgen_comment_laws.specs.Woven.{is_white, dark_of, Bones, no_bones, dark, comment_gap, orphan_gap, annotation_gap, object_gap, ◌⧺◌, darks, in_parentheses, gap_if, between, InTwo, FilledBy, BelongsTo, IsOrphan, Woven}
 use Rattle.jsgen_comment_laws.proofs.Counts.{waiting_at}
 use Rattle.jsgen_comment_laws.proofs.Writes.{Adds, Writes, DarkTexts, dark_both, adds_if, nothing_written}
 use Rattle.jsgen_comment_laws.proofs.Stores.{Goes, goes_then, keeps, keeps_adds, prints_taken, prints_orphans, holds_last, found_at, comments_of, found_are}
@@ -20,8 +20,7 @@ bones_end (dark c bs) = ap (λ x. dark c x) (bones_end bs)
 bones_end (comment_gap os bs) = ap (λ x. comment_gap os x) (bones_end bs)
 bones_end (orphan_gap o bs) = ap (λ x. orphan_gap o x) (bones_end bs)
 bones_end (annotation_gap kind o bs) = ap (λ x. annotation_gap kind o x) (bones_end bs)
-bones_end (start_gap test inner bs) = ap (λ x. start_gap test inner x) (bones_end bs)
-bones_end (object_gap test o inner bs) = ap (λ x. object_gap test o inner x) (bones_end bs)
+bones_end (object_gap o inner bs) = ap (λ x. object_gap o inner x) (bones_end bs)
 
 module _ (k a : List Waiting) where
   further : {First Rest Whole : List ℕ → Type 0} (x y : List ℕ) (t : InTwo x First Rest) → Whole (t.second ++ y) → InTwo (x ++ y) First Whole
@@ -33,8 +32,7 @@ module _ (k a : List Waiting) where
   woven_both (comment_gap os bs) cs x y h l = further x y h (woven_both bs cs h.second y h.other l)
   woven_both (orphan_gap o bs) cs x y h l = further x y h (woven_both bs cs h.second y h.other l)
   woven_both (annotation_gap kind o bs) cs x y h l = further x y h (woven_both bs cs h.second y h.other l)
-  woven_both (start_gap test inner bs) cs x y h l = further x y h (woven_both bs cs h.second y h.other l)
-  woven_both (object_gap test o inner bs) cs x y h l = further x y h (woven_both bs cs h.second y h.other l)
+  woven_both (object_gap o inner bs) cs x y h l = further x y h (woven_both bs cs h.second y h.other l)
 
   pub woven_darks : (cs : List ℕ) → Woven k a (darks cs) cs
   woven_darks [] = refl

@@ -12,7 +12,7 @@ use Rattle.jsgen_model.specs.Items.{Manner, all_of_them, then_space, with_due_sp
 use Rattle.jsgen_model.specs.Comments.{Comment}
 use Rattle.jsgen_model.specs.Groups.{line_ended, indented_here, softly_spaced, with_pending_space, used_up_if, used_up, lines_of, opens_block, closes_block, indented_if, block_line, block_lines, is_mid_line, html_close, text_written, comment_written, last_of, on_new_line, at_line_start, before_first, is_legal, before_later, is_line, ends_line, behind_last, behind, group, ends_in, before_group, behind_group, closing_group, each_on_line, broken_by, soft_line_ended}
 use Rattle.jsgen_model.specs.Ends.{each_written, licensed, reference}
-use Rattle.jsgen_model.specs.Layout.{Pen, Ending, other_end, written, written_if, text_if, not, indented, indent_or_space, at_indentation, end_statement, led}
+use Rattle.jsgen_model.specs.Layout.{Pen, Ending, other_end, written, written_if, text_if, not, indented, indent_or_space, at_indentation, end_statement, led, white_if, begun_at}
 use Rattle.jsgen_comment_laws.specs.Stand.{Stand}
 use Rattle.jsgen_comment_laws.specs.Woven.{is_white, dark_of, InTwo, IsDarkTextOf}
 
@@ -129,6 +129,10 @@ pub writes_if : (test : Bool) (t : List ℕ) (p : Pen) → dark_of t ≡ [] → 
 writes_if true t p w = record { adds = adds_if true t p; stand = tt; dark = λ h. w }
 writes_if false t p w = record { adds = adds_if false t p; stand = tt; dark = λ h. refl }
 
+-- the same, behind which begins what did before it
+whitens : (test : Bool) (t : List ℕ) (p : Pen) → dark_of t ≡ [] → Writes [] p (white_if test t p)
+whitens test t p w = ended_by (writes_if test t p w) (stays (written_if test t p) (white_if test t p) refl refl refl refl)
+
 pub nothing_written : (t : List ℕ) (p : Pen) → Writes [] p (written_if false t p)
 nothing_written t p = record { adds = adds_if false t p; stand = tt; dark = λ h. refl }
 
@@ -140,7 +144,7 @@ one_of false h k = k
 
 abbrev indented_adds : (t : List ℕ) (p : Pen) → Adds p (indented t p)
 indented_adds [] p = (none p).adds
-indented_adds (c ∷ cs) p = adds (c ∷ cs) other_end p
+indented_adds (c ∷ cs) p = record { text = c ∷ cs; code = refl; store = refl; style = refl; annotations = refl }
 
 indented_dark : (t : List ℕ) (p : Pen) → dark_of t ≡ [] → dark_of (indented_adds t p).text ≡ []
 indented_dark [] p e = refl
@@ -168,17 +172,17 @@ ends_statement true p = (stays p (end_statement true p) refl refl refl refl).add
 ends_statement false p = adds (codes ";\n") other_end p
 
 pub uses_up_if : (b : Bool) (p : Pen) → Writes [] p (used_up_if b p)
-uses_up_if true p = ended_by (writes_if (not p.style.minified) (codes " ") p refl) (stays (softly_spaced p) (used_up_if true p) refl refl refl refl)
+uses_up_if true p = ended_by (whitens (not p.style.minified) (codes " ") p refl) (stays (softly_spaced p) (used_up_if true p) refl refl refl refl)
 uses_up_if false p = none p
 
 uses_up : (p : Pen) → Writes [] p (used_up p)
 uses_up p = uses_up_if p.pending_space p
 
 pub ends_line_softly : (p : Pen) → Writes [] p (soft_line_ended p)
-ends_line_softly p = writes_if (not p.style.minified) (codes "\n") p refl
+ends_line_softly p = whitens (not p.style.minified) (codes "\n") p refl
 
-pub spaces : (p : Pen) → Writes [] p (softly_spaced p)
-spaces p = writes_if (not p.style.minified) (codes " ") p refl
+spaces : (p : Pen) → Writes [] p (softly_spaced p)
+spaces p = whitens (not p.style.minified) (codes " ") p refl
 
 -- ---- one comment
 
@@ -248,10 +252,11 @@ pub writes_group : (ended : Bool) (cs : List Comment) (p : Pen) → Writes cs p 
 writes_group ended [] p = none p
 writes_group ended (c ∷ cs) p =
     let p1 : Pen = before_first c.newline_before p in
-    both (begins c.newline_before p) (both (writes_comment c p1) (writes_others ended c cs (comment_written c p1)))
+    let p2 : Pen = behind ended c cs (comment_written c p1) in
+    ended_by (both (begins c.newline_before p) (both (writes_comment c p1) (writes_others ended c cs (comment_written c p1)))) (stays p2 (begun_at p.start p2) refl refl refl refl)
 
 pub writes_before : (m : Manner) (p : Pen) → Writes [] p (before_group m p)
-writes_before with_key_annotation p = writes_if (ends_in 47 p) (codes " ") p refl
+writes_before with_key_annotation p = whitens (ends_in 47 p) (codes " ") p refl
 writes_before all_of_them p = none p
 writes_before then_space p = none p
 writes_before with_due_space p = none p
@@ -285,7 +290,9 @@ writes_each (c ∷ cs) p =
 
 pub breaks : (cs : List Comment) (p : Pen) → Writes cs p (broken_by cs p)
 breaks [] p = ends_line_softly p
-breaks (c ∷ cs) p = ended_by (writes_each (c ∷ cs) p) (ends_line_here (each_on_line (c ∷ cs) p))
+breaks (c ∷ cs) p =
+    let p1 : Pen = line_ended (each_on_line (c ∷ cs) p) in
+    ended_by (ended_by (writes_each (c ∷ cs) p) (ends_line_here (each_on_line (c ∷ cs) p))) (stays p1 (begun_at p.start p1) refl refl refl refl)
 
 pub leads : (lead : Lead) (p : Pen) → Writes [] p (led lead p)
 leads to_block p = writes_if (not p.style.minified) (codes " ") p refl

@@ -10,7 +10,7 @@ use Rattle.jsgen_model.specs.Plain.{is_formed}
 use Rattle.jsgen_model.specs.Spell.{spell, comments_in, source_bytes, first_pen, printed}
 use Rattle.jsgen_model.specs.Valid.{IsValid}
 use Rattle.jsgen_comment_laws.specs.Stand.{Waiting, kept_comments, annotation_comments, count, Stand, has_to_stand}
-use Rattle.jsgen_comment_laws.specs.Woven.{dark_of, bones, untold, without_comments, Woven}
+use Rattle.jsgen_comment_laws.specs.Woven.{dark_of, bones, without_comments, Woven}
 
 -- ---- the end of a text
 
@@ -33,11 +33,9 @@ pub record CommentsStandIn (job : JobData) (text : List ℕ) : Type 0 where
   pub once : (test : Waiting → Bool) → count test comments ≤ count test (kept_comments job)
   -- and of those that have to stand as many
   pub all : (test : Waiting → Bool) → count (λ w. has_to_stand job.program w && test w) comments ≡ count (λ w. has_to_stand job.program w && test w) (kept_comments job)
-  -- and what isn't white in it are the bones of what the program is spelled with, and what fills their gaps
-  pub woven : Woven (kept_comments job) (annotation_comments job) (bones (spell job.program among_statements) (first_pen job)) (dark_of body)
-  -- where no comment waits, the bones are the same, but for what is told of what may begin so
-  pub alike : untold (bones (spell job.program among_statements) (first_pen job)) ≡ untold (bones (spell job.program among_statements) (without_comments (first_pen job)))
-  -- and of them alone, with annotations as they are written, is the text without comments
+  -- and what isn't white in it are the bones of the text without comments, and what fills their gaps
+  pub woven : Woven (kept_comments job) (annotation_comments job) (bones (spell job.program among_statements) (without_comments (first_pen job))) (dark_of body)
+  -- of these bones alone, with annotations as they are written, is the text without comments
   pub bare : Woven [] [] (bones (spell job.program among_statements) (without_comments (first_pen job))) (dark_of (lay (spell job.program among_statements) (without_comments (first_pen job))).code)
 
 -- each comment that has to stand has a place of its own in the text of a valid job, whose nodes have the children of their types

@@ -22,16 +22,14 @@ dark_of cs = filter (λ c. not (is_white c)) cs
 -- ---- bones
 
 -- Characters of a text, and gaps between them: for comments that belong to one of some offsets, for comments that outlive their places and
--- belong to smaller offsets, and for an annotation of what has an offset. Some bones stand in parentheses where a test holds, since nothing may
--- begin with them there; an object does so too where a comment belongs to its start
+-- belong to smaller offsets, and for an annotation of what has an offset. Round an object by its start that has no parentheses is a gap for some
 pub data Bones : Type 0 where
   no_bones : Bones
   dark : ℕ → Bones → Bones
   comment_gap : List ℕ → Bones → Bones
   orphan_gap : ℕ → Bones → Bones
   annotation_gap : Annotation → ℕ → Bones → Bones
-  start_gap : Bool → Bones → Bones → Bones
-  object_gap : Bool → ℕ → Bones → Bones → Bones
+  object_gap : ℕ → Bones → Bones → Bones
 
 infixr 50 ◌⧺◌
 abbrev pub ◌⧺◌ : Bones → Bones → Bones
@@ -40,8 +38,7 @@ dark c bs ⧺ cs = dark c (bs ⧺ cs)
 comment_gap os bs ⧺ cs = comment_gap os (bs ⧺ cs)
 orphan_gap o bs ⧺ cs = orphan_gap o (bs ⧺ cs)
 annotation_gap kind o bs ⧺ cs = annotation_gap kind o (bs ⧺ cs)
-start_gap test inner bs ⧺ cs = start_gap test inner (bs ⧺ cs)
-object_gap test o inner bs ⧺ cs = object_gap test o inner (bs ⧺ cs)
+object_gap o inner bs ⧺ cs = object_gap o inner (bs ⧺ cs)
 
 abbrev pub darks : List ℕ → Bones
 darks [] = no_bones
@@ -59,9 +56,10 @@ abbrev pub annotation_if : Bool → Annotation → ℕ → Bones
 annotation_if true kind o = annotation_gap kind o no_bones
 annotation_if false kind o = no_bones
 
-abbrev pub start_bones : Bool → Bool → Bones → Bones
-start_bones true barred bs = in_parentheses true bs
-start_bones false barred bs = start_gap barred bs no_bones
+-- an object's, which may not begin with a brace where the test holds
+abbrev pub object_bones : Bool → ℕ → Bones → Bones
+object_bones true o bs = in_parentheses true bs
+object_bones false o bs = object_gap o bs no_bones
 
 abbrev pub break_offset : Break → Option ℕ
 break_offset (first_argument o) = Some o
@@ -73,15 +71,14 @@ break_offset import_options = None
 abbrev pub between : Pen → Pen → Bones
 between p q = darks (dark_of (drop (length p.code) q.code))
 
--- The bones of items from a pen: the characters of each, and its gaps. The pens between are those of the text itself; what waits to be printed
--- has no part in them but where a pen tells what begins there
+-- The bones of items from a pen: the characters of each, and its gaps. The pens between are those of the text
 abbrev pub bones : Items → Pen → Bones
 bones (a ⊕ b) p = bones a p ⧺ bones b (lay a p)
 bones (deeper items) p = bones items (record p { depth = deeper_level p.style.minified p.depth })
 bones (in_class items) p = bones items (entered p)
 bones (brackets b items) p = darks (dark_of (opening b)) ⧺ (bones items (written (opening b) other_end p) ⧺ darks (dark_of (closing b)))
 bones (wrapped test items) p = in_parentheses test (bones items (written_if test (opening Round) p))
-bones (wrapped_at_start test opener items) p = start_bones test (is_barred opener p.start) (bones items (written_if (test || is_barred opener p.start) (opening Round) p))
+bones (wrapped_at_start test opener items) p = in_parentheses (test || is_barred opener p.start) (bones items (written_if (test || is_barred opener p.start) (opening Round) p))
 bones (parentheses_unless_minified items) p = in_parentheses (layouts.not p.style.minified) (bones items (written_if (layouts.not p.style.minified) (opening Round) p))
 bones (unless_minified items) p = if p.style.minified then no_bones else bones items p
 bones (where_same m n a b) p = if are_same p.style.tables m n then bones a p else bones b p
@@ -95,23 +92,13 @@ bones (caught start body items) p = comment_gap (start ∷ []) (bones items (com
 bones (annotation test kind o) p = annotation_if (test && p.style.annotated) kind o
 bones (annotation_line indented test o) p = annotation_if (test && p.style.annotated) no_side_effects o
 bones (annotated test lifted pure span o items) p = in_parentheses (lifts pure lifted p || test) (annotation_if (pure && p.style.annotated) is_pure o ⧺ bones items (annotated_from test lifted pure span o p))
-bones (commented o items) p = object_gap (is_barred a_brace p.start) o (comment_gap (o ∷ []) (bones items (commented_from o p))) no_bones
+bones (commented o items) p = object_bones (is_barred a_brace p.start) o (comment_gap (o ∷ []) (bones items (commented_from o p)))
 bones (member_line o) p = comment_gap (o ∷ []) no_bones
 bones (member_space o) p = comment_gap (o ∷ []) no_bones
 bones (in_lines lines starts end items) p = bones items (lines_opened (are_lined lines starts end p) p) ⧺ gap_if (last_byte end)
 bones (line_break at) p = gap_if (break_offset at)
 -- what has no gap
 bones item p = between p (lay item p)
-
--- the same bones, where nothing is told of what may begin so
-abbrev pub untold : Bones → Bones
-untold no_bones = no_bones
-untold (dark c bs) = dark c (untold bs)
-untold (comment_gap os bs) = comment_gap os (untold bs)
-untold (orphan_gap o bs) = orphan_gap o (untold bs)
-untold (annotation_gap kind o bs) = annotation_gap kind o (untold bs)
-untold (start_gap test inner bs) = start_gap false (untold inner) (untold bs)
-untold (object_gap test o inner bs) = object_gap false o (untold inner) (untold bs)
 
 -- a pen for which no comment waits
 abbrev pub without_comments : Pen → Pen
@@ -149,15 +136,12 @@ BelongsTo kept os w = Contains kept w × Contains os w.offset
 abbrev pub IsOrphan : List Waiting → ℕ → Waiting → Type 0
 IsOrphan kept o w = Contains kept w × ((nat_lt w.offset o ≡ true) × (is_outliving w.comment ≡ true))
 
--- in parentheses where the test holds, and else bare
-abbrev pub InRound : Bool → (List ℕ → Type 0) → List ℕ → Type 0
-InRound true Inner bytes = (inner : List ℕ) × ((bytes ≡ opening Round ++ (inner ++ closing Round)) × Inner inner)
-InRound false Inner bytes = Inner bytes
+abbrev pub InRound : (List ℕ → Type 0) → List ℕ → Type 0
+InRound Inner bytes = (inner : List ℕ) × ((bytes ≡ opening Round ++ (inner ++ closing Round)) × Inner inner)
 
--- an object: the same, and where the test doesn't hold it may stand in parentheses where a comment belongs to its start
-abbrev pub IsObject : List Waiting → Bool → ℕ → (List ℕ → Type 0) → List ℕ → Type 0
-IsObject kept true o Inner bytes = InRound true Inner bytes
-IsObject kept false o Inner bytes = Inner bytes ⊎ (InRound true Inner bytes × ((c : Comment) × Contains kept (record { offset = o; comment = c })))
+-- an object stands in parentheses only where a comment belongs to its start
+abbrev pub IsObject : List Waiting → ℕ → (List ℕ → Type 0) → List ℕ → Type 0
+IsObject kept o Inner bytes = Inner bytes ⊎ (InRound Inner bytes × ((c : Comment) × Contains kept (record { offset = o; comment = c })))
 
 -- ---- the whole
 
@@ -168,5 +152,4 @@ Woven kept annotations (dark c bs) bytes = InTwo bytes (λ own. own ≡ c ∷ []
 Woven kept annotations (comment_gap os bs) bytes = InTwo bytes (Filled (BelongsTo kept os)) (λ rest. Woven kept annotations bs rest)
 Woven kept annotations (orphan_gap o bs) bytes = InTwo bytes (Filled (IsOrphan kept o)) (λ rest. Woven kept annotations bs rest)
 Woven kept annotations (annotation_gap kind o bs) bytes = InTwo bytes (IsAnnotation annotations kind o) (λ rest. Woven kept annotations bs rest)
-Woven kept annotations (start_gap test inner bs) bytes = InTwo bytes (InRound test (λ own. Woven kept annotations inner own)) (λ rest. Woven kept annotations bs rest)
-Woven kept annotations (object_gap test o inner bs) bytes = InTwo bytes (IsObject kept test o (λ own. Woven kept annotations inner own)) (λ rest. Woven kept annotations bs rest)
+Woven kept annotations (object_gap o inner bs) bytes = InTwo bytes (IsObject kept o (λ own. Woven kept annotations inner own)) (λ rest. Woven kept annotations bs rest)

@@ -150,7 +150,7 @@ fn print_before_other<E, L: PrintArgument<E>>(argument: &E, p: &mut Printer<'_>)
     ensures { Lays p.old p.new (line_break (other_argument (span_of (L.plain argument.now)).start)) }
 {
     if p.is_lined() {
-        p.print_line_break(L::span(argument).start);
+        p.print_other_break(L::span(argument).start);
     } else {
         p.print_soft_space();
     }

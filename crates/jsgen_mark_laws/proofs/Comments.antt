@@ -8,9 +8,10 @@ use Rattle.jsgen_tree.specs.declared.statements.CommentKind.TheVariants as kinds
 use Rattle.jsgen_map.specs.Marks.{Mark}
 use Rattle.jsgen_model.specs.Items.{Annotation, no_side_effects, Lines, of_call, of_import, Break, first_argument, other_argument, import_source, import_options, Manner, all_of_them, then_space, with_due_space, before_it, annotation_before_it, with_key_annotation, none_of_them, Lead, to_block, to_body, to_empty}
 use Rattle.jsgen_model.specs.Comments.{Comment, Store, are_any, left_below, orphans_below}
-use Rattle.jsgen_model.specs.Groups.{line_ended, indented_here, softly_spaced, with_pending_space, used_up_if, used_up, lines_of, opens_block, closes_block, indented_if, block_line, block_lines, is_mid_line, html_close, text_written, comment_written, last_of, on_new_line, at_line_start, before_first, is_legal, before_later, is_line, ends_line, behind_last, behind, group, with_store, group_at, without_group, is_printed, ends_in, before_group, behind_group, printed_if, comments_at, orphans_before, has_orphans, one_deeper, at_level, soft_line_ended, orphan_lines_at, last_byte, ending_at, without_ending, closing_group, has_no_newlines, body_lines, body_of, empty_body_at, led_on_line, case_begun, case_ended, space_behind, annotation_text, fitting_at, without_annotation, annotation_by, annotation_written, begun_at, annotation_at, annotation_line_at, each_on_line, broken_by, broken_at, on_a_line, unless_on_line, break_at, any_group, may_be_lined, are_lined, with_lines, lines_opened, indents as are_indented, lines_closed, member_line_at, member_space_at, commented_if}
-use Rattle.jsgen_model.specs.Layout.{Pen, Start, Ending, other_end, written, written_if, indented, indent_or_space, at_indentation, deeper_level, led}
+use Rattle.jsgen_model.specs.Groups.{line_ended, indented_here, softly_spaced, with_pending_space, used_up_if, used_up, lines_of, opens_block, closes_block, indented_if, block_line, block_lines, is_mid_line, html_close, text_written, comment_written, last_of, on_new_line, at_line_start, before_first, is_legal, before_later, is_line, ends_line, behind_last, behind, group, with_store, group_at, without_group, is_printed, ends_in, before_group, behind_group, printed_if, comments_at, orphans_before, has_orphans, one_deeper, at_level, soft_line_ended, orphan_lines_at, last_byte, ending_at, without_ending, closing_group, has_no_newlines, body_lines, body_of, empty_body_at, led_on_line, case_begun, case_ended, space_behind, annotation_text, fitting_at, without_annotation, annotation_by, annotation_written, annotation_at, annotation_line_at, each_on_line, broken_by, broken_at, on_a_line, unless_on_line, break_at, any_group, may_be_lined, are_lined, with_lines, lines_opened, indents as are_indented, lines_closed, member_line_at, member_space_at, commented_if}
+use Rattle.jsgen_model.specs.Layout.{Pen, Start, Ending, other_end, written, written_if, indented, indent_or_space, at_indentation, deeper_level, led, on_one_line, nowhere, white_if, begun_at}
 use Rattle.jsgen_model.specs.Layout as layouts
+use Rattle.jsgen_model.specs.Punctuator.{Round, opening, closing}
 use Rattle.jsgen_model.specs.Ends.{each_written, licensed, reference}
 use Rattle.jsgen_tree.specs.Options.{Legal, left_out, inline, at_end, linked, external}
 use Rattle.jsgen_mark_laws.specs.Law.{Adds}
@@ -41,6 +42,20 @@ writes t e p = record { adds = written_step t e p; alike = λ s ms. refl }
 
 pub writes_if : (b : Bool) (t : List ℕ) (p : Pen) → Passes (λ q. written_if b t q) p
 writes_if b t p = record { adds = written_if_step b t p; alike = λ s ms. refl }
+
+begins : (start : Start) (p : Pen) → Passes (begun_at start) p
+begins start p = record { adds = same p (begun_at start p) refl refl refl; alike = λ s ms. refl }
+
+-- what begins behind a step is told by the pen before it
+begins_by : (start : Pen → Start) (f : Pen → Pen) {p : Pen} → ((s : Option (List ℕ)) (ms : List Mark) → start (bare s ms p) ≡ start p) → Passes f p → Passes (λ q. begun_at (start q) (f q)) p
+begins_by start f {p} e h = record { adds = step_then h.adds (begins (start p) (f p)).adds; alike = λ s ms. λ i. begun_at (e s ms i) (h.alike s ms i) }
+
+-- as what began before it
+begins_as : (f : Pen → Pen) {p : Pen} → Passes f p → Passes (λ q. begun_at q.start (f q)) p
+begins_as f h = begins_by (λ q. q.start) f (λ s ms. refl) h
+
+white : (b : Bool) (t : List ℕ) (p : Pen) → Passes (λ q. white_if b t q) p
+white b t p = begins_as (written_if b t) (writes_if b t p)
 
 pub with_pending : (b : Bool) (p : Pen) → Passes (λ q. with_pending_space b q) p
 with_pending b p = record { adds = same p (with_pending_space b p) refl refl refl; alike = λ s ms. refl }
@@ -73,7 +88,7 @@ indents_if true p = let i = indents p in record { adds = i.adds; alike = i.alike
 indents_if false p = record { adds = none p; alike = λ s ms. refl }
 
 uses_up_if : (b : Bool) (p : Pen) → Passes (used_up_if b) p
-uses_up_if true p = record { adds = step_then (written_if_step (layouts.not p.style.minified) (codes " ") p) (same (softly_spaced p) (used_up_if true p) refl refl refl); alike = λ s ms. refl }
+uses_up_if true p = record { adds = step_then (white (layouts.not p.style.minified) (codes " ") p).adds (same (softly_spaced p) (used_up_if true p) refl refl refl); alike = λ s ms. refl }
 uses_up_if false p = record { adds = none p; alike = λ s ms. refl }
 
 uses_up : (p : Pen) → Passes used_up p
@@ -127,7 +142,7 @@ passes_before_first false p =
 passes_before_later : (b legal : Bool) (p : Pen) → Passes (before_later b legal) p
 passes_before_later true legal p = passes_new_line p
 passes_before_later false true p = ends_line_passes p
-passes_before_later false false p = let x = writes_if (layouts.not p.style.minified) (codes " ") p in record { adds = x.adds; alike = x.alike }
+passes_before_later false false p = let x = white (layouts.not p.style.minified) (codes " ") p in record { adds = x.adds; alike = x.alike }
 
 passes_behind_last : (b : Bool) (p : Pen) → Passes (behind_last b) p
 passes_behind_last true p = ends_line_passes p
@@ -144,13 +159,13 @@ pub passes_group : (ended : Bool) (cs : List Comment) (p : Pen) → Passes (grou
 passes_group ended [] p = record { adds = none p; alike = λ s ms. refl }
 passes_group ended (c ∷ cs) p =
     let before = before_first c.newline_before in
-    passes_then (λ q. comment_written c (before q)) (behind ended c cs) (passes_then before (comment_written c) (passes_before_first c.newline_before p) (passes_comment c (before p))) (passes_behind ended c cs (comment_written c (before p)))
+    begins_as (λ q. behind ended c cs (comment_written c (before q))) (passes_then (λ q. comment_written c (before q)) (behind ended c cs) (passes_then before (comment_written c) (passes_before_first c.newline_before p) (passes_comment c (before p))) (passes_behind ended c cs (comment_written c (before p))))
 
 -- ---- what is printed of the store
 
 passes_before_group : (m : Manner) (p : Pen) → Passes (before_group m) p
 passes_before_group all_of_them p = record { adds = none p; alike = λ s ms. refl }
-passes_before_group with_key_annotation p = let x = writes_if (ends_in 47 p) (codes " ") p in record { adds = x.adds; alike = λ s ms. refl }
+passes_before_group with_key_annotation p = let x = white (ends_in 47 p) (codes " ") p in record { adds = x.adds; alike = λ s ms. refl }
 passes_before_group then_space p = record { adds = none p; alike = λ s ms. refl }
 passes_before_group with_due_space p = record { adds = none p; alike = λ s ms. refl }
 passes_before_group before_it p = record { adds = none p; alike = λ s ms. refl }
@@ -168,7 +183,7 @@ passes_behind_group before_it p = passes_due p
 passes_behind_group annotation_before_it p = passes_due p
 passes_behind_group with_key_annotation p = passes_due p
 passes_behind_group none_of_them p = passes_due p
-passes_behind_group then_space p = record { adds = step_then (written_if_step (layouts.not p.style.minified) (codes " ") p) (same (softly_spaced p) (behind_group then_space p) refl refl refl); alike = λ s ms. refl }
+passes_behind_group then_space p = record { adds = step_then (white (layouts.not p.style.minified) (codes " ") p).adds (same (softly_spaced p) (behind_group then_space p) refl refl refl); alike = λ s ms. refl }
 
 pub passes_taken : (o : ℕ) (p : Pen) → Passes (without_group o) p
 passes_taken o p = record { adds = same p (without_group o p) refl refl refl; alike = λ s ms. refl }
@@ -196,7 +211,7 @@ passes_orphans o p =
 passes_deeper : (p : Pen) → Passes (λ q. one_deeper (soft_line_ended q)) p
 passes_deeper p =
     let p1 : Pen = soft_line_ended p in
-    record { adds = step_then (written_if_step (layouts.not p.style.minified) (codes "\n") p) (same p1 (one_deeper p1) refl refl refl); alike = λ s ms. refl }
+    record { adds = step_then (white (layouts.not p.style.minified) (codes "\n") p).adds (same p1 (one_deeper p1) refl refl refl); alike = λ s ms. refl }
 
 passes_back : (depth : ℕ) (p : Pen) → Passes (λ q. indented_here (at_level depth q)) p
 passes_back depth p = passes_then (at_level depth) indented_here (levels depth p) (indents (at_level depth p))
@@ -269,6 +284,11 @@ passes_led to_block p = let x = writes_if (layouts.not p.style.minified) (codes 
 passes_led to_body p = with_pending true p
 passes_led (to_empty span) p = record { adds = none p; alike = λ s ms. refl }
 
+led_start : (lead : Lead) (s : Option (List ℕ)) (ms : List Mark) (p : Pen) → (led lead (bare s ms p)).start ≡ (led lead p).start
+led_start to_block s ms p = refl
+led_start to_body s ms p = refl
+led_start (to_empty span) s ms p = refl
+
 passes_own : (o : ℕ) (p : Pen) → Passes (λ q. indented_here (comments_at all_of_them o q)) p
 passes_own o p = passes_then (comments_at all_of_them o) indented_here (passes_comments all_of_them o p) (indents (comments_at all_of_them o p))
 
@@ -280,7 +300,7 @@ passes_led_on_line (to_empty span) o p = passes_own o p
 pub passes_begun : (b : Bool) (lead : Lead) (o : ℕ) (p : Pen) → Passes (case_begun b lead o) p
 passes_begun true lead o p =
     let p1 : Pen = one_deeper (soft_line_ended p) in
-    passes_then (λ q. orphans_before o (one_deeper (soft_line_ended q))) (led_on_line lead o) (passes_then (λ q. one_deeper (soft_line_ended q)) (orphans_before o) (passes_deeper p) (passes_orphans o p1)) (passes_led_on_line lead o (orphans_before o p1))
+    begins_by (λ q. (led lead q).start) (λ q. led_on_line lead o (orphans_before o (one_deeper (soft_line_ended q)))) (λ s ms. led_start lead s ms p) (passes_then (λ q. orphans_before o (one_deeper (soft_line_ended q))) (led_on_line lead o) (passes_then (λ q. one_deeper (soft_line_ended q)) (orphans_before o) (passes_deeper p) (passes_orphans o p1)) (passes_led_on_line lead o (orphans_before o p1)))
 passes_begun false lead o p = passes_led lead p
 
 pub passes_ended : (b : Bool) (depth end : ℕ) (p : Pen) → Passes (case_ended b depth end) p
@@ -305,9 +325,6 @@ passes_annotation_written ends kind o p =
     let x = passes_then (λ q. written_if test (codes " ") q) (annotation_by cs kind o) (writes_if test (codes " ") p) (passes_annotation_by cs kind o (written_if test (codes " ") p)) in
     record { adds = x.adds; alike = x.alike }
 
-begins : (start : Start) (p : Pen) → Passes (begun_at start) p
-begins start p = record { adds = same p (begun_at start p) refl refl refl; alike = λ s ms. refl }
-
 pub passes_annotation : (start : Start) (kind : Annotation) (o : ℕ) (p : Pen) → Passes (λ q. begun_at start (annotation_at kind o q)) p
 passes_annotation start kind o p =
     let p1 : Pen = annotation_written false kind o p in
@@ -322,22 +339,35 @@ passes_annotation_line indented o p =
 -- ---- an object, and before it
 
 passes_soft_line : (p : Pen) → Passes soft_line_ended p
-passes_soft_line p = let x = writes_if (layouts.not p.style.minified) (codes "\n") p in record { adds = x.adds; alike = x.alike }
+passes_soft_line p = let x = white (layouts.not p.style.minified) (codes "\n") p in record { adds = x.adds; alike = x.alike }
+
+-- text that minified text leaves out
+passes_softly : (t : List ℕ) (p : Pen) → Passes (λ q. written_if (layouts.not q.style.minified) t q) p
+passes_softly t p = let x = writes_if (layouts.not p.style.minified) t p in record { adds = x.adds; alike = x.alike }
 
 pub passes_member_line : (o : ℕ) (p : Pen) → Passes (member_line_at o) p
 passes_member_line o p =
-    let p1 : Pen = soft_line_ended p in
-    passes_then (λ q. comments_at all_of_them o (soft_line_ended q)) indented_here (passes_then soft_line_ended (comments_at all_of_them o) (passes_soft_line p) (passes_comments all_of_them o p1)) (indents (comments_at all_of_them o p1))
-
-passes_soft_space : (p : Pen) → Passes softly_spaced p
-passes_soft_space p = let x = writes_if (layouts.not p.style.minified) (codes " ") p in record { adds = x.adds; alike = x.alike }
+    let line = λ (q : Pen). written_if (layouts.not q.style.minified) (codes "\n") q in
+    passes_then (λ q. comments_at all_of_them o (line q)) indented_here (passes_then line (comments_at all_of_them o) (passes_softly (codes "\n") p) (passes_comments all_of_them o (line p))) (indents (comments_at all_of_them o (line p)))
 
 pub passes_member_space : (o : ℕ) (p : Pen) → Passes (member_space_at o) p
-passes_member_space o p = passes_then softly_spaced (comments_at with_due_space o) (passes_soft_space p) (passes_comments with_due_space o (softly_spaced p))
+passes_member_space o p =
+    let space = λ (q : Pen). written_if (layouts.not q.style.minified) (codes " ") q in
+    passes_then space (comments_at with_due_space o) (passes_softly (codes " ") p) (passes_comments with_due_space o (space p))
 
-pub passes_commented : (b : Bool) (o : ℕ) (p : Pen) → Passes (commented_if b o) p
+passes_commented : (b : Bool) (o : ℕ) (p : Pen) → Passes (commented_if b o) p
 passes_commented true o p = passes_own o p
 passes_commented false o p = record { adds = none p; alike = λ s ms. refl }
+
+-- in parentheses where the first test holds, with comments where the second does
+pub passes_opening : (test stand : Bool) (o : ℕ) (p : Pen) → Passes (λ q. begun_at nowhere (commented_if stand o (written_if test (opening Round) q))) p
+passes_opening test stand o p =
+    let p1 : Pen = written_if test (opening Round) p in
+    let p2 : Pen = commented_if stand o p1 in
+    passes_then (λ q. commented_if stand o (written_if test (opening Round) q)) (begun_at nowhere) (passes_then (λ q. written_if test (opening Round) q) (commented_if stand o) (writes_if test (opening Round) p) (passes_commented stand o p1)) (begins nowhere p2)
+
+pub passes_closing_round : (test : Bool) (p : Pen) → Passes (λ q. begun_at nowhere (written_if test (closing Round) q)) p
+passes_closing_round test p = passes_then (λ q. written_if test (closing Round) q) (begun_at nowhere) (writes_if test (closing Round) p) (begins nowhere (written_if test (closing Round) p))
 
 -- ---- arguments on lines
 
@@ -349,7 +379,7 @@ passes_each_on_line (c ∷ cs) p =
 
 passes_broken : (cs : List Comment) (p : Pen) → Passes (broken_by cs) p
 passes_broken [] p = passes_soft_line p
-passes_broken (c ∷ cs) p = passes_then (each_on_line (c ∷ cs)) line_ended (passes_each_on_line (c ∷ cs) p) (ends_line_passes (each_on_line (c ∷ cs) p))
+passes_broken (c ∷ cs) p = begins_as (λ q. line_ended (each_on_line (c ∷ cs) q)) (passes_then (each_on_line (c ∷ cs)) line_ended (passes_each_on_line (c ∷ cs) p) (ends_line_passes (each_on_line (c ∷ cs) p)))
 
 passes_broken_at : (o : ℕ) (p : Pen) → Passes (broken_at o) p
 passes_broken_at o p =
@@ -360,15 +390,17 @@ passes_broken_at o p =
 
 passes_on_a_line : (at : Break) (p : Pen) → Passes (on_a_line at) p
 passes_on_a_line (first_argument o) p = passes_broken_at o p
-passes_on_a_line (other_argument o) p = passes_broken_at o p
+passes_on_a_line (other_argument o) p = begins_by (λ q. (on_one_line (other_argument o) q).start) (broken_at o) (λ s ms. refl) (passes_broken_at o p)
 passes_on_a_line (import_source o) p = passes_broken_at o p
-passes_on_a_line import_options p = passes_then soft_line_ended indented_here (passes_soft_line p) (indents (soft_line_ended p))
+passes_on_a_line import_options p =
+    let line = λ (q : Pen). written_if (layouts.not q.style.minified) (codes "\n") q in
+    passes_then line indented_here (passes_softly (codes "\n") p) (indents (line p))
 
 passes_unless_on_line : (at : Break) (p : Pen) → Passes (unless_on_line at) p
 passes_unless_on_line (first_argument o) p = record { adds = none p; alike = λ s ms. refl }
-passes_unless_on_line (other_argument o) p = passes_soft_space p
+passes_unless_on_line (other_argument o) p = passes_softly (codes " ") p
 passes_unless_on_line (import_source o) p = let x = either (are_any (group_at o p)) (broken_at o) (λ q. q) (passes_broken_at o p) (stays p) in record { adds = x.adds; alike = x.alike }
-passes_unless_on_line import_options p = passes_soft_space p
+passes_unless_on_line import_options p = passes_softly (codes " ") p
 
 pub passes_break : (at : Break) (p : Pen) → Passes (break_at at) p
 passes_break at p = let x = either p.lines (on_a_line at) (unless_on_line at) (passes_on_a_line at p) (passes_unless_on_line at p) in record { adds = x.adds; alike = x.alike }

@@ -77,7 +77,7 @@ written_if_step test t p = texted p (written_if test t p) (text_if test t) refl 
 
 pub indented_step : (t : List ℕ) (p : Pen) → Adds p (indented t p)
 indented_step [] p = none p
-indented_step (c ∷ cs) p = written_step (c ∷ cs) other_end p
+indented_step (c ∷ cs) p = texted p (indented (c ∷ cs) p) (c ∷ cs) refl refl refl
 
 pub or_space_step : (pending : Bool) (p : Pen) → Adds p (indent_or_space pending p)
 or_space_step true p = texted p (indent_or_space true p) (codes " ") refl refl refl

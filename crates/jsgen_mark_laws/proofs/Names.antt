@@ -10,15 +10,15 @@ use Rattle.jsgen_map.specs.Marks.{Mark, Ordered, Parted, last_from, last_offset,
 use Rattle.jsgen_model.specs.Marks.{size, has_start_mark, other_name_in}
 use Rattle.jsgen_model.specs.Layout as layouts
 use Rattle.jsgen_model.specs.Layout.{Pen, other_end, written, written_if, is_barred, deeper_level, entered, are_same}
-use Rattle.jsgen_model.specs.Lay.{lay, lifts, annotated_if, is_enclosed, case_mark, marked_if, name_mark, spaced}
+use Rattle.jsgen_model.specs.Lay.{lay, lifts, annotated_if, is_enclosed, commented_from, case_mark, marked_if, name_mark, spaced}
 use Rattle.jsgen_model.specs.Private.{printed_private}
 use Rattle.jsgen_mark_laws.specs.Law.{Adds, ArePlaced, Right}
 use Rattle.jsgen_mark_laws.specs.Names.{Printed, names_of, printed_at, last_before, StandsAt, Stand}
 use Rattle.jsgen_mark_laws.proofs.Sizes.{size_append, size_some, longer}
 use Rattle.jsgen_mark_laws.proofs.Marks.{ordered_append, parted_append, was_last, before_longer, before_end, last_is}
 use Rattle.jsgen_model.specs.Comments.{are_any}
-use Rattle.jsgen_model.specs.Groups.{has_orphans, group_at, comments_at, case_begun, last_byte, ending_at, without_ending, commented_if, are_lined, lines_opened}
-use Rattle.jsgen_mark_laws.proofs.Comments.{passes_comments, passes_without, passes_closing, passes_begun, passes_ended, passes_commented, passes_opened, passes_closed}
+use Rattle.jsgen_model.specs.Groups.{has_orphans, group_at, comments_at, case_begun, last_byte, ending_at, without_ending, are_lined, lines_opened}
+use Rattle.jsgen_mark_laws.proofs.Comments.{passes_comments, passes_without, passes_closing, passes_begun, passes_ended, passes_opening, passes_closing_round, passes_opened, passes_closed}
 use Rattle.jsgen_mark_laws.proofs.Marked.{placed_append, placed_on, same, step_then, spaced_step, written_step, written_if_step}
 use Rattle.jsgen_mark_laws.proofs.Steps.{lay_steps, mark_step, block_step, annotated_step}
 
@@ -182,10 +182,9 @@ names_stand (annotated test lifted pure span o items) p = λ src e r.
 names_stand (commented o items) p = λ src e r.
     let test : Bool = is_enclosed o p in
     let stand : Bool = are_any (group_at o p) in
-    let p1 : Pen = written_if test (opening Round) p in
-    let p2 : Pen = commented_if stand o p1 in
-    let s = step_then (written_if_step test (opening Round) p) (passes_commented stand o p1).adds in
-    stand_round (names_of items p2) s (names_stand items p2 src (source_behind src s e) (right_behind s r)) (written_if_step test (closing Round) (lay items p2))
+    let p1 : Pen = commented_from o p in
+    let s = (passes_opening test stand o p).adds in
+    stand_round (names_of items p1) s (names_stand items p1 src (source_behind src s e) (right_behind s r)) (passes_closing_round test (lay items p1)).adds
 names_stand (in_lines lines starts end items) p = λ src e r.
     let lined : Bool = are_lined lines starts end p in
     let p1 : Pen = lines_opened lined p in

@@ -6,7 +6,7 @@ use Rattle.jsgen_tree.specs.Named.{printed_name}
 use Rattle.jsgen_model.specs.Punctuator.{Round, opening, closing, punctuator_text}
 use Rattle.jsgen_model.specs.Items.{Items, a_brace, annotation, annotation_line, annotated, commented, member_line, in_lines, line_break, Lines, Break, first_argument, other_argument, import_source, import_options, with_due_space, before_it, annotation_before_it, none_of_them, TemplatePart, whole_part, head_part, middle_part, tail_part, ◌⊕◌, name, private_name, template_part, indentation, deeper, in_class, brackets, wrapped, wrapped_at_start, parentheses_unless_minified, unless_minified, where_same, statement_end, mark, end_mark, link_mark, marked_word, marked_operator, marked_number, marked_indentation, comments, empty_body, held, lined_case, caught, all_of_them, with_key_annotation, then_space, Lead, to_block, to_body, to_empty}
 use Rattle.jsgen_map.specs.Marks.{Mark}
-use Rattle.jsgen_model.specs.Layout.{Pen, Ending, nowhere, other_end, operator_end, number_ending, joins, written, written_if, text_if, space_if, is_apart, name_ending, is_barred, deeper_level, entered, indented, indent_or_space, at_indentation, end_statement, are_same, not, part_text, led, on_one_line, layout}
+use Rattle.jsgen_model.specs.Layout.{Pen, Ending, nowhere, other_end, operator_end, number_ending, joins, written, written_if, text_if, space_if, is_apart, name_ending, is_barred, deeper_level, entered, indented, indent_or_space, at_indentation, end_statement, are_same, not, part_text, led, on_one_line, begun_at, layout}
 use Rattle.jsgen_model.specs.Comments.{empty_store, are_any}
 use Rattle.jsgen_model.specs.Groups.{last_byte, ending_at, without_ending, closing_group, body_of, any_group, may_be_lined, are_lined, break_at, with_lines, lines_opened, lines_closed}
 use Rattle.jsgen_model.specs.Lay.{lay, annotated_if, before_block, span_mark, name_mark, piece_mark, parted, spaced, part_opening, part_closing}
@@ -216,7 +216,10 @@ alike (annotated test lifted pure span o items) ms q printed e h =
     let f : (pure && q.style.annotated) ≡ false = ap (λ b. pure && b) e ∙ h.0 in
     let x = alike items ms (written_if test (opening Round) q) printed e h.1 in
     record { marks = x.marks; same = (λ i. written_if (f i && lifted || test) (closing Round) (lay items (annotated_if (f i) span o q.start (written_if (f i && lifted || test) (opening Round) (with_marks ms (quiet q)))))) ∙ ap (λ p. written_if test (closing Round) p) x.same }
-alike (commented o items) ms q printed e h = let test : Bool = is_barred a_brace q.start in around test items q (alike items ms (written_if test (opening Round) q) printed e h)
+alike (commented o items) ms q printed e h =
+    let test : Bool = is_barred a_brace q.start in
+    let x = alike items ms (begun_at nowhere (written_if test (opening Round) q)) printed e h in
+    record { marks = x.marks; same = ap (λ p. begun_at nowhere (written_if test (closing Round) p)) x.same }
 alike (member_line o) ms q printed e h =
     let p1 : Pen = written_if (not q.style.minified) (codes "\n") q in
     record { marks = ms; same = indentation_alike q.style.minified ms (quiet p1) ∙ ap (with_marks ms) (indentation_quiet q.style.minified p1) }
@@ -247,7 +250,7 @@ stored_alike indentation q = indentation_quiet q.style.minified q
 stored_alike (marked_indentation span) q = indentation_quiet q.style.minified q
 stored_alike statement_end q = end_quiet q.style.minified q
 stored_alike (annotated test lifted pure span o items) q = ap (λ p. written_if test (closing Round) p) (stored_alike items (written_if test (opening Round) q))
-stored_alike (commented o items) q = let test : Bool = is_barred a_brace q.start in ap (λ p. written_if test (closing Round) p) (stored_alike items (written_if test (opening Round) q))
+stored_alike (commented o items) q = let test : Bool = is_barred a_brace q.start in ap (λ p. begun_at nowhere (written_if test (closing Round) p)) (stored_alike items (begun_at nowhere (written_if test (opening Round) q)))
 stored_alike (member_line o) q = indentation_quiet q.style.minified (written_if (not q.style.minified) (codes "\n") q)
 stored_alike (in_lines lines starts end items) q = stored_alike items q
 stored_alike (line_break at) q = break_quiet at q

@@ -7,11 +7,11 @@ use Rattle.jsgen_model.specs.Items.{Items, ◌⊕◌, name, private_name, templa
 use Rattle.jsgen_tree.specs.Options.{Legal}
 use Rattle.jsgen_model.specs.Comments.{Comment, are_any}
 use Rattle.jsgen_model.specs.Ends.{licensed}
-use Rattle.jsgen_model.specs.Groups.{comments_at, group_at, has_orphans, last_byte, ending_at, without_ending, closing_group, case_begun, case_ended, space_behind, commented_if, are_lined, lines_opened, lines_closed}
-use Rattle.jsgen_model.specs.Layout.{Pen, Start, other_end, written, written_if, is_barred, deeper_level, entered, end_statement, are_same, not}
-use Rattle.jsgen_model.specs.Lay.{lay, span_mark, lifts, annotated_if, is_enclosed, case_mark, stood, before_block}
+use Rattle.jsgen_model.specs.Groups.{comments_at, group_at, has_orphans, last_byte, ending_at, without_ending, closing_group, case_begun, case_ended, space_behind, are_lined, lines_opened, lines_closed}
+use Rattle.jsgen_model.specs.Layout.{Pen, Start, nowhere, begun_at, other_end, written, written_if, is_barred, deeper_level, entered, end_statement, are_same, not}
+use Rattle.jsgen_model.specs.Lay.{lay, span_mark, lifts, annotated_if, is_enclosed, commented_from, case_mark, stood, before_block}
 use Rattle.jsgen_mark_laws.specs.Law.{with_source}
-use Rattle.jsgen_mark_laws.proofs.Comments.{Passes, bare, indentation_alike, passes_comments, passes_orphans, passes_lines_of_orphans, passes_empty_body, passes_without, passes_closing, passes_begun, passes_ended, passes_space, passes_licences, ending_alike, passes_annotation, passes_annotation_line, passes_commented, passes_member_line, passes_member_space, passes_opened, passes_closed, passes_break, lined_alike}
+use Rattle.jsgen_mark_laws.proofs.Comments.{Passes, bare, indentation_alike, passes_comments, passes_orphans, passes_lines_of_orphans, passes_empty_body, passes_without, passes_closing, passes_begun, passes_ended, passes_space, passes_licences, ending_alike, passes_annotation, passes_annotation_line, passes_opening, passes_closing_round, passes_member_line, passes_member_space, passes_opened, passes_closed, passes_break, lined_alike}
 
 -- the same pen but for its source and its marks
 record Alike (s : Option (List ℕ)) (a b : Pen) : Type 0 where
@@ -107,10 +107,10 @@ alike (annotated test lifted pure span o items) s ms q =
 alike (commented o items) s ms q =
     let test : Bool = is_enclosed o q in
     let stand : Bool = are_any (group_at o q) in
-    let p1 : Pen = written_if test (opening Round) q in
-    let x = alike items s ms (commented_if stand o p1) in
-    let y : Alike s (lay items (commented_if stand o (written_if test (opening Round) (bare s ms q)))) (lay items (commented_if stand o p1)) = record { marks = x.marks; same = ap (lay items) ((passes_commented stand o p1).alike s ms) ∙ x.same } in
-    around test y
+    let p1 : Pen = commented_from o q in
+    let x = alike items s ms p1 in
+    let y : Alike s (lay items (commented_from o (bare s ms q))) (lay items p1) = record { marks = x.marks; same = ap (lay items) ((passes_opening test stand o q).alike s ms) ∙ x.same } in
+    going (λ p. begun_at nowhere (written_if test (closing Round) p)) y (passes_closing_round test (lay items p1))
 alike (member_line o) s ms q = record { marks = ms; same = (passes_member_line o q).alike s ms }
 alike (member_space o) s ms q = record { marks = ms; same = (passes_member_space o q).alike s ms }
 alike (in_lines lines starts end items) s ms q =

@@ -6,14 +6,14 @@ use Rattle.jsgen_tree.specs.Named.{printed_name}
 use Rattle.jsgen_model.specs.Punctuator.{Round, opening, closing, punctuator_text}
 use Rattle.jsgen_model.specs.Items.{Items, nothing, ◌⊕◌, word, name, private_name, number, literal, regular_expression, template_part, string, first_string, directive, punctuator, operator, member_dot, soft_space, soft_line, hard_space, indentation, body_space, deeper, in_class, brackets, wrapped, wrapped_at_start, parentheses_unless_minified, unless_minified, where_same, statement_end, due_semicolon, drop_semicolon, statement_begins, arrow_body_begins, default_export_begins, mark, end_mark, link_mark, marked_word, marked_operator, marked_number, marked_indentation, apart, comments, orphans, orphan_lines, empty_body, held, lined_case, caught, all_of_them, Lead, to_block, to_body, to_empty, annotation, annotation_line, annotated, is_pure, commented, member_line, member_space, in_lines, line_break}
 use Rattle.jsgen_model.specs.Marks.{has_end_mark, has_link_mark}
-use Rattle.jsgen_model.specs.Layout.{Pen, Start, other_end, operator_end, number_ending, joins, written, written_if, text_if, is_barred, deeper_level, entered, indented, at_indentation, are_same, not}
-use Rattle.jsgen_model.specs.Lay.{lay, lifts, annotated_if, is_enclosed, case_mark, stood, before_block, name_mark, may_be_indented, has_piece_mark, parted, spaced, part_opening, piece_mark, span_mark}
+use Rattle.jsgen_model.specs.Layout.{Pen, Start, other_end, operator_end, number_ending, joins, written, written_if, text_if, is_apart, is_barred, deeper_level, entered, indented, at_indentation, are_same, not}
+use Rattle.jsgen_model.specs.Lay.{lay, lifts, annotated_if, is_enclosed, commented_from, case_mark, stood, before_block, name_mark, may_be_indented, has_piece_mark, parted, spaced, part_opening, piece_mark, span_mark}
 use Rattle.jsgen_model.specs.Private.{printed_private}
 use Rattle.jsgen_mark_laws.specs.Law.{Adds}
 use Rattle.jsgen_mark_laws.proofs.Marked.{none, same, step_then, texted, written_step, written_if_step, indentation_step, end_step, one_of, marked_if_step, end_leads, link_leads, piece_leads, start_step, name_step, behind_step, spaced_step}
 use Rattle.jsgen_model.specs.Comments.{are_any}
-use Rattle.jsgen_model.specs.Groups.{has_orphans, group_at, comments_at, case_begun, last_byte, ending_at, without_ending, commented_if, are_lined, lines_opened}
-use Rattle.jsgen_mark_laws.proofs.Comments.{passes_comments, passes_orphans, passes_lines_of_orphans, passes_empty_body, passes_without, passes_closing, passes_begun, passes_ended, passes_space, passes_annotation, passes_annotation_line, passes_commented, passes_member_line, passes_member_space, passes_opened, passes_closed, passes_break}
+use Rattle.jsgen_model.specs.Groups.{has_orphans, group_at, comments_at, case_begun, last_byte, ending_at, without_ending, are_lined, lines_opened}
+use Rattle.jsgen_mark_laws.proofs.Comments.{passes_comments, passes_orphans, passes_lines_of_orphans, passes_empty_body, passes_without, passes_closing, passes_begun, passes_ended, passes_space, passes_annotation, passes_annotation_line, passes_opening, passes_closing_round, passes_member_line, passes_member_space, passes_opened, passes_closed, passes_break}
 
 -- the mark of an empty statement, where it stands on a line of its own in a case
 pub mark_step : (long : Bool) (lead : Lead) (p : Pen) → Adds p (case_mark long lead p)
@@ -84,7 +84,7 @@ lay_steps (marked_number span dot_is_its_own w) p =
     let p1 : Pen = spaced p in
     step_then (spaced_step p) (step_then (start_step span None p1) (written_step w (number_ending dot_is_its_own) (span_mark span p1)))
 lay_steps (marked_indentation span) p = step_then (indentation_step p.style.minified p) (behind_step (may_be_indented p) span (at_indentation p.style.minified p))
-lay_steps apart p = spaced_step p
+lay_steps apart p = texted p (lay apart p) (text_if (is_apart p.ending p.code) (codes " ")) refl refl refl
 lay_steps (word w) p = written_step _ _ p
 lay_steps (number dot_is_its_own w) p = written_step _ _ p
 lay_steps (literal w) p = written_step _ _ p
@@ -132,9 +132,8 @@ lay_steps (annotated test lifted pure span o items) p =
 lay_steps (commented o items) p =
     let test : Bool = is_enclosed o p in
     let stand : Bool = are_any (group_at o p) in
-    let p1 : Pen = written_if test (opening Round) p in
-    let p2 : Pen = commented_if stand o p1 in
-    step_then (written_if_step test (opening Round) p) (step_then (passes_commented stand o p1).adds (step_then (lay_steps items p2) (written_if_step test (closing Round) (lay items p2))))
+    let p1 : Pen = commented_from o p in
+    step_then (passes_opening test stand o p).adds (step_then (lay_steps items p1) (passes_closing_round test (lay items p1)).adds)
 lay_steps (member_line o) p = (passes_member_line o p).adds
 lay_steps (member_space o) p = (passes_member_space o p).adds
 lay_steps (in_lines lines starts end items) p =

@@ -10,7 +10,7 @@ use Rattle.jsgen_tree.specs.declared.statements.CommentContent.{CommentContent}
 use Rattle.jsgen_tree.specs.declared.statements.CommentContent.TheVariants as contents
 use Rattle.jsgen_model.specs.Items.{Annotation, is_pure, no_side_effects, Lines, of_call, of_import, Break, first_argument, other_argument, import_source, import_options, Manner, all_of_them, then_space, with_due_space, annotation_before_it, with_key_annotation, none_of_them, Lead, to_body}
 use Rattle.jsgen_model.specs.Comments.{Comment, Store, there, without, are_any, taken, orphans_below, left_below, has_orphans_below}
-use Rattle.jsgen_model.specs.Layout.{Pen, Style, Start, on_one_line, other_end, written, written_if, not, at_indentation, deeper_level, led}
+use Rattle.jsgen_model.specs.Layout.{Pen, Style, on_one_line, other_end, written, written_if, white_if, begun_at, not, at_indentation, deeper_level, led}
 use Rattle.jsgen_model.specs.Tokens.{is_line_terminator}
 
 -- ---- steps
@@ -22,7 +22,7 @@ abbrev pub indented_here : Pen → Pen
 indented_here pen = at_indentation pen.style.minified pen
 
 abbrev pub softly_spaced : Pen → Pen
-softly_spaced pen = written_if (not pen.style.minified) (codes " ") pen
+softly_spaced pen = white_if (not pen.style.minified) (codes " ") pen
 
 abbrev pub with_pending_space : Bool → Pen → Pen
 with_pending_space pending pen = record pen { pending_space = pending }
@@ -140,9 +140,10 @@ abbrev pub behind : Bool → Comment → List Comment → Pen → Pen
 behind ended c [] pen = behind_last (ended || ends_line c) pen
 behind ended c (d ∷ cs) pen = behind ended d cs (comment_written d (before_later (d.newline_before || is_line c.kind) (is_legal d.content) pen))
 
+-- what began before comments begins behind them
 abbrev pub group : Bool → List Comment → Pen → Pen
 group ended [] pen = pen
-group ended (c ∷ cs) pen = behind ended c cs (comment_written c (before_first c.newline_before pen))
+group ended (c ∷ cs) pen = begun_at pen.start (behind ended c cs (comment_written c (before_first c.newline_before pen)))
 
 -- ---- what is printed of the store
 
@@ -187,7 +188,7 @@ ends_in c pen = option_map_or (λ d. d == c) (last_of pen.code) false
 
 -- behind `/` a comment would be another one
 abbrev pub before_group : Manner → Pen → Pen
-before_group with_key_annotation pen = written_if (ends_in 47 pen) (codes " ") pen
+before_group with_key_annotation pen = white_if (ends_in 47 pen) (codes " ") pen
 before_group manner pen = pen
 
 abbrev pub behind_group : Manner → Pen → Pen
@@ -217,7 +218,7 @@ abbrev pub member_line_at : ℕ → Pen → Pen
 member_line_at o pen = indented_here (comments_at all_of_them o (written_if (not pen.style.minified) (codes "\n") pen))
 
 abbrev pub member_space_at : ℕ → Pen → Pen
-member_space_at o pen = comments_at with_due_space o (softly_spaced pen)
+member_space_at o pen = comments_at with_due_space o (written_if (not pen.style.minified) (codes " ") pen)
 
 -- the comments before an object, where there are any
 abbrev pub commented_if : Bool → ℕ → Pen → Pen
@@ -233,7 +234,7 @@ abbrev pub at_level : ℕ → Pen → Pen
 at_level depth pen = record pen { depth = depth }
 
 abbrev pub soft_line_ended : Pen → Pen
-soft_line_ended pen = written_if (not pen.style.minified) (codes "\n") pen
+soft_line_ended pen = white_if (not pen.style.minified) (codes "\n") pen
 
 -- orphans on lines of their own, one level deeper, where there are any
 abbrev pub orphan_lines_at : ℕ → Pen → Pen
@@ -299,10 +300,6 @@ annotation_by (c ∷ cs) kind o pen = comment_written c (without_annotation o pe
 abbrev pub annotation_written : Bool → Annotation → ℕ → Pen → Pen
 annotation_written ends kind o pen = annotation_by (fitting_at ends kind o pen) kind o (written_if (ends_in 47 pen) (codes " ") pen)
 
--- what began before an annotation begins behind it
-abbrev pub begun_at : Start → Pen → Pen
-begun_at start pen = record pen { start = start }
-
 -- before what begins here
 abbrev pub annotation_at : Annotation → ℕ → Pen → Pen
 annotation_at kind o pen = written (codes " ") other_end (annotation_written false kind o pen)
@@ -321,17 +318,18 @@ each_on_line (c ∷ cs) pen = each_on_line cs (comment_written c (indented_here 
 -- comments and a line end, or a line end that minified text leaves out
 abbrev pub broken_by : List Comment → Pen → Pen
 broken_by [] pen = soft_line_ended pen
-broken_by (c ∷ cs) pen = line_ended (each_on_line (c ∷ cs) pen)
+broken_by (c ∷ cs) pen = begun_at pen.start (line_ended (each_on_line (c ∷ cs) pen))
 
 abbrev pub broken_at : ℕ → Pen → Pen
 broken_at o pen = indented_here (broken_by (group_at o pen) (without_group o pen))
 
--- what stands before an argument on a line of its own, and before the source of `import()` where comments stand there
+-- what stands before an argument on a line of its own, and before the source of `import()` where comments stand there; behind it begins what
+-- does so where all stand on one line
 abbrev pub on_a_line : Break → Pen → Pen
 on_a_line (first_argument o) pen = broken_at o pen
-on_a_line (other_argument o) pen = broken_at o pen
+on_a_line (other_argument o) pen = begun_at (on_one_line (other_argument o) pen).start (broken_at o pen)
 on_a_line (import_source o) pen = broken_at o pen
-on_a_line import_options pen = indented_here (soft_line_ended pen)
+on_a_line import_options pen = indented_here (written_if (not pen.style.minified) (codes "\n") pen)
 
 abbrev pub unless_on_line : Break → Pen → Pen
 unless_on_line (import_source o) pen = if are_any (group_at o pen) then broken_at o pen else pen
@@ -378,7 +376,7 @@ led_on_line to_body o pen = pen
 led_on_line lead o pen = indented_here (comments_at all_of_them o pen)
 
 abbrev pub case_begun : Bool → Lead → ℕ → Pen → Pen
-case_begun true lead o pen = led_on_line lead o (orphans_before o (one_deeper (soft_line_ended pen)))
+case_begun true lead o pen = begun_at (led lead pen).start (led_on_line lead o (orphans_before o (one_deeper (soft_line_ended pen))))
 case_begun false lead o pen = led lead pen
 
 abbrev pub case_ended : Bool → ℕ → ℕ → Pen → Pen

@@ -7,10 +7,10 @@ use Rattle.jsgen_tree.specs.Named.{printed_name}
 use Rattle.jsgen_model.specs.Punctuator.{Punctuator, Round, opening, closing, punctuator_text}
 use Rattle.jsgen_model.specs.Items.{Items, a_brace, TemplatePart, whole_part, head_part, middle_part, tail_part, ◌⊕◌, name, private_name, template_part, deeper, in_class, brackets, wrapped, wrapped_at_start, parentheses_unless_minified, unless_minified, where_same, mark, end_mark, link_mark, marked_word, marked_operator, marked_number, marked_indentation, indentation, comments, orphans, orphan_lines, empty_body, held, lined_case, caught, annotation, annotation_line, annotated, commented, member_line, member_space, in_lines, line_break, is_pure, Lead, to_empty, all_of_them}
 use Rattle.jsgen_model.specs.Marks.{one_more_if, size, other_name_in, has_start_mark, has_end_mark, has_link_mark}
-use Rattle.jsgen_model.specs.Layout.{Pen, Start, other_end, operator_end, written, written_if, is_apart, joins, number_ending, name_ending, is_barred, deeper_level, entered, with_private_name, are_same, not, layout}
+use Rattle.jsgen_model.specs.Layout.{Pen, Start, nowhere, other_end, operator_end, written, written_if, is_apart, joins, number_ending, name_ending, is_barred, deeper_level, entered, with_private_name, are_same, not, layout, begun_at}
 use Rattle.jsgen_model.specs.Private.{printed_private}
 use Rattle.jsgen_model.specs.Comments.{are_any}
-use Rattle.jsgen_model.specs.Groups.{comments_at, orphans_before, has_orphans, orphan_lines_at, empty_body_at, group_at, last_byte, ending_at, without_ending, closing_group, case_begun, case_ended, space_behind, annotation_at, annotation_line_at, commented_if, member_line_at, member_space_at, begun_at, break_at, are_lined, lines_opened, lines_closed}
+use Rattle.jsgen_model.specs.Groups.{comments_at, orphans_before, has_orphans, orphan_lines_at, empty_body_at, group_at, last_byte, ending_at, without_ending, closing_group, case_begun, case_ended, space_behind, annotation_at, annotation_line_at, commented_if, member_line_at, member_space_at, break_at, are_lined, lines_opened, lines_closed}
 
 -- ---- marks
 
@@ -96,7 +96,7 @@ abbrev pub is_enclosed : ℕ → Pen → Bool
 is_enclosed o pen = are_any (group_at o pen) || is_barred a_brace pen.start
 
 abbrev pub commented_from : ℕ → Pen → Pen
-commented_from o pen = commented_if (are_any (group_at o pen)) o (written_if (is_enclosed o pen) (opening Round) pen)
+commented_from o pen = begun_at nowhere (commented_if (are_any (group_at o pen)) o (written_if (is_enclosed o pen) (opening Round) pen))
 
 -- ---- annotations
 
@@ -147,8 +147,7 @@ lay (annotation test kind o) pen = if test && pen.style.annotated then begun_at 
 lay (annotation_line indented test o) pen = if test && pen.style.annotated then annotation_line_at indented o pen else pen
 lay (annotated test lifted pure span o items) pen =
     written_if (lifts pure lifted pen || test) (closing Round) (lay items (annotated_from test lifted pure span o pen))
-lay (commented o items) pen =
-    written_if (is_enclosed o pen) (closing Round) (lay items (commented_from o pen))
+lay (commented o items) pen = begun_at nowhere (written_if (is_enclosed o pen) (closing Round) (lay items (commented_from o pen)))
 lay (member_line o) pen = member_line_at o pen
 lay (member_space o) pen = member_space_at o pen
 lay (in_lines lines starts end items) pen = lines_closed (are_lined lines starts end pen) lines end pen.depth pen.lines (lay items (lines_opened (are_lined lines starts end pen) pen))

@@ -156,13 +156,21 @@ abbrev pub not : Bool → Bool
 not true = false
 not false = true
 
+-- what begins at the end of the code
+abbrev pub begun_at : Start → Pen → Pen
+begun_at start pen = record pen { start = start }
+
+-- white text where the test holds: what began before it begins behind it
+abbrev pub white_if : Bool → List ℕ → Pen → Pen
+white_if test text pen = begun_at pen.start (written_if test text pen)
+
 -- the levels' own indentation; an empty one leaves the pen as it is
 abbrev pub indented : List ℕ → Pen → Pen
 indented [] pen = pen
-indented (c ∷ cs) pen = written (c ∷ cs) other_end pen
+indented (c ∷ cs) pen = white_if true (c ∷ cs) pen
 
 abbrev pub indent_or_space : Bool → Pen → Pen
-indent_or_space true pen = record (written (codes " ") other_end pen) { pending_space = false }
+indent_or_space true pen = record (white_if true (codes " ") pen) { pending_space = false }
 indent_or_space false pen = indented (replicate (pen.depth * pen.style.width) pen.style.indent) pen
 
 -- minified text has no indentation
@@ -304,7 +312,7 @@ layout (marked_word span w) pen = written (space_if (is_apart pen.ending pen.cod
 layout (marked_operator span p) pen = written (space_if (joins pen.ending pen.code p) ++ punctuator_text p) (operator_end p) pen
 layout (marked_number span dot_is_its_own w) pen = written (space_if (is_apart pen.ending pen.code) ++ w) (number_ending dot_is_its_own) pen
 layout (marked_indentation span) pen = at_indentation pen.style.minified pen
-layout apart pen = written_if (is_apart pen.ending pen.code) (codes " ") pen
+layout apart pen = white_if (is_apart pen.ending pen.code) (codes " ") pen
 layout (mark span) pen = pen
 layout (end_mark span) pen = pen
 layout (link_mark span) pen = pen
@@ -318,7 +326,7 @@ layout (caught start body items) pen = layout items pen
 layout (annotation test kind offset) pen = pen
 layout (annotation_line indented test offset) pen = pen
 layout (annotated test lifted pure span offset items) pen = written_if test (closing Round) (layout items (written_if test (opening Round) pen))
-layout (commented offset items) pen = written_if (is_barred a_brace pen.start) (closing Round) (layout items (written_if (is_barred a_brace pen.start) (opening Round) pen))
+layout (commented offset items) pen = begun_at nowhere (written_if (is_barred a_brace pen.start) (closing Round) (layout items (begun_at nowhere (written_if (is_barred a_brace pen.start) (opening Round) pen))))
 layout (member_line offset) pen = at_indentation pen.style.minified (written_if (not pen.style.minified) (codes "\n") pen)
 layout (member_space offset) pen = written_if (not pen.style.minified) (codes " ") pen
 layout (in_lines lines starts end items) pen = layout items pen

@@ -87,7 +87,7 @@ pub fn print_object_expression<N: PrintNode>(
     let _ = place;
     let wrap = p.begin_object(node.span.start);
     print_properties(node.span, &node.properties, p);
-    p.print_closing_if(wrap);
+    p.end_object(wrap);
 }
 
 // The braces and what is in them.

@@ -4,7 +4,7 @@ use Rattle.jsgen_model.specs.Comments.{Comment, are_any}
 use Rattle.jsgen_model.specs.Groups.{last_byte, ending_at, without_ending, closing_group, has_orphans, case_begun, case_ended, comments_at, group_at, are_lined, lines_opened, lines_closed, broken_at, on_a_line, unless_on_line}
 use Rattle.jsgen_model.specs.Items.{Items, held, lined_case, caught, annotated, commented, in_lines, line_break, Lines, Break, Lead, all_of_them}
 use Rattle.jsgen_model.specs.Lay.{lay, case_mark, before_block, lifts, annotated_from, is_enclosed, commented_from}
-use Rattle.jsgen_model.specs.Layout.{Pen, written_if}
+use Rattle.jsgen_model.specs.Layout.{Pen, nowhere, begun_at, written_if}
 use Rattle.jsgen_model.specs.Punctuator.{Round, closing}
 use Rattle.jsgen_syntax.specs.declared.span.Span.{Span}
 use Rattle.jsgen_printer.specs.Printer.{pen_of, level_if, case_behind}
@@ -63,10 +63,10 @@ annotated_laid {a} {b} {c} {d} {i} test lifted pure s o wraps e h inside k =
     (goes_round i (λ pen. (annotated_adds test lifted pure s o pen).text) (λ pen. prefix_append pen.code _) h inside k)
 
 -- an object behind its comments
-pub commented_laid : {a b c d : Printer} {i : Items} (o : ℕ) (wraps : Bool) → wraps ≡ is_enclosed o (pen_of a) → Goes a b (commented_from o) → Lays b c i → Goes c d (written_if wraps (closing Round)) → Lays a d (commented o i)
+pub commented_laid : {a b c d : Printer} {i : Items} (o : ℕ) (wraps : Bool) → wraps ≡ is_enclosed o (pen_of a) → Goes a b (commented_from o) → Lays b c i → Goes c d (λ pen. begun_at nowhere (written_if wraps (closing Round) pen)) → Lays a d (commented o i)
 commented_laid {a} {b} {c} {d} {i} o wraps e h inside k =
     goes_laid (commented o i)
-    (ap (λ t. written_if t (closing Round) (lay i (commented_from o (pen_of a)))) e)
+    (ap (λ t. begun_at nowhere (written_if t (closing Round) (lay i (commented_from o (pen_of a))))) e)
     (goes_round i (λ pen. (commented_adds o pen).text) (λ pen. prefix_append pen.code _) h inside k)
 
 -- arguments, on lines of their own or on one
@@ -78,8 +78,8 @@ lined_laid {a} {b} {c} {d} {i} lines starts end lined depth outer e f g h inside
 
 -- ---- what stands before an argument
 
-pub broken_laid : {a b : Printer} (at : Break) (o : ℕ) → (pen_of a).lines ≡ true → on_a_line at (pen_of a) ≡ broken_at o (pen_of a) → Goes a b (broken_at o) → Lays a b (line_break at)
-broken_laid {a} at o e f h = goes_laid (line_break at) (sym f ∙ ap (λ t. if t then on_a_line at (pen_of a) else unless_on_line at (pen_of a)) (sym e)) h
+pub broken_laid : {a b : Printer} (at : Break) (f : Pen → Pen) → (pen_of a).lines ≡ true → on_a_line at (pen_of a) ≡ f (pen_of a) → Goes a b f → Lays a b (line_break at)
+broken_laid {a} at g e f h = goes_laid (line_break at) (sym f ∙ ap (λ t. if t then on_a_line at (pen_of a) else unless_on_line at (pen_of a)) (sym e)) h
 
 pub unbroken_laid : {a b : Printer} {i : Items} (at : Break) → (pen_of a).lines ≡ false → unless_on_line at (pen_of a) ≡ lay i (pen_of a) → Lays a b i → Lays a b (line_break at)
 unbroken_laid {a} {b} {i} at e f h = laid_there (λ going. sym f ∙ ap (λ t. if t then on_a_line at (pen_of a) else unless_on_line at (pen_of a)) (sym e)) h

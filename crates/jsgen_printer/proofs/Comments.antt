@@ -6,11 +6,11 @@ use Rattle.jsgen_syntax.specs.Raw.{tag_free}
 use Rattle.jsgen_tree.specs.declared.statements.CommentKind.{CommentKind}
 use Rattle.jsgen_tree.specs.declared.statements.CommentKind.TheVariants as kinds
 use Rattle.jsgen_model.specs.Comments.{Comment, are_any, orphans_below, left_below}
-use Rattle.jsgen_model.specs.Groups.{line_ended, indented_here, softly_spaced, used_up_if, indented_if, opens_block, block_line, block_lines, lines_of, is_mid_line, html_close, text_written, comment_written, last_of, on_new_line, at_line_start, before_first, before_later, is_legal, behind_last, is_line, ends_line, behind, group, with_store, group_at, without_group, ends_in, before_group, behind_group, printed_if, is_printed, comments_at, orphans_before, has_orphans, one_deeper, at_level, soft_line_ended, orphan_lines_at, last_byte, ending_at, without_ending, closing_group, has_no_newlines, body_lines, body_of, empty_body_at, led_on_line, case_begun, case_ended, used_up, annotation_text, fitting_at, without_annotation, annotation_by, annotation_written, begun_at, annotation_at, annotation_line_at, commented_if, member_line_at, member_space_at, each_on_line, broken_by, broken_at, on_a_line, unless_on_line, break_at, with_lines, lines_opened, indents, lines_closed}
+use Rattle.jsgen_model.specs.Groups.{line_ended, indented_here, softly_spaced, used_up_if, indented_if, opens_block, block_line, block_lines, lines_of, is_mid_line, html_close, text_written, comment_written, last_of, on_new_line, at_line_start, before_first, before_later, is_legal, behind_last, is_line, ends_line, behind, group, with_store, group_at, without_group, ends_in, before_group, behind_group, printed_if, is_printed, comments_at, orphans_before, has_orphans, one_deeper, at_level, soft_line_ended, orphan_lines_at, last_byte, ending_at, without_ending, closing_group, has_no_newlines, body_lines, body_of, empty_body_at, led_on_line, case_begun, case_ended, used_up, annotation_text, fitting_at, without_annotation, annotation_by, annotation_written, annotation_at, annotation_line_at, commented_if, member_line_at, member_space_at, each_on_line, broken_by, broken_at, on_a_line, unless_on_line, break_at, with_lines, lines_opened, indents, lines_closed}
 use Rattle.jsgen_model.specs.Ends.{each_written}
 use Rattle.jsgen_model.specs.Items.{Annotation, is_pure, no_side_effects, Lines, Break, first_argument, other_argument, import_source, import_options, Manner, all_of_them, then_space, with_due_space, before_it, annotation_before_it, with_key_annotation, none_of_them, Lead, to_block, to_body, to_empty}
 use Rattle.jsgen_model.specs.Lay.{case_mark, stood, before_block, span_mark, lifts, annotated_if, annotated_from, is_enclosed, commented_from}
-use Rattle.jsgen_model.specs.Layout.{Pen, Start, Ending, other_end, written, written_if, text_if, not, indented, indent_or_space, at_indentation, led}
+use Rattle.jsgen_model.specs.Layout.{Pen, Start, Ending, other_end, written, written_if, text_if, not, indented, indent_or_space, at_indentation, led, white_if, begun_at}
 use Rattle.jsgen_model.specs.Printing.{IsPrefix}
 use Rattle.jsgen_model.specs.Punctuator.{Round, opening}
 use Rattle.jsgen_syntax.specs.declared.span.Span.{Span}
@@ -41,7 +41,7 @@ adds_either false old a b h k = k
 
 indented_adds : (text : List ℕ) (pen : Pen) → Adds pen (indented text pen)
 indented_adds [] pen = adds_nothing pen
-indented_adds (c ∷ cs) pen = adds_text (c ∷ cs) other_end pen
+indented_adds (c ∷ cs) pen = record { text = prefix_append pen.code (c ∷ cs); classes = refl }
 
 space_adds : (pending : Bool) (pen : Pen) → Adds pen (indent_or_space pending pen)
 space_adds true pen = record { text = prefix_append pen.code _; classes = refl }
@@ -56,11 +56,14 @@ here_adds pen = indentation_adds pen.style.minified pen
 
 -- ---- one comment
 
+pub white_adds : (test : Bool) (text : List ℕ) (pen : Pen) → Adds pen (white_if test text pen)
+white_adds test text pen = record { text = prefix_append pen.code (text_if test text); classes = refl }
+
 pub line_adds : (pen : Pen) → Adds pen (line_ended pen)
 line_adds pen = adds_text (codes "\n") other_end pen
 
 pub softly_adds : (pen : Pen) → Adds pen (softly_spaced pen)
-softly_adds pen = adds_text_if (not pen.style.minified) (codes " ") pen
+softly_adds pen = white_adds (not pen.style.minified) (codes " ") pen
 
 -- a new line's indentation
 pub new_line_adds : (pen : Pen) → Adds pen (indented_here (line_ended pen))
@@ -136,13 +139,13 @@ each_adds (c ∷ cs) pen = adds_then (adds_then (comment_adds c pen) (line_adds 
 
 pub group_adds : (ended : Bool) (cs : List Comment) (pen : Pen) → Adds pen (group ended cs pen)
 group_adds ended [] pen = adds_nothing pen
-group_adds ended (c ∷ cs) pen = adds_then (first_adds c pen) (behind_adds ended c cs _)
+group_adds ended (c ∷ cs) pen = let h = adds_then (first_adds c pen) (behind_adds ended c cs _) in record { text = h.text; classes = h.classes }
 
 -- ---- what is printed of the store
 
 before_group_adds : (manner : Manner) (pen : Pen) → Adds pen (before_group manner pen)
 before_group_adds all_of_them pen = adds_nothing pen
-before_group_adds with_key_annotation pen = adds_text_if (ends_in 47 pen) (codes " ") pen
+before_group_adds with_key_annotation pen = white_adds (ends_in 47 pen) (codes " ") pen
 before_group_adds then_space pen = adds_nothing pen
 before_group_adds with_due_space pen = adds_nothing pen
 before_group_adds before_it pen = adds_nothing pen
@@ -230,7 +233,7 @@ mark_adds false to_block pen = adds_nothing pen
 mark_adds false to_body pen = adds_nothing pen
 
 led_adds : (lead : Lead) (pen : Pen) → Adds pen (led lead pen)
-led_adds to_block pen = softly_adds pen
+led_adds to_block pen = adds_text_if (not pen.style.minified) (codes " ") pen
 led_adds to_body pen = record { text = whole_prefix pen.code; classes = refl }
 led_adds (to_empty s) pen = adds_nothing pen
 
@@ -247,7 +250,9 @@ pub lead_on_line_adds : (lead : Lead) (o : ℕ) (pen : Pen) → Adds pen (case_m
 lead_on_line_adds lead o pen = adds_then (led_on_line_adds lead o pen) (mark_adds true lead (led_on_line lead o pen))
 
 begun_adds : (long : Bool) (lead : Lead) (o : ℕ) (pen : Pen) → Adds pen (case_begun long lead o pen)
-begun_adds true lead o pen = adds_then (deeper_orphans_add o pen) (led_on_line_adds lead o (orphans_before o (one_deeper (soft_line_ended pen))))
+begun_adds true lead o pen =
+    let h = adds_then (deeper_orphans_add o pen) (led_on_line_adds lead o (orphans_before o (one_deeper (soft_line_ended pen)))) in
+    record { text = h.text; classes = h.classes }
 begun_adds false lead o pen = led_adds lead pen
 
 pub case_adds : (long : Bool) (lead : Lead) (o : ℕ) (pen : Pen) → Adds pen (case_mark long lead (case_begun long lead o pen))
@@ -306,16 +311,17 @@ commented_if_adds false o pen = adds_nothing pen
 pub commented_adds : (o : ℕ) (pen : Pen) → Adds pen (commented_from o pen)
 commented_adds o pen =
     let at : Pen = written_if (is_enclosed o pen) (opening Round) pen in
-    adds_then (adds_text_if (is_enclosed o pen) (opening Round) pen) (commented_if_adds (are_any (group_at o pen)) o at)
+    let h = adds_then (adds_text_if (is_enclosed o pen) (opening Round) pen) (commented_if_adds (are_any (group_at o pen)) o at) in
+    record { text = h.text; classes = h.classes }
 
 pub soft_line_adds : (pen : Pen) → Adds pen (soft_line_ended pen)
-soft_line_adds pen = adds_text_if (not pen.style.minified) (codes "\n") pen
+soft_line_adds pen = white_adds (not pen.style.minified) (codes "\n") pen
 
 pub member_line_adds : (o : ℕ) (pen : Pen) → Adds pen (member_line_at o pen)
-member_line_adds o pen = adds_then (soft_line_adds pen) (lined_adds o (soft_line_ended pen))
+member_line_adds o pen = adds_then (adds_text_if (not pen.style.minified) (codes "\n") pen) (lined_adds o (written_if (not pen.style.minified) (codes "\n") pen))
 
 pub member_space_adds : (o : ℕ) (pen : Pen) → Adds pen (member_space_at o pen)
-member_space_adds o pen = adds_then (softly_adds pen) (comments_add with_due_space o (softly_spaced pen))
+member_space_adds o pen = adds_then (adds_text_if (not pen.style.minified) (codes " ") pen) (comments_add with_due_space o (written_if (not pen.style.minified) (codes " ") pen))
 
 -- ---- arguments on lines
 
@@ -327,7 +333,7 @@ each_on_line_adds (c ∷ cs) pen =
 
 pub broken_adds : (cs : List Comment) (pen : Pen) → Adds pen (broken_by cs pen)
 broken_adds [] pen = soft_line_adds pen
-broken_adds (c ∷ cs) pen = adds_then (each_on_line_adds (c ∷ cs) pen) (line_adds (each_on_line (c ∷ cs) pen))
+broken_adds (c ∷ cs) pen = let h = adds_then (each_on_line_adds (c ∷ cs) pen) (line_adds (each_on_line (c ∷ cs) pen)) in record { text = h.text; classes = h.classes }
 
 -- where the group at an offset leaves the store
 pub broken_taken_adds : (o : ℕ) (cs : List Comment) (pen : Pen) → Adds pen (broken_by cs (without_group o pen))
@@ -340,15 +346,15 @@ broken_at_adds o pen = adds_then (broken_taken_adds o (group_at o pen) pen) (her
 
 on_a_line_adds : (at : Break) (pen : Pen) → Adds pen (on_a_line at pen)
 on_a_line_adds (first_argument o) pen = broken_at_adds o pen
-on_a_line_adds (other_argument o) pen = broken_at_adds o pen
+on_a_line_adds (other_argument o) pen = let h = broken_at_adds o pen in record { text = h.text; classes = h.classes }
 on_a_line_adds (import_source o) pen = broken_at_adds o pen
-on_a_line_adds import_options pen = adds_then (soft_line_adds pen) (here_adds (soft_line_ended pen))
+on_a_line_adds import_options pen = adds_then (adds_text_if (not pen.style.minified) (codes "\n") pen) (here_adds (written_if (not pen.style.minified) (codes "\n") pen))
 
 unless_on_line_adds : (at : Break) (pen : Pen) → Adds pen (unless_on_line at pen)
 unless_on_line_adds (first_argument o) pen = adds_nothing pen
-unless_on_line_adds (other_argument o) pen = softly_adds pen
+unless_on_line_adds (other_argument o) pen = adds_text_if (not pen.style.minified) (codes " ") pen
 unless_on_line_adds (import_source o) pen = adds_either (are_any (group_at o pen)) pen _ _ (broken_at_adds o pen) (adds_nothing pen)
-unless_on_line_adds import_options pen = softly_adds pen
+unless_on_line_adds import_options pen = adds_text_if (not pen.style.minified) (codes " ") pen
 
 pub break_adds : (at : Break) (pen : Pen) → Adds pen (break_at at pen)
 break_adds at pen = adds_either pen.lines pen _ _ (on_a_line_adds at pen) (unless_on_line_adds at pen)

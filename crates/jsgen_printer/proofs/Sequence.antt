@@ -5,7 +5,7 @@ use Rattle.jsgen_tree.specs.Named.{Named}
 use Rattle.jsgen_model.specs.Punctuator.{Bracket, Round, opening, closing}
 use Rattle.jsgen_model.specs.Items.{Items, nothing, ◌⊕◌, brackets, wrapped, wrapped_at_start, Opener, parentheses_unless_minified, unless_minified, where_same, deeper}
 use Rattle.jsgen_model.specs.Lay.{lay}
-use Rattle.jsgen_model.specs.Layout.{Style, Pen, Ending, nowhere, written, written_if, other_end, text_if, is_barred, not, are_same}
+use Rattle.jsgen_model.specs.Layout.{Style, Pen, Ending, Start, nowhere, begun_at, written, written_if, other_end, text_if, is_barred, not, are_same}
 use Rattle.jsgen_model.specs.Printing.{IsPrefix, Stops}
 use Rattle.jsgen_printer.specs.Printer.{pen_of, deepened, at_depth}
 use Rattle.jsgen_printer.specs.Steps.{has_failed, Ends, Goes, Lays}
@@ -55,6 +55,10 @@ items_go h = record { stays = h.stays; goes = h.goes }
 -- texts one after the other, which may depend on the style
 pub in_a_row : {a b c : Printer} {d e : Ending} (s t : Style → List ℕ) → Goes a b (λ pen. written (s pen.style) d pen) → Goes b c (λ pen. written (t pen.style) e pen) → Goes a c (λ pen. written (s pen.style ++ t pen.style) e pen)
 in_a_row {a} {b} {c} {d} {e} s t h k = goes_as (λ pen. written (s pen.style ++ t pen.style) e pen) (ap (λ code. record (pen_of a) { code = code; ending = e; start = nowhere }) (append_assoc (pen_of a).code (s (pen_of a).style) (t (pen_of a).style))) (goes_then (λ pen. prefix_append pen.code (s pen.style)) (λ pen. prefix_append pen.code (t pen.style)) h k)
+
+-- what began before a step begins behind it
+pub begun_again : {a b c : Printer} {f : Pen → Pen} (start : Start) → start ≡ (pen_of a).start → Appends f → Goes a b f → Goes b c (begun_at start) → Goes a c (λ pen. begun_at pen.start (f pen))
+begun_again {a} {b} {c} {f} start e more h k = goes_as (λ pen. begun_at pen.start (f pen)) (ap (λ s. begun_at s (f (pen_of a))) e) (goes_then more (λ p. whole_prefix p.code) h k)
 
 -- items one after the other
 infixr 20 ◌⨾◌

@@ -99,10 +99,9 @@ impl<'a> Printer<'a> {
     ghost use Rattle.std.specs.Prelude.{[], ◌∷◌, ◌++◌, replicate, string_bytes, false, true, IsTrue};
     ghost use Rattle.std.specs.Str.{chars, encode_utf8_all};
     ghost use Rattle.jsgen_model.specs.Punctuator.{Round, opening, closing, ellipsis, comma, semicolon, equal, colon, question, question_dot, arrow, star};
-    ghost use Rattle.jsgen_model.specs.Items.{word, string, first_string, directive, member_dot, punctuator, soft_space, soft_line, hard_space, indentation, body_space, statement_end, due_semicolon, drop_semicolon, statement_begins, arrow_body_begins, a_brace, a_declaration, literal, default_export_begins, marked_indentation};
-    ghost use Rattle.jsgen_model.specs.Lay.{lay, may_be_indented};
-    ghost use Rattle.jsgen_model.specs.Layout.{written, written_if, other_end, space_if, ends_in_word, ends_in_escapes, is_apart, name_ending, dot_joins, indented, chosen_quote, deeper_level, empty_pen, style_of, is_barred};
-    ghost use Rattle.jsgen_syntax.specs.Buffer.{indent_byte};
+    ghost use Rattle.jsgen_model.specs.Items.{word, string, first_string, directive, member_dot, punctuator, soft_space, soft_line, hard_space, indentation, body_space, statement_end, due_semicolon, drop_semicolon, statement_begins, arrow_body_begins, a_brace, a_declaration, marked_indentation};
+    ghost use Rattle.jsgen_model.specs.Lay.{may_be_indented};
+    ghost use Rattle.jsgen_model.specs.Layout.{written, written_if, other_end, space_if, ends_in_word, ends_in_escapes, is_apart, name_ending, dot_joins, indented, white_if, begun_at, chosen_quote, empty_pen, style_of, is_barred};
     ghost use Rattle.jsgen_tree.specs.Options.{options_plain};
     ghost use Rattle.jsgen_tree.specs.Job.{no_tables};
     ghost use Rattle.jsgen_tree.specs.Scoping.{tables_plain};
@@ -111,7 +110,7 @@ impl<'a> Printer<'a> {
     ghost use Rattle.jsgen_syntax.specs.Raw.{directive_text};
     ghost use Rattle.jsgen_model.specs.Spell.{items_if};
     ghost use Rattle.jsgen_printer.specs.Steps.{has_failed, Goes, Lays};
-    ghost use Rattle.jsgen_printer.specs.Printer.{bracket_of, pen_of, ending_of, name_written, by_tables, is_ascii, deepened, at_depth};
+    ghost use Rattle.jsgen_printer.specs.Printer.{bracket_of, pen_of, ending_of, start_of, name_written, by_tables, is_ascii, deepened, at_depth};
 
     /// A printer that has printed nothing.
     pub fn new(alloc: Global, options: &CodegenOptions) -> Printer<'a>
@@ -204,6 +203,22 @@ impl<'a> Printer<'a> {
         if test {
             self.print_str(text, Ending::Other);
         }
+    }
+
+    // White text where the test holds: what began before it begins behind it.
+    fn print_white_if(&mut self, test: bool, text: &str)
+        ensures { Goes self.old self.new (white_if test (chars text.now)) }
+    {
+        let start = self.start;
+        self.print_if(test, text);
+        self.begin_at(start);
+    }
+
+    // What begins here.
+    fn begin_at(&mut self, start: Start)
+        ensures { Goes self.old self.new (begun_at (start_of start)) }
+    {
+        self.start = start;
     }
 
     fn ends_in_word(&self) -> bool
@@ -505,7 +520,7 @@ impl<'a> Printer<'a> {
             return;
         }
         if self.pending_space {
-            self.print_str(" ", Ending::Other);
+            self.print_white_if(true, " ");
             self.pending_space = false;
         } else {
             self.print_levels();
@@ -555,7 +570,6 @@ impl<'a> Printer<'a> {
             Ok(()) => {
                 if self.code.len() > before {
                     self.ending = Ending::Other;
-                    self.start = Start::Nowhere;
                 }
             }
             Err(_) => self.has_failed = true,

@@ -1,14 +1,14 @@
 -- Arrays and objects.
-use Rattle.std.proofs.Common.{◌≡◌, Bool, true, false, not, refl, ap, arith}
+use Rattle.std.proofs.Common.{◌≡◌, Bool, true, false, not, refl, ap, subst, arith}
 use Rattle.std.proofs.lemmas.Bool.{both_ways}
 use Rattle.jsgen_syntax.specs.declared.precedence.Precedence.TheVariants as levels
 use Rattle.jsgen_tree.specs.Job.{Tables}
 use Rattle.jsgen_tree.specs.Tree.{Tree, Trees, no_trees, more, hole, Atoms}
 use Rattle.jsgen_tree.specs.Nodes as tree
-use Rattle.jsgen_model.specs.Punctuator.{Round, Square, Brace, opening, Round}
+use Rattle.jsgen_model.specs.Punctuator.{Round, Square, Brace, opening, closing}
 use Rattle.jsgen_model.specs.Tokens.{Tokens, done, group}
 use Rattle.jsgen_model.specs.Items.{Items, ◌⊕◌, brackets, a_brace}
-use Rattle.jsgen_model.specs.Layout.{Pen, Start, nowhere, statement, arrow_body, default_export, other_end, layout, written, unless_printed, is_barred, written_if}
+use Rattle.jsgen_model.specs.Layout.{Pen, Start, nowhere, statement, arrow_body, default_export, other_end, layout, written, unless_printed, is_barred, written_if, begun_at}
 use Rattle.jsgen_model.specs.Grammar.{Allowed, ReadsElement, ReadsElements, ReadsProperty, ReadsProperties, with_in, ReadsExpression}
 use Rattle.jsgen_model.specs.Grammar as grammar
 use Rattle.jsgen_model.specs.Normal.{nothing_of}
@@ -16,8 +16,8 @@ use Rattle.jsgen_place.specs.Place.{in_brackets, within}
 use Rattle.jsgen_model.specs.Spell.{spell_elements, are_more, on_lines, ends_in_hole, comma_if, object_inside}
 use Rattle.jsgen_token_laws.proofs.Last.{Open, line_of}
 use Rattle.jsgen_token_laws.proofs.Steps.{within_brackets, brackets_written}
-use Rattle.jsgen_reading_laws.proofs.Levels.{under, lifted, weaken_member, from_primary}
-use Rattle.jsgen_reading_laws.proofs.Good.{Printed, may_begin, PrintedFrom, wrapped_from, begins_all}
+use Rattle.jsgen_reading_laws.proofs.Levels.{under, level_of, lifted, weaken_member, from_primary}
+use Rattle.jsgen_reading_laws.proofs.Good.{Good, Printed, may_begin, PrintedFrom, wrapped_from, begins_all}
 use Rattle.jsgen_reading_laws.proofs.Links.{ElementOf}
 use Rattle.jsgen_reading_laws.proofs.Properties.{PropertyOf}
 use Rattle.jsgen_reading_laws.proofs.Elements.{InsideAt, nothing_inside, first_inside, hole_inside, inside_lines, inside_braces, members}
@@ -79,10 +79,18 @@ brace_begins arrow_body false line ts b e = absurd (both_ways true e refl)
 brace_begins nowhere false line ts b e = refl
 brace_begins default_export false line ts b e = refl
 
+-- nothing begins behind one, with a parenthesis or without
+nothing_behind : (b : Bool) (p : Pen) → written_if b (closing Round) (written (closing Brace) other_end p) ≡ begun_at nowhere (written_if b (closing Round) (written (closing Brace) other_end p))
+nothing_behind true p = refl
+nothing_behind false p = refl
+
 pub good_object : {names : Tables} (c : Allowed) (a : Atoms) (ps : Trees) → PropertiesOf names c ps → Printed names c (tree.object_expression a ps)
-good_object {names} c a ps f place p =
-    wrapped_from c place grammar.Primary (is_barred a_brace p.start) (λ w. brackets Brace (object_inside ps items)) (tree.object_expression a ps) p
-    (λ d ts u r. lifted false levels.Member levels.Lowest (omega arith) (weaken_member false (grammar.a_primary r))) (λ e ts u r. from_primary place r) inner
+good_object {names} c a ps f place p l z y k =
+    let barred = is_barred a_brace p.start in
+    let inside : Pen = layout (object_inside ps items) (written (opening Brace) other_end (written_if barred (opening Round) p)) in
+    subst (λ q. Good names p l q (under place c) (level_of place) (tree.object_expression a ps)) (nothing_behind barred inside)
+    (wrapped_from c place grammar.Primary barred (λ w. brackets Brace (object_inside ps items)) (tree.object_expression a ps) p
+    (λ d ts u r. lifted false levels.Member levels.Lowest (omega arith) (weaken_member false (grammar.a_primary r))) (λ e ts u r. from_primary place r) inner l z y k)
   where
     items : Items
     items = members (are_more 1 ps) ps (in_brackets levels.Comma)

@@ -19,7 +19,7 @@ use Rattle.jsgen_model.specs.Punctuator.{Punctuator, Bracket, punctuator_text, p
 use Rattle.jsgen_model.specs.Tokens.{longer_stands, Tokens, done, piece, group, Word, Number, Quoted, Sign, is_spelled, is_blank, is_line_terminator, has_line_end}
 use Rattle.jsgen_model.specs.Numbers.{spells_number, spells_whole, takes_no_dot, ends_in, is_raw_number}
 use Rattle.jsgen_model.specs.Items.{member_dot, word, number, punctuator, operator, soft_space, soft_line, hard_space, body_space, indentation, due_semicolon, statement_begins, apart}
-use Rattle.jsgen_model.specs.Layout.{Pen, Ending, other_end, operator_end, layout, with_name, written, written_if, text_if, ending_unless, is_apart, ends_in_escapes, name_ending, space_if, joins, dot_joins, indented, indent_or_space, at_indentation, end_statement, number_ending}
+use Rattle.jsgen_model.specs.Layout.{Pen, Ending, other_end, operator_end, layout, with_name, written, written_if, white_if, text_if, ending_unless, is_apart, ends_in_escapes, name_ending, space_if, joins, dot_joins, indented, indent_or_space, at_indentation, end_statement, number_ending}
 use Rattle.jsgen_token_laws.proofs.Characters.{goes_on_in_sign, ends_in_word_behind, all_goes, all_follow, last_behind, alphanumeric_goes}
 use Rattle.jsgen_token_laws.proofs.Words.{word_begins, unescaped, name_spelled, spelled_name}
 use Rattle.jsgen_token_laws.proofs.Last.{Last, Open, After, line_of, Clear, Operand, Ready, Begun, Remembers, Ended, is_indent, Knows, NoDot, word_ends, clear_apart, clear_dots, clear_quote, clear_quoted, clear_space, clear_operator, clear_word, clear_digit, increment_clear, decrement_clear}
@@ -224,7 +224,11 @@ pub soft_space_written : {names : Tables} (p : Pen) (l : Last) → Knows names p
 soft_space_written p l k = space_written (not p.style.minified) p l k
 
 pub apart_written : {names : Tables} (p : Pen) (l : Last) → Knows names p l → Soft names p l (layout apart p)
-apart_written p l k = space_written (is_apart p.ending p.code) p l k
+apart_written {names} p l k = by (is_apart p.ending p.code)
+  where
+    by : (test : Bool) → Soft names p l (white_if test (codes " ") p)
+    by true = soft_blank p (white_if true (codes " ") p) l (codes " ") refl (λ r. clear_space l r) refl refl refl k
+    by false = no_soft p (white_if false (codes " ") p) l (append-nil p.code) refl refl refl k
 
 pub indentation_written : {names : Tables} (p : Pen) (l : Last) → Knows names p l → Soft names p l (layout indentation p)
 indentation_written {names} p l k = by_style p.style.minified

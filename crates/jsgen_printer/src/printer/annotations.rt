@@ -5,8 +5,8 @@ ghost use Rattle.std.specs.Str.{chars};
 ghost use Rattle.jsgen_comments.specs.Plain.{annotation_of};
 ghost use Rattle.jsgen_model.specs.Punctuator.{Round, opening};
 ghost use Rattle.jsgen_model.specs.Items.{annotation, annotation_line, is_pure, no_side_effects};
-ghost use Rattle.jsgen_model.specs.Groups.{annotation_at, annotation_by, annotation_line_at, annotation_text, annotation_written, begun_at, fitting_at, without_annotation};
-ghost use Rattle.jsgen_model.specs.Layout.{written, written_if, other_end};
+ghost use Rattle.jsgen_model.specs.Groups.{annotation_at, annotation_by, annotation_line_at, annotation_text, annotation_written, fitting_at, without_annotation};
+ghost use Rattle.jsgen_model.specs.Layout.{written, written_if, other_end, begun_at};
 ghost use Rattle.jsgen_model.specs.Lay.{lay, lifts, annotated_if, annotated_from};
 ghost use Rattle.jsgen_printer.specs.Printer.{one_plain, pen_of, start_of};
 ghost use Rattle.jsgen_printer.specs.Steps.{has_failed, Goes, Lays};
@@ -85,13 +85,6 @@ impl<'a> Printer<'a> {
         self.print_annotation(false, kind, offset);
         self.print_str(" ", Ending::Other);
         self.begin_at(start);
-    }
-
-    // What begins here began so.
-    fn begin_at(&mut self, start: Start)
-        ensures { Goes self.old self.new (begun_at (start_of start)) }
-    {
-        self.start = start;
     }
 
     /// An annotation that a function has no side effects, where the test holds, before what begins here; `offset` is where the function begins.

@@ -1,5 +1,5 @@
 // Comments that wait in the store, and the steps that print them.
-ghost use Rattle.std.specs.Prelude.{◌≡◌, ◌<◌, ◌||◌, ◌&&◌, ◌==◌, ◌-◌, [], ◌∷◌, not, true, false, Option, List, ℕ, is_some, option_map, codes, drop, map, slice_get};
+ghost use Rattle.std.specs.Prelude.{◌≡◌, ◌<◌, ◌||◌, ◌&&◌, ◌==◌, ◌-◌, [], ◌∷◌, true, false, Option, List, ℕ, is_some, option_map, codes, drop, map, slice_get};
 ghost use Rattle.std.specs.Option.{unwrap_or};
 ghost use Rattle.std.specs.List.{list_all, list_any};
 ghost use Rattle.std.specs.Str.{chars};
@@ -10,14 +10,15 @@ ghost use Rattle.jsgen_tree.specs.Options.{legal_plain};
 ghost use Rattle.jsgen_model.specs.Ends.{licensed, each_written, reference};
 ghost use Rattle.jsgen_model.specs.Groups as groups;
 ghost use Rattle.jsgen_model.specs.Groups.{group, group_at, comments_at, orphans_before, has_orphans, orphan_lines_at, empty_body_at, body_of, body_lines, last_byte, ending_at, without_ending, without_group, closing_group, case_begun, case_ended, is_printed, before_group, behind_group, comment_written, text_written, block_lines, block_line, lines_of, opens_block, closes_block, indented_if, indented_here, with_pending_space, one_deeper, at_level, soft_line_ended, is_mid_line, html_close, before_first, before_later, behind, behind_last, ends_line, is_line, is_legal, has_no_newlines, used_up, used_up_if, softly_spaced, space_behind, line_ended, on_new_line, at_line_start, ends_in, with_store};
-ghost use Rattle.jsgen_model.specs.Items.{◌⊕◌, comments, orphans, orphan_lines, empty_body, indentation, member_line, member_space, all_of_them, then_space, with_due_space, annotation_before_it, with_key_annotation};
-ghost use Rattle.jsgen_model.specs.Layout.{written, written_if, other_end, led};
+ghost use Rattle.jsgen_model.specs.Items.{◌⊕◌, comments, orphans, orphan_lines, empty_body, indentation, member_line, member_space, all_of_them, then_space, with_due_space, annotation_before_it, with_key_annotation, a_brace};
+ghost use Rattle.jsgen_model.specs.Layout.{written, written_if, other_end, led, begun_at, nowhere, unless_printed, is_barred, not};
+ghost use Rattle.jsgen_model.specs.Punctuator.{Round, closing};
 ghost use Rattle.jsgen_model.specs.Lay.{lay, case_mark, before_block, is_enclosed, commented_from};
 ghost use Rattle.jsgen_model.specs.Spell.{items_if};
-ghost use Rattle.jsgen_printer.specs.Printer.{pen_of, by_comments, lead_of, manner_of, group_of, level_if, case_behind};
+ghost use Rattle.jsgen_printer.specs.Printer.{pen_of, start_of, by_comments, lead_of, manner_of, group_of, level_if, case_behind};
 ghost use Rattle.jsgen_printer.specs.Steps.{has_failed, Goes, Lays};
 
-use super::{Ending, Printer};
+use super::{Ending, Printer, Start};
 use jsgen_comments::{Comments, Group, first_line, text_of};
 use jsgen_syntax::Span;
 use jsgen_tree::{Comment, CommentContent, CommentKind, LegalComment};
@@ -79,12 +80,26 @@ impl<'a> Printer<'a> {
         self.pending_space = false;
     }
 
+    // A space that minified text leaves out, before what begins here.
+    fn print_space(&mut self)
+        ensures { Goes self.old self.new softly_spaced }
+    {
+        self.print_white_if(!self.minify, " ");
+    }
+
+    // The same of a line end.
+    pub(super) fn print_line(&mut self)
+        ensures { Goes self.old self.new soft_line_ended }
+    {
+        self.print_white_if(!self.minify, "\n");
+    }
+
     // A pending space is a soft one, and is used up.
     fn use_pending_space(&mut self)
         ensures { Goes self.old self.new used_up }
     {
         if self.pending_space {
-            self.print_soft_space();
+            self.print_space();
             self.drop_pending_space();
         }
     }
@@ -104,7 +119,7 @@ impl<'a> Printer<'a> {
         ensures goes { Goes self.old self.new (λ pen. one_deeper (soft_line_ended pen)) }
     {
         let depth = self.depth;
-        self.print_soft_line();
+        self.print_line();
         self.go_deeper();
         depth
     }
@@ -237,7 +252,7 @@ impl<'a> Printer<'a> {
         } else if is_legal(content) {
             self.print_line_end();
         } else {
-            self.print_soft_space();
+            self.print_space();
         }
     }
 
@@ -257,9 +272,11 @@ impl<'a> Printer<'a> {
     {
         match group.comments.split_first() {
             Some((first, others)) => {
+                let start = self.start;
                 self.print_before_first(first.preceded_by_newline);
                 self.print_comment(group.source, *first);
                 self.print_behind(group.source, *first, others, ended);
+                self.begin_at(start);
             }
             None => {}
         }
@@ -406,7 +423,7 @@ impl<'a> Printer<'a> {
     {
         if self.has_key_annotation(offset) {
             let is_behind_slash = self.ends_in(b'/');
-            self.print_if(is_behind_slash, " ");
+            self.print_white_if(is_behind_slash, " ");
             self.print_taken(offset);
             self.print_due();
         }
@@ -448,7 +465,7 @@ impl<'a> Printer<'a> {
     {
         if self.has_comments(offset) {
             self.print_taken(offset);
-            self.print_soft_space();
+            self.print_space();
             self.drop_pending_space();
         }
     }
@@ -492,23 +509,32 @@ impl<'a> Printer<'a> {
     }
 
     /// What an object begins with, which begins at this offset: a parenthesis where comments stand there, which stand behind it, or
-    /// where a brace may not begin here. Tells whether there is one; `print_closing_if` closes it.
+    /// where a brace may not begin here. Tells whether there is one; `end_object` takes it.
     pub fn begin_object(&mut self, start: u32) -> bool
         ensures enclosed { result ≡ is_enclosed start (pen_of self.old) }
         ensures goes { Goes self.old self.new (commented_from start) }
     {
         let stood = self.has_comments(start);
-        let enclosed = self.is_enclosed(start);
+        let enclosed = self.is_enclosed(stood);
         self.print_opening_if(enclosed);
         self.print_lined_comments_if(stood, start);
+        self.begin_at(Start::Nowhere);
         enclosed
     }
 
-    // Whether an object stands in parentheses.
-    fn is_enclosed(&self, start: u32) -> bool
-        ensures { result ≡ is_enclosed start (pen_of self.now) }
+    // Whether an object stands in parentheses, before which comments stand where the test holds.
+    fn is_enclosed(&self, stood: bool) -> bool
+        ensures { result ≡ (stood || is_barred a_brace (pen_of self.now).start) }
     {
-        self.has_comments(start) || self.bars_brace()
+        stood || self.bars_brace()
+    }
+
+    /// What an object ends with; `enclosed` is what `begin_object` gave.
+    pub fn end_object(&mut self, enclosed: bool)
+        ensures { Goes self.old self.new (λ pen. begun_at nowhere (written_if enclosed (closing Round) pen)) }
+    {
+        self.print_closing_if(enclosed);
+        self.begin_at(Start::Nowhere);
     }
 
     fn print_lined_comments_if(&mut self, test: bool, start: u32)
@@ -634,13 +660,36 @@ impl<'a> Printer<'a> {
         ensures goes { Goes self.old self.new (λ pen. case_mark (has_orphans start pen) (lead_of lead) (case_begun (has_orphans start pen) (lead_of lead) start pen)) }
     {
         if self.has_orphans(start) {
+            let begins = self.start_behind(lead);
             let depth = self.open_lines();
             self.print_orphans(start);
             self.lead_on_line(start, lead);
+            self.begin_at(begins);
             Some(depth)
         } else {
             self.lead_to(lead);
             None
+        }
+    }
+
+    // What begins behind what leads to it on the line of the case.
+    fn start_behind(&self, lead: Lead) -> Start
+        ensures { start_of result ≡ (led (lead_of lead) (pen_of self.now)).start }
+    {
+        match lead {
+            Lead::Block => self.start_behind_space(),
+            Lead::Empty(_) | Lead::Body => self.start,
+        }
+    }
+
+    // What begins behind a space that minified text leaves out.
+    pub(super) fn start_behind_space(&self) -> Start
+        ensures { start_of result ≡ unless_printed (not (pen_of self.now).style.minified) (pen_of self.now).start }
+    {
+        if self.minify {
+            self.start
+        } else {
+            Start::Nowhere
         }
     }
 

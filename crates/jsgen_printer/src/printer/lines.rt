@@ -2,8 +2,8 @@
 ghost use Rattle.std.specs.Prelude.{◌≡◌, ◌∷◌, [], ◌&&◌, ◌||◌, false, true, map, if◌then◌else◌};
 ghost use Rattle.jsgen_comments.specs.Plain.{comment_plain, group_plain};
 ghost use Rattle.jsgen_model.specs.Comments.{are_any};
-ghost use Rattle.jsgen_model.specs.Groups.{broken_at, broken_by, each_on_line, ending_at, group_at, indents, last_byte, lines_opened, lines_closed, may_be_lined, with_lines, without_ending, without_group};
-ghost use Rattle.jsgen_model.specs.Items.{line_break, import_source, import_options};
+ghost use Rattle.jsgen_model.specs.Groups.{broken_at, broken_by, each_on_line, ending_at, group_at, indents, last_byte, lines_opened, lines_closed, may_be_lined, on_a_line, with_lines, without_ending, without_group};
+ghost use Rattle.jsgen_model.specs.Items.{line_break, other_argument, import_source, import_options};
 ghost use Rattle.jsgen_model.specs.Lay.{lay};
 ghost use Rattle.jsgen_printer.specs.Printer.{deepened, group_of, lines_of, pen_of};
 ghost use Rattle.jsgen_printer.specs.Steps.{Goes, Lays};
@@ -126,6 +126,15 @@ impl<'a> Printer<'a> {
         self.print_indentation();
     }
 
+    /// The same of an argument behind another.
+    pub fn print_other_break(&mut self, start: u32)
+        ensures { Goes self.old self.new (on_a_line (other_argument start)) }
+    {
+        let begins = self.start_behind_space();
+        self.print_line_break(start);
+        self.begin_at(begins);
+    }
+
     // The comments at an offset, which leave the store, on lines of their own.
     fn print_taken_lines(&mut self, start: u32)
         ensures { Goes self.old self.new (λ pen. broken_by (group_at start pen) (without_group start pen)) }
@@ -161,7 +170,7 @@ impl<'a> Printer<'a> {
     {
         match group {
             Some(group) => self.print_group_on_lines(group),
-            None => self.print_soft_line(),
+            None => self.print_line(),
         }
     }
 
@@ -169,10 +178,12 @@ impl<'a> Printer<'a> {
         ensures { Goes self.old self.new (broken_by (group_plain group.now)) }
     {
         if group.comments.is_empty() {
-            self.print_soft_line();
+            self.print_line();
         } else {
+            let start = self.start;
             self.print_each_on_line(group.source, &group.comments);
             self.print_line_end();
+            self.begin_at(start);
         }
     }
 

@@ -118,7 +118,7 @@ impl<'a> Printer<'a> {
         ensures { Lays self.old self.new apart }
     {
         let apart = self.is_apart();
-        self.print_if(apart, " ");
+        self.print_white_if(apart, " ");
     }
 
     /// The mark of a span's end.

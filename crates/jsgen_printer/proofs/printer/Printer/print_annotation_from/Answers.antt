@@ -1,7 +1,7 @@
 use Rattle.std.proofs.Common.{codes, refl, ap, false}
 use Rattle.jsgen_comments.specs.Plain.{annotation_of}
-use Rattle.jsgen_model.specs.Groups.{annotation_at, annotation_written, begun_at}
-use Rattle.jsgen_model.specs.Layout.{written, other_end}
+use Rattle.jsgen_model.specs.Groups.{annotation_at, annotation_written}
+use Rattle.jsgen_model.specs.Layout.{written, other_end, begun_at}
 use Rattle.jsgen_printer.specs.Printer.{pen_of, start_of}
 use Rattle.jsgen_printer.proofs.Comments.{annotation_text_adds}
 use Rattle.jsgen_printer.proofs.Prefixes.{prefix_append, more_prefix, whole_prefix}

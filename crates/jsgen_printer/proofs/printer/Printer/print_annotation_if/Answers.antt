@@ -1,5 +1,6 @@
 use Rattle.std.proofs.Common.{ap, sym, ◌∙◌, if◌then◌else◌}
-use Rattle.jsgen_model.specs.Groups.{annotation_at, begun_at}
+use Rattle.jsgen_model.specs.Groups.{annotation_at}
+use Rattle.jsgen_model.specs.Layout.{begun_at}
 use Rattle.jsgen_model.specs.Items.{annotation, no_side_effects}
 use Rattle.jsgen_printer.specs.Printer.{pen_of}
 use Rattle.jsgen_printer.proofs.Sequence.{goes_laid}
