@@ -355,7 +355,7 @@ impl<'a> Codegen<'a> {
         // Where each name stands in the text, the map leads to its place in the source.
         ensures names_stand { IfOk result (λ printed. NamesStandIn (job_for self.entry (program_plain program.now)) printed.map) }
 
-        // Each comment of a statement of the program's own, and each licence, has a place of its own in that text.
+        // Each comment of a statement of the program's own, and each licence, has a place of its own in that text, and none stands twice.
         ensures comments_stand { IfOk result (λ printed. HasComments (job_for self.entry (program_plain program.now)) (string_bytes printed.code)) }
 
         // The licences that stand in a file of their own, each once.

@@ -29,13 +29,13 @@ fitting_say ends kind (c ∷ cs) = by (fits ends kind c) refl (fitting_say ends 
     by false e rest = rest
 
 module _ (k a : List Waiting) where
-  alone : (kind : Annotation) (o : ℕ) (bytes : List ℕ) → IsAnnotation a kind o bytes → Woven k a (annotation_gap kind o no_bones) bytes
-  alone kind o bytes h = record { first = bytes; second = []; is = sym (append-nil bytes); one = h; other = refl }
+  alone : (kind : Annotation) (o : ℕ) (bytes : List ℕ) → IsAnnotation a kind o bytes → Woven k a (annotation_gap kind o no_bones) [] bytes
+  alone kind o bytes h = record { first = bytes; second = []; is = sym (append-nil bytes); one = h; other = (refl, refl) }
 
   annotates_by : (cs : List Comment) (kind : Annotation) (o : ℕ) (p : Pen) → AllSay kind cs → (Held k a p → Every (Contains a) o cs) → Does k a (annotation_gap kind o no_bones) p (annotation_by cs kind o p)
   annotates_by [] kind o p s e = record {
     goes = keeps_adds (adds (annotation_text kind) other_end p);
-    weaves = λ h. record {
+    weaves = λ h sound. record {
       text = annotation_text kind;
       code = refl;
       woven = alone kind o (dark_of (annotation_text kind)) (inl refl);
@@ -44,7 +44,7 @@ module _ (k a : List Waiting) where
   }
   annotates_by (c ∷ cs) kind o p s e = record {
     goes = keeps_texts (record { text = w.adds.text; code = w.adds.code; store = w.adds.store });
-    weaves = λ h. record {
+    weaves = λ h sound. record {
       text = w.adds.text;
       code = w.adds.code;
       woven = alone kind o (dark_of w.adds.text) (inr (c, ((e h).0, (s.0, (w.adds.text, ((without_annotation o p, w.adds.code), refl))))));

@@ -115,11 +115,21 @@ none_left next around t formed e p h f = none_passes f (waiting_in (lay (spell t
 
 -- ---- the law
 
+none_counted : (ws : List Waiting) → count (λ _. true) ws ≡ 0 → ws ≡ []
+none_counted [] e = refl
+none_counted (w ∷ ws) e = absurd (omega (arith, e))
+
 -- the text of items for which no comment waits
-nothing_woven : (items : Items) (p : Pen) → is_white p.style.indent ≡ true → p.code ≡ [] → Woven [] [] (bones items (without_comments p)) (dark_of (lay items (without_comments p)).code)
+nothing_woven : (items : Items) (p : Pen) → is_white p.style.indent ≡ true → p.code ≡ [] → Woven [] [] (bones items (without_comments p)) [] (dark_of (lay items (without_comments p)).code)
 nothing_woven items p w e =
-    let v = (lay_does [] [] items (without_comments p)).weaves (record { store = tt; annotations = tt; white = w }) in
-    subst (λ t. Woven [] [] (bones items (without_comments p)) (dark_of t)) (sym (v.code ∙ ap (λ x. x ++ v.text) e)) v.woven
+    let q : Pen = without_comments p in
+    let d = lay_does [] [] items q in
+    let sound : Sound q.store = record { groups = tt; orphans = tt; covers = λ p e. refl } in
+    let a = d.goes sound in
+    let all = a.all (λ _. true) in
+    let none : a.printed ≡ [] = none_counted a.printed (omega (arith, all)) in
+    let v = d.weaves (record { store = tt; annotations = tt; white = w }) sound in
+    subst (λ ws. Woven [] [] (bones items q) ws (dark_of (lay items q).code)) none (subst (λ t. Woven [] [] (bones items q) a.printed (dark_of t)) (sym (v.code ∙ ap (λ x. x ++ v.text) e)) v.woven)
 
 pub comments_stand : (job : JobData) → Everywhere is_formed job.program → IsValid job → CommentsStandIn job (printed job)
 comments_stand job formed valid =
@@ -135,7 +145,7 @@ comments_stand job formed valid =
     let held : Held (kept_comments job) (annotation_comments job) p = record { store = all_kept o source rows; annotations = all_annotations o source rows; white = indent_is_white job.options.indent_char } in
     let end = adds_licences o.legal (map (comment_at source) (moved_licences o.legal source rows)) q in
     let none = none_left 0 (surroundings_of job) job.program formed valid p sound in
-    let v = d.weaves held in
+    let v = d.weaves held sound in
     record {
       body = a.text;
       end = end.text;
@@ -152,6 +162,6 @@ comments_stand job formed valid =
           omega (arith, all, kept, left);
       woven =
           let same = (alike items p (without_comments p) (indent_is_white job.options.indent_char) refl refl).same in
-          subst (λ bs. Woven (kept_comments job) (annotation_comments job) bs (dark_of a.text)) (sym same) (subst (λ t. Woven (kept_comments job) (annotation_comments job) (bones items p) (dark_of t)) (sym v.code ∙ a.code) v.woven);
+          subst (λ bs. Woven (kept_comments job) (annotation_comments job) bs a.printed (dark_of a.text)) (sym same) (subst (λ t. Woven (kept_comments job) (annotation_comments job) (bones items p) a.printed (dark_of t)) (sym v.code ∙ a.code) v.woven);
       bare = nothing_woven items p (indent_is_white job.options.indent_char) refl;
     }

@@ -11,12 +11,12 @@ use Rattle.jsgen_model.specs.Groups.{indented_here, soft_line_ended, one_deeper,
 use Rattle.jsgen_model.specs.Layout.{Pen, Start, nowhere, begun_at, on_one_line, is_apart, other_end, written, written_if, text_if, not, is_barred, deeper_level, entered, at_indentation, are_same, led}
 use Rattle.jsgen_model.specs.Lay.{lay, lifts, annotated_if, is_enclosed, commented_from, case_mark, before_block, stood, may_be_indented, mark_behind, span_mark}
 use Rattle.jsgen_comment_laws.specs.Stand.{Waiting}
-use Rattle.jsgen_comment_laws.specs.Woven.{dark_of, Bones, no_bones, comment_gap, orphan_gap, annotation_gap, object_gap, gap_if, annotation_if, object_bones, break_offset, bones, InTwo, InRound, Woven}
+use Rattle.jsgen_comment_laws.specs.Woven.{dark_of, Bones, no_bones, comment_gap, orphan_gap, annotation_gap, object_gap, gap_if, annotation_if, object_bones, break_offset, bones, InRound, Woven}
 use Rattle.jsgen_comment_laws.proofs.Counts.{waiting}
 use Rattle.jsgen_comment_laws.proofs.Writes.{Writes, both, ended_by, stays, none, adds, adds_if, adds_then, dark_both, indents_by, indents, indents_if, ends_statement, uses_up_if, writes_if, ends_line_softly, writes_group, writes_before, writes_behind, writes_closing, breaks, leads}
-use Rattle.jsgen_comment_laws.proofs.Stores.{Goes}
+use Rattle.jsgen_comment_laws.proofs.Stores.{Goes, goes_then, keeps_adds}
 use Rattle.jsgen_comment_laws.proofs.Held.{Every, every_there}
-use Rattle.jsgen_comment_laws.proofs.Weaves.{Held, Weave, Does, does_then, does_last, one_does, white, prints, prints_between, fills_none, finds_none, fills, finds, holds_ending, in_round}
+use Rattle.jsgen_comment_laws.proofs.Weaves.{Held, Weave, Does, alone, does_then, does_last, one_does, white, prints, prints_between, fills_none, finds_none, fills, finds, holds_ending, in_round}
 use Rattle.jsgen_comment_laws.proofs.Annotations.{does_annotation, does_annotation_line}
 
 module _ (k a : List Waiting) where
@@ -190,35 +190,37 @@ module _ (k a : List Waiting) where
   some_there o (c ∷ cs) e h = (c, h.0)
 
   -- a part of a text in a gap of its own
-  gap_does : (Gap : Bones → Bones) {bs : Bones} {p q : Pen} → Goes p q → (Held k a p → Weave k a bs p q) → ((bytes : List ℕ) → Woven k a bs bytes → Woven k a (Gap bs) bytes) → Does k a (Gap bs) p q
-  gap_does Gap {bs} {p} {q} g w f = record { goes = g; weaves = λ h. in_it (w h) }
+  gap_does : (Gap : Bones → Bones) {bs : Bones} {p q : Pen} → Does k a bs p q → ((ws : List Waiting) (bytes : List ℕ) → Woven k a bs ws bytes → Woven k a (Gap bs) ws bytes) → Does k a (Gap bs) p q
+  gap_does Gap {bs} {p} {q} d f = record { goes = d.goes; weaves = λ h sound. in_it (d.weaves h sound) }
     where
-      in_it : Weave k a bs p q → Weave k a (Gap bs) p q
-      in_it v = record { text = v.text; code = v.code; woven = f (dark_of v.text) v.woven; held = v.held }
+      in_it : {ws : List Waiting} → Weave k a bs ws p q → Weave k a (Gap bs) ws p q
+      in_it {ws} v = record { text = v.text; code = v.code; woven = f ws (dark_of v.text) v.woven; held = v.held }
 
   -- in parentheses
-  abbrev InRoundHere : Bones → List ℕ → Type 0
-  InRoundHere bs bytes = InRound (λ own. Woven k a bs own) bytes
+  abbrev InRoundHere : Bones → List Waiting → List ℕ → Type 0
+  InRoundHere bs ws bytes = InRound (λ own. Woven k a bs ws own) bytes
 
-  round_does : (Gap : Bones → Bones) {bs : Bones} (p q : Pen) → (Held k a p → (bytes : List ℕ) → InRoundHere bs bytes → Woven k a (Gap bs) bytes) → Does k a bs (written_if true (opening Round) p) q → Does k a (Gap bs) p (written_if true (closing Round) q)
-  round_does Gap {bs} p q f d = record { goes = (in_round k a true d).goes; weaves = λ h. round h (d.weaves (record { store = h.store; annotations = h.annotations; white = h.white })) }
+  round_does : (Gap : Bones → Bones) {bs : Bones} (p q : Pen) → (Held k a p → (ws : List Waiting) (bytes : List ℕ) → InRoundHere bs ws bytes → Woven k a (Gap bs) ws bytes) → Does k a bs (written_if true (opening Round) p) q → Does k a (Gap bs) p (written_if true (closing Round) q)
+  round_does Gap {bs} p q f d = record {
+    goes = goes_then (keeps_adds (adds_if true (opening Round) p)) (goes_then d.goes (keeps_adds (adds_if true (closing Round) q)));
+    weaves = λ h sound.
+        let inside = (keeps_adds (adds_if true (opening Round) p) sound).sound in
+        subst (λ ws. Weave k a (Gap bs) ws p (written_if true (closing Round) q)) (sym (append-nil (d.goes inside).printed)) (round h (d.weaves (record { store = h.store; annotations = h.annotations; white = h.white }) inside));
+  }
     where
-      round : Held k a p → Weave k a bs (written_if true (opening Round) p) q → Weave k a (Gap bs) p (written_if true (closing Round) q)
-      round h v = record {
+      round : {ws : List Waiting} → Held k a p → Weave k a bs ws (written_if true (opening Round) p) q → Weave k a (Gap bs) ws p (written_if true (closing Round) q)
+      round {ws} h v = record {
         text = opening Round ++ (v.text ++ closing Round);
         code = ap (λ x. x ++ closing Round) v.code ∙ (append_assoc (p.code ++ opening Round) v.text (closing Round) ∙ append_assoc p.code (opening Round) (v.text ++ closing Round));
-        woven = f h (dark_of (opening Round ++ (v.text ++ closing Round))) (dark_of v.text, (dark_both (opening Round) (v.text ++ closing Round) ∙ ap (λ x. opening Round ++ x) (dark_both v.text (closing Round)), v.woven));
+        woven = f h ws (dark_of (opening Round ++ (v.text ++ closing Round))) (dark_of v.text, (dark_both (opening Round) (v.text ++ closing Round) ∙ ap (λ x. opening Round ++ x) (dark_both v.text (closing Round)), v.woven));
         held = record { store = v.held.store; annotations = v.held.annotations; white = v.held.white };
       }
-
-  alone : {First : List ℕ → Type 0} (bytes : List ℕ) → First bytes → InTwo bytes First (λ rest. rest ≡ [])
-  alone bytes h = record { first = bytes; second = []; is = sym (append-nil bytes); one = h; other = refl }
 
   object_does : (barred stand : Bool) (o : ℕ) {bs : Bones} (p q : Pen) → are_any (group_at o p) ≡ stand → Does k a bs (written_if (stand || barred) (opening Round) p) q → Does k a (object_bones barred o bs) p (written_if (stand || barred) (closing Round) q)
   object_does true true o p q e d = in_round k a true d
   object_does true false o p q e d = in_round k a true d
-  object_does false true o p q e d = round_does (λ x. object_gap o x no_bones) p q (λ h bytes r. alone bytes (inr (r, some_there o (group_at o p) e (every_there (Contains k) o p.store.groups h.store)))) d
-  object_does false false o p q e d = let f = in_round k a false d in gap_does (λ x. object_gap o x no_bones) f.goes f.weaves (λ bytes w. alone bytes (inl w))
+  object_does false true o p q e d = round_does (λ x. object_gap o x no_bones) p q (λ h ws bytes r. alone k a ws bytes (inr (r, some_there o (group_at o p) e (every_there (Contains k) o p.store.groups h.store)))) d
+  object_does false false o p q e d = gap_does (λ x. object_gap o x no_bones) (in_round k a false d) (λ ws bytes w. alone k a ws bytes (inl w))
 
   -- ---- the whole
 

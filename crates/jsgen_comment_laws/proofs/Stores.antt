@@ -69,10 +69,10 @@ abbrev pub NoneBelow : ℕ → Groups → Type 0
 NoneBelow n gs = (p : ℕ) → p < n → count (outlives_at p) (waiting_in gs) ≡ 0
 
 -- what is left when they have gone
-record Left (n : ℕ) (gs : Groups) (found : List Waiting) (s : Store) : Type 0 where
-  sound : Sound s
-  all : (test : Waiting → Bool) → count test (waiting_in gs) ≡ count test (waiting_in s.groups) + count test found
-  none : NoneBelow n s.groups
+pub record Left (n : ℕ) (gs : Groups) (found : List Waiting) (s : Store) : Type 0 where
+  pub sound : Sound s
+  pub all : (test : Waiting → Bool) → count test (waiting_in gs) ≡ count test (waiting_in s.groups) + count test found
+  pub none : NoneBelow n s.groups
 
 covers_rest : (o : ℕ) (os : List ℕ) (gs : Groups) → From 0 gs → Covers (o ∷ os) gs → Covers os (without_outliving o gs)
 covers_rest o os gs h k p e = by (p == o) refl
@@ -95,7 +95,7 @@ not_in p n (o ∷ os) l h =
     let first : (p == o) ≡ false = ne_eqb p o (λ e. omega (arith, l, k, e)) in
     ap (λ b. b || is_in p os) first ∙ not_in p (1 + o) os (omega (arith, l, k)) h.1
 
-leaves : (n m : ℕ) (os : List ℕ) (gs : Groups) → From 0 gs → Rises m os → Covers os gs → Left n gs (found_at n os gs) (left_at n os gs)
+pub leaves : (n m : ℕ) (os : List ℕ) (gs : Groups) → From 0 gs → Rises m os → Covers os gs → Left n gs (found_at n os gs) (left_at n os gs)
 leaves n m [] gs h r k = record {
   sound = record { groups = h; orphans = tt; covers = k };
   all = λ test. omega arith;
@@ -128,7 +128,7 @@ pub record Accounts (p q : Pen) : Type 0 where
 abbrev pub Goes : Pen → Pen → Type 0
 Goes p q = Sound p.store → Accounts p q
 
-pub goes_then : {p q r : Pen} → Goes p q → Goes q r → Goes p r
+abbrev pub goes_then : {p q r : Pen} → Goes p q → Goes q r → Goes p r
 goes_then {p} {q} {r} a b h = joined (a h) (b (a h).sound)
   where
     joined : Accounts p q → Accounts q r → Accounts p r
@@ -151,7 +151,7 @@ pub record Texts (p q : Pen) : Type 0 where
   pub code : q.code ≡ p.code ++ text
   pub store : q.store ≡ p.store
 
-pub keeps_texts : {p q : Pen} → Texts p q → Goes p q
+abbrev pub keeps_texts : {p q : Pen} → Texts p q → Goes p q
 keeps_texts {p} {q} w h = record {
   text = w.text;
   code = w.code;
@@ -161,14 +161,14 @@ keeps_texts {p} {q} w h = record {
   sound = subst Sound (sym w.store) h;
 }
 
-pub keeps_adds : {p q : Pen} → Adds p q → Goes p q
+abbrev pub keeps_adds : {p q : Pen} → Adds p q → Goes p q
 keeps_adds w = keeps_texts (record { text = w.text; code = w.code; store = w.store })
 
-pub keeps : {p q : Pen} → Writes [] p q → Goes p q
+abbrev pub keeps : {p q : Pen} → Writes [] p q → Goes p q
 keeps w = keeps_adds w.adds
 
 -- the group at an offset leaves it, and is printed
-pub prints_taken : (o : ℕ) (p q : Pen) → Writes (group_at o p) (without_group o p) q → Goes p q
+abbrev pub prints_taken : (o : ℕ) (p q : Pen) → Writes (group_at o p) (without_group o p) q → Goes p q
 prints_taken o p q w h = record {
   text = w.adds.text;
   code = w.adds.code;
@@ -179,7 +179,7 @@ prints_taken o p q w h = record {
 }
 
 -- orphans do
-pub prints_orphans : (o : ℕ) (p q : Pen) → Writes (orphans_below o p.store) (with_store (left_below o p.store) p) q → Goes p q
+abbrev pub prints_orphans : (o : ℕ) (p q : Pen) → Writes (orphans_below o p.store) (with_store (left_below o p.store) p) q → Goes p q
 prints_orphans o p q w h =
     let found = found_at o p.store.orphans p.store.groups in
     let left = leaves o 0 p.store.orphans p.store.groups h.groups h.orphans h.covers in
@@ -197,7 +197,7 @@ pub none_below : (o : ℕ) (s : Store) → Sound s → NoneBelow o (left_below o
 none_below o s h = (leaves o 0 s.orphans s.groups h.groups h.orphans h.covers).none
 
 -- a group leaves the store, and is printed behind what goes on without it
-holds : (o : ℕ) (p q r : Pen) → Goes (without_group o p) q → Writes (group_at o p) q r → Goes p r
+abbrev holds : (o : ℕ) (p q r : Pen) → Goes (without_group o p) q → Writes (group_at o p) q r → Goes p r
 holds o p q r a w h = held (a (sound_taken o p.store h))
   where
     held : Accounts (without_group o p) q → Accounts p r
@@ -215,6 +215,6 @@ holds o p q r a w h = held (a (sound_taken o p.store h))
       sound = subst Sound (sym w.adds.store) a.sound;
     }
 
-pub holds_last : (last : Option ℕ) (p q r : Pen) → Goes (without_ending last p) q → Writes (ending_at last p) q r → Goes p r
+abbrev pub holds_last : (last : Option ℕ) (p q r : Pen) → Goes (without_ending last p) q → Writes (ending_at last p) q r → Goes p r
 holds_last None p q r a w = goes_then a (keeps w)
 holds_last (Some o) p q r a w = holds o p q r a w

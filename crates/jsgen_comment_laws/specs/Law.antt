@@ -20,8 +20,8 @@ IsEndOf job text = (pen : Pen) × ((ended job.options.comments.legal (source_byt
 
 -- ---- the whole
 
--- A text is that of the program, and what stands behind it. In that of the program some of the job's comments have places, each of these
--- one of its own, in this order; all that have to stand are among them. That a comment stands nowhere else isn't said
+-- A text is that of the program, and what stands behind it. In that of the program these of the job's comments stand, each once and in this
+-- order, and no others but annotations; all that have to stand are among them
 pub record CommentsStandIn (job : JobData) (text : List ℕ) : Type 0 where
   pub body : List ℕ
   pub end : List ℕ
@@ -29,14 +29,14 @@ pub record CommentsStandIn (job : JobData) (text : List ℕ) : Type 0 where
   pub ends : IsEndOf job end
   pub comments : List Waiting
   pub stand : Stand body (map (λ w. w.comment) comments)
-  -- by any test there are no more of them than are kept
+  -- by any test there are no more of them than are kept, so that none stands twice
   pub once : (test : Waiting → Bool) → count test comments ≤ count test (kept_comments job)
   -- and of those that have to stand as many
   pub all : (test : Waiting → Bool) → count (λ w. has_to_stand job.program w && test w) comments ≡ count (λ w. has_to_stand job.program w && test w) (kept_comments job)
-  -- and what isn't white in it are the bones of the text without comments, and what fills their gaps
-  pub woven : Woven (kept_comments job) (annotation_comments job) (bones (spell job.program among_statements) (without_comments (first_pen job))) (dark_of body)
+  -- and what isn't white in it are the bones of the text without comments, whose gaps they fill, and annotations
+  pub woven : Woven (kept_comments job) (annotation_comments job) (bones (spell job.program among_statements) (without_comments (first_pen job))) comments (dark_of body)
   -- of these bones alone, with annotations as they are written, is the text without comments
-  pub bare : Woven [] [] (bones (spell job.program among_statements) (without_comments (first_pen job))) (dark_of (lay (spell job.program among_statements) (without_comments (first_pen job))).code)
+  pub bare : Woven [] [] (bones (spell job.program among_statements) (without_comments (first_pen job))) [] (dark_of (lay (spell job.program among_statements) (without_comments (first_pen job))).code)
 
 -- each comment that has to stand has a place of its own in the text of a valid job, whose nodes have the children of their types
 abbrev pub CommentsStand : Type 0

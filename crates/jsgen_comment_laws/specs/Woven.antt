@@ -118,13 +118,21 @@ pub record InTwo (bytes : List ℕ) (First Second : List ℕ → Type 0) : Type 
 abbrev pub IsDarkTextOf : Comment → List ℕ → Type 0
 IsDarkTextOf c bytes = (text : List ℕ) × (IsTextOf c text × (bytes ≡ dark_of text))
 
--- the texts of comments of which something is told, one behind the other
+-- the texts of these comments, of each of which something is told, one behind the other
 abbrev pub FilledBy : (Waiting → Type 0) → List Waiting → List ℕ → Type 0
 FilledBy Told [] bytes = bytes ≡ []
 FilledBy Told (w ∷ ws) bytes = InTwo bytes (λ own. Told w × IsDarkTextOf w.comment own) (λ rest. FilledBy Told ws rest)
 
-abbrev pub Filled : (Waiting → Type 0) → List ℕ → Type 0
-Filled Told bytes = (ws : List Waiting) × FilledBy Told ws bytes
+-- comments and characters, each in two parts: of the first is so, and of the second so
+pub record Parted (ws : List Waiting) (bytes : List ℕ) (First Second : List Waiting → List ℕ → Type 0) : Type 0 where
+  pub first_comments : List Waiting
+  pub second_comments : List Waiting
+  pub are : ws ≡ first_comments ++ second_comments
+  pub first : List ℕ
+  pub second : List ℕ
+  pub is : bytes ≡ first ++ second
+  pub one : First first_comments first
+  pub other : Second second_comments second
 
 -- an annotation as it is written where the source has none, or one of the source that says the same of the same offset
 abbrev pub IsAnnotation : List Waiting → Annotation → ℕ → List ℕ → Type 0
@@ -145,11 +153,12 @@ IsObject kept o Inner bytes = Inner bytes ⊎ (InRound Inner bytes × ((c : Comm
 
 -- ---- the whole
 
--- the dark characters of a text are the bones, with each gap filled as it may be by comments that are kept, and by annotations
-abbrev pub Woven : List Waiting → List Waiting → Bones → List ℕ → Type 0
-Woven kept annotations no_bones bytes = bytes ≡ []
-Woven kept annotations (dark c bs) bytes = InTwo bytes (λ own. own ≡ c ∷ []) (λ rest. Woven kept annotations bs rest)
-Woven kept annotations (comment_gap os bs) bytes = InTwo bytes (Filled (BelongsTo kept os)) (λ rest. Woven kept annotations bs rest)
-Woven kept annotations (orphan_gap o bs) bytes = InTwo bytes (Filled (IsOrphan kept o)) (λ rest. Woven kept annotations bs rest)
-Woven kept annotations (annotation_gap kind o bs) bytes = InTwo bytes (IsAnnotation annotations kind o) (λ rest. Woven kept annotations bs rest)
-Woven kept annotations (object_gap o inner bs) bytes = InTwo bytes (IsObject kept o (λ own. Woven kept annotations inner own)) (λ rest. Woven kept annotations bs rest)
+-- the dark characters of a text are the bones, with each gap filled as it may be: by comments that are kept, which are these in this order, and by
+-- annotations
+abbrev pub Woven : List Waiting → List Waiting → Bones → List Waiting → List ℕ → Type 0
+Woven kept annotations no_bones ws bytes = (ws ≡ []) × (bytes ≡ [])
+Woven kept annotations (dark c bs) ws bytes = InTwo bytes (λ own. own ≡ c ∷ []) (λ rest. Woven kept annotations bs ws rest)
+Woven kept annotations (comment_gap os bs) ws bytes = Parted ws bytes (λ us own. FilledBy (BelongsTo kept os) us own) (λ vs rest. Woven kept annotations bs vs rest)
+Woven kept annotations (orphan_gap o bs) ws bytes = Parted ws bytes (λ us own. FilledBy (IsOrphan kept o) us own) (λ vs rest. Woven kept annotations bs vs rest)
+Woven kept annotations (annotation_gap kind o bs) ws bytes = InTwo bytes (IsAnnotation annotations kind o) (λ rest. Woven kept annotations bs ws rest)
+Woven kept annotations (object_gap o inner bs) ws bytes = Parted ws bytes (λ us own. IsObject kept o (λ inside. Woven kept annotations inner us inside) own) (λ vs rest. Woven kept annotations bs vs rest)

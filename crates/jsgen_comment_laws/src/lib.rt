@@ -4,7 +4,7 @@
 ghost use Rattle.jsgen_comment_laws.specs.Law.{CommentsStand};
 
 /// Each comment that belongs to a statement of a program's own, and each licence up to its end, has a place of its own in the text of
-/// a valid job; and what isn't white in the text is woven of bones that comments have no part in.
+/// a valid job, and none stands twice; and what isn't white in the text is these comments, woven into bones that they have no part in.
 pub fn comments_stand()
     ensures { CommentsStand }
 {}
