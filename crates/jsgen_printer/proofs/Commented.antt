@@ -1,7 +1,7 @@
 -- Steps round comments that have left the store, and steps that depend on what waits there.
 use Rattle.std.proofs.Common.{◌≡◌, ℕ, Bool, true, false, ◌||◌, if◌then◌else◌, Option, Some, None, List, refl, ap, sym, subst, ◌∙◌}
 use Rattle.jsgen_model.specs.Comments.{Comment, are_any}
-use Rattle.jsgen_model.specs.Groups.{last_byte, ending_at, without_ending, closing_group, has_orphans, case_begun, case_ended, comments_at, group_at, are_lined, lines_opened, lines_closed, broken_at, on_a_line, unless_on_line}
+use Rattle.jsgen_model.specs.Groups.{last_byte, ending_at, without_ending, closing_group, has_orphans, case_begun, case_ended, comments_at, group_at, are_lined, lines_opened, lines_closed, on_a_line, unless_on_line}
 use Rattle.jsgen_model.specs.Items.{Items, held, lined_case, caught, annotated, commented, in_lines, line_break, Lines, Break, Lead, all_of_them}
 use Rattle.jsgen_model.specs.Lay.{lay, case_mark, before_block, lifts, annotated_from, is_enclosed, commented_from}
 use Rattle.jsgen_model.specs.Layout.{Pen, nowhere, begun_at, written_if}

@@ -19,7 +19,7 @@ use Rattle.jsgen_syntax.specs.Strings.{quote_char}
 use Rattle.jsgen_syntax.specs.declared.quote.Quote.{Quote}
 use Rattle.jsgen_syntax.specs.declared.quote.Quote.TheVariants as quotes
 use Rattle.jsgen_syntax.specs.declared.quote.Quote.TheVariants.{Backtick}
-use Rattle.jsgen_model.specs.Layout.{Pen, Ending, nowhere, other_end, written, written_if, white_if, indented, space_if, ends_in_word, name_ending}
+use Rattle.jsgen_model.specs.Layout.{Pen, Ending, nowhere, written, written_if, white_if, indented, space_if, ends_in_word, name_ending}
 use Rattle.jsgen_model.specs.Printing.{IsPrefix}
 use Rattle.jsgen_printer.specs.Printer.{is_ascii, name_written}
 use Rattle.jsgen_printer.proofs.Prefixes.{prefix_append, prefix_behind, first_bytes}

@@ -18,6 +18,7 @@ mod marks;
 mod modules;
 mod names;
 mod numbers;
+mod objects;
 mod operators;
 mod patterns;
 mod templates;

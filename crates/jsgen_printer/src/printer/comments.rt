@@ -10,10 +10,9 @@ ghost use Rattle.jsgen_tree.specs.Options.{legal_plain};
 ghost use Rattle.jsgen_model.specs.Ends.{licensed, each_written, reference};
 ghost use Rattle.jsgen_model.specs.Groups as groups;
 ghost use Rattle.jsgen_model.specs.Groups.{group, group_at, comments_at, orphans_before, has_orphans, orphan_lines_at, empty_body_at, body_of, body_lines, last_byte, ending_at, without_ending, without_group, closing_group, case_begun, case_ended, is_printed, before_group, behind_group, comment_written, text_written, block_lines, block_line, lines_of, opens_block, closes_block, indented_if, indented_here, with_pending_space, one_deeper, at_level, soft_line_ended, is_mid_line, html_close, before_first, before_later, behind, behind_last, ends_line, is_line, is_legal, has_no_newlines, used_up, used_up_if, softly_spaced, space_behind, line_ended, on_new_line, at_line_start, ends_in, with_store};
-ghost use Rattle.jsgen_model.specs.Items.{◌⊕◌, comments, orphans, orphan_lines, empty_body, indentation, member_line, member_space, all_of_them, then_space, with_due_space, annotation_before_it, with_key_annotation, a_brace};
-ghost use Rattle.jsgen_model.specs.Layout.{written, written_if, other_end, led, begun_at, nowhere, unless_printed, is_barred, not};
-ghost use Rattle.jsgen_model.specs.Punctuator.{Round, closing};
-ghost use Rattle.jsgen_model.specs.Lay.{lay, case_mark, before_block, is_enclosed, commented_from};
+ghost use Rattle.jsgen_model.specs.Items.{◌⊕◌, comments, orphans, orphan_lines, empty_body, indentation, all_of_them, then_space, with_due_space, annotation_before_it, with_key_annotation};
+ghost use Rattle.jsgen_model.specs.Layout.{written, other_end, led, unless_printed, not};
+ghost use Rattle.jsgen_model.specs.Lay.{lay, case_mark, before_block};
 ghost use Rattle.jsgen_model.specs.Spell.{items_if};
 ghost use Rattle.jsgen_printer.specs.Printer.{pen_of, start_of, by_comments, lead_of, manner_of, group_of, level_if, case_behind};
 ghost use Rattle.jsgen_printer.specs.Steps.{has_failed, Goes, Lays};
@@ -508,59 +507,6 @@ impl<'a> Printer<'a> {
         }
     }
 
-    /// What an object begins with, which begins at this offset: a parenthesis where comments stand there, which stand behind it, or
-    /// where a brace may not begin here. Tells whether there is one; `end_object` takes it.
-    pub fn begin_object(&mut self, start: u32) -> bool
-        ensures enclosed { result ≡ is_enclosed start (pen_of self.old) }
-        ensures goes { Goes self.old self.new (commented_from start) }
-    {
-        let stood = self.has_comments(start);
-        let enclosed = self.is_enclosed(stood);
-        self.print_opening_if(enclosed);
-        self.print_lined_comments_if(stood, start);
-        self.begin_at(Start::Nowhere);
-        enclosed
-    }
-
-    // Whether an object stands in parentheses, before which comments stand where the test holds.
-    fn is_enclosed(&self, stood: bool) -> bool
-        ensures { result ≡ (stood || is_barred a_brace (pen_of self.now).start) }
-    {
-        stood || self.bars_brace()
-    }
-
-    /// What an object ends with; `enclosed` is what `begin_object` gave.
-    pub fn end_object(&mut self, enclosed: bool)
-        ensures { Goes self.old self.new (λ pen. begun_at nowhere (written_if enclosed (closing Round) pen)) }
-    {
-        self.print_closing_if(enclosed);
-        self.begin_at(Start::Nowhere);
-    }
-
-    fn print_lined_comments_if(&mut self, test: bool, start: u32)
-        ensures { Goes self.old self.new (groups.commented_if test start) }
-    {
-        if test {
-            self.print_lined_comments(start);
-        }
-    }
-
-    /// What stands before a member of an object, which begins at this offset and stands on a line of its own.
-    pub fn print_member_line(&mut self, start: u32)
-        ensures { Lays self.old self.new (member_line start) }
-    {
-        self.print_soft_line();
-        self.print_lined_comments(start);
-    }
-
-    /// The same where it stands on the line of its braces.
-    pub fn print_member_space(&mut self, start: u32)
-        ensures { Lays self.old self.new (member_space start) }
-    {
-        self.print_soft_space();
-        self.print_comments_with_space(start);
-    }
-
     /// The comments that belong to smaller offsets and outlive their places.
     pub fn print_orphans(&mut self, offset: u32)
         ensures { Lays self.old self.new (orphans offset) }
@@ -719,7 +665,7 @@ impl<'a> Printer<'a> {
     }
 
     // The comments that belong to this offset, and indentation.
-    fn print_lined_comments(&mut self, offset: u32)
+    pub(super) fn print_lined_comments(&mut self, offset: u32)
         ensures { Goes self.old self.new (λ pen. indented_here (comments_at all_of_them offset pen)) }
     {
         self.print_comments(offset);
