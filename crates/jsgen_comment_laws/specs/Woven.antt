@@ -106,7 +106,7 @@ without_comments p = record p { store = empty_store; annotations = [] }
 
 -- ---- what may fill a gap
 
--- characters in two parts, of which the first is so, and the second so
+-- characters cut in two: `First` holds of the first part, and `Second` of the other
 pub record InTwo (bytes : List ℕ) (First Second : List ℕ → Type 0) : Type 0 where
   pub first : List ℕ
   pub second : List ℕ
@@ -123,7 +123,7 @@ abbrev pub FilledBy : (Waiting → Type 0) → List Waiting → List ℕ → Typ
 FilledBy Told [] bytes = bytes ≡ []
 FilledBy Told (w ∷ ws) bytes = InTwo bytes (λ own. Told w × IsDarkTextOf w.comment own) (λ rest. FilledBy Told ws rest)
 
--- comments and characters, each in two parts: of the first is so, and of the second so
+-- comments and characters, both cut in two: `First` holds of the first parts, and `Second` of the others
 pub record Parted (ws : List Waiting) (bytes : List ℕ) (First Second : List Waiting → List ℕ → Type 0) : Type 0 where
   pub first_comments : List Waiting
   pub second_comments : List Waiting
@@ -153,8 +153,8 @@ IsObject kept o Inner bytes = Inner bytes ⊎ (InRound Inner bytes × ((c : Comm
 
 -- ---- the whole
 
--- the dark characters of a text are the bones, with each gap filled as it may be: by comments that are kept, which are these in this order, and by
--- annotations
+-- The dark characters of a text are the bones, with each gap filled as it may be: by annotations, and by comments that are kept. These are the
+-- comments ws, each once, in their order, and no others
 abbrev pub Woven : List Waiting → List Waiting → Bones → List Waiting → List ℕ → Type 0
 Woven kept annotations no_bones ws bytes = (ws ≡ []) × (bytes ≡ [])
 Woven kept annotations (dark c bs) ws bytes = InTwo bytes (λ own. own ≡ c ∷ []) (λ rest. Woven kept annotations bs ws rest)
