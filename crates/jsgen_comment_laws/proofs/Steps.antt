@@ -163,9 +163,6 @@ module _ (k a : List Waiting) where
 
   -- ---- marks, and annotations
 
-  does_mark_behind : (test : Bool) (span : Span) (p : Pen) → Does k a no_bones p (mark_behind test span p)
-  does_mark_behind test span p = white k a (stays p (mark_behind test span p) refl refl refl refl)
-
   does_annotated : (on : Bool) (span : Span) (o : ℕ) (start : Start) (p : Pen) → Does k a (annotation_if on is_pure o) p (annotated_if on span o start p)
   does_annotated true span o start p = does_then k a (white k a (stays p (span_mark span p) refl refl refl refl)) (does_annotation k a start is_pure o (span_mark span p))
   does_annotated false span o start p = white k a (none p)

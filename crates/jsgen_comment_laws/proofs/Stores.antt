@@ -84,10 +84,6 @@ covers_rest o os gs h k p e = by (p == o) refl
         let none = k p (ap (λ b. b || is_in p os) f ∙ e) in
         omega (arith, all, none)
 
-rises_less : (m n : ℕ) (os : List ℕ) → m ≤ n → Rises n os → Rises m os
-rises_less m n [] l h = tt
-rises_less m n (o ∷ os) l h = let k = h.0 in (omega (arith, l, k), h.1)
-
 not_in : (p n : ℕ) (os : List ℕ) → p < n → Rises n os → is_in p os ≡ false
 not_in p n [] l h = refl
 not_in p n (o ∷ os) l h =
@@ -140,10 +136,6 @@ goes_then {p} {q} {r} a b h = joined (a h) (b (a h).sound)
       all = λ test. let x = a.all test in let y = b.all test in let z = count_append test a.printed b.printed in omega (arith, x, y, z);
       sound = b.sound;
     }
-
-pub one_goes : (test : Bool) {p a b : Pen} → Goes p a → Goes p b → Goes p (if test then a else b)
-one_goes true h k = h
-one_goes false h k = k
 
 -- text behind the code, and nothing leaves the store
 pub record Texts (p q : Pen) : Type 0 where

@@ -14,7 +14,7 @@ use Rattle.jsgen_comment_laws.specs.Woven.{dark_of, bones, without_comments, Wov
 
 -- ---- the end of a text
 
--- what stands behind a program's text: what its end adds to the code of a pen, whatever that pen is
+-- what stands behind a program's text: what its end adds to the code of some pen
 abbrev pub IsEndOf : JobData → List ℕ → Type 0
 IsEndOf job text = (pen : Pen) × ((ended job.options.comments.legal (source_bytes job) (comments_in job.program) pen).code ≡ pen.code ++ text)
 
@@ -29,7 +29,7 @@ pub record CommentsStandIn (job : JobData) (text : List ℕ) : Type 0 where
   pub ends : IsEndOf job end
   pub comments : List Waiting
   pub stand : Stand body (map (λ w. w.comment) comments)
-  -- by any test there are no more of them than are kept, so that none stands twice
+  -- by any test there are no more of them than are kept, so that none stands more often than the job has it
   pub once : (test : Waiting → Bool) → count test comments ≤ count test (kept_comments job)
   -- and of those that have to stand as many
   pub all : (test : Waiting → Bool) → count (λ w. has_to_stand job.program w && test w) comments ≡ count (λ w. has_to_stand job.program w && test w) (kept_comments job)

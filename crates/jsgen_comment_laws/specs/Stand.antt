@@ -50,7 +50,7 @@ count test (w ∷ ws) = one_if (test w) + count test ws
 
 -- ---- where they stand
 
--- what a comment adds to the code of a pen, whatever that pen is
+-- what a comment adds to the code of some pen: a block of several lines depends on the level there
 abbrev pub IsTextOf : Comment → List ℕ → Type 0
 IsTextOf c text = (pen : Pen) × ((comment_written c pen).code ≡ pen.code ++ text)
 
