@@ -69,11 +69,11 @@ function section(found, [head, name]) {
 
 // A field that is made by hand of those below it isn't one of the format.
 function isField(line) {
-  return !line.startsWith("| ") && !["rules", "copied", "unpromised"].includes(line) && !line.startsWith("= ") && !line.startsWith("ghost ") && !/^\w+ by /.test(line);
+  return !line.startsWith("| ") && !["rules", "copied", "core", "unpromised"].includes(line) && !line.startsWith("= ") && !line.startsWith("ghost ") && !/^\w+ by /.test(line);
 }
 
 function fieldOf(line, number, { words, typesOf }) {
-  const parts = FIELD.exec(line.split(" | ")[0].replace(/\s+/g, " ").replace(/ (dropped|unpromised)\b/g, "").trim());
+  const parts = FIELD.exec(line.split(" | ")[0].replace(/\s+/g, " ").replace(/ (dropped|core|unpromised)\b/g, "").trim());
   if (!parts) throw new Error(`table: no field: ${line}`);
   const [, name, unread, kinds, mark, many, onlyFor, byDefault] = parts;
   const kind = kinds.split("/")[0];

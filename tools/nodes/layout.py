@@ -52,7 +52,7 @@ def region(text, name, body):
     if not there or not ends:
         raise SystemExit(f"no place for what is generated: {name}")
     indent = " " * (len(before) - len(before.rstrip(" ")))
-    return before + first + body + "\n" + indent + last + after
+    return before + first + (body + "\n" if body else "") + indent + last + after
 
 
 def by_hand(text):

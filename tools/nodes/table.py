@@ -6,6 +6,9 @@ from pathlib import Path
 
 SPELLED = "jsgen_spelled"  # where rows with a spelling are printed, if the table says nothing else of their file
 
+# What may stand of a type or a flag that isn't plain: a reading is proved of it and it is core, or none is promised.
+PROMISES = ("core", "unpromised")
+
 VALUES = {"text": "String", "units": "JsStr", "digits": "u128", "number": "u32", "flag": "bool"}
 
 
@@ -34,7 +37,7 @@ class Field:
     needed: bool = False  # of a flag, that it is required
     place: str = None   # the place that it is, where the rules speak of it by a name
     dropped: bool = False       # whether its value doesn't count in the normal form
-    unpromised: bool = False    # of a flag, whether no reading is promised where it is set
+    promise: str = "plain"      # of a flag, of which word a node that has it set may be: plain, core, or no word at all (unpromised)
 
     @property
     def is_list(self):
@@ -56,7 +59,7 @@ class Node:
     ghosts: list = field(default_factory=list)
     rules: bool = False  # whether it has rules of its own, which are checked by hand
     spelling: str = ""  # how it is spelled, in the notation of notation.py; empty where that is written by hand
-    unpromised: bool = False    # whether no reading is promised of it
+    promise: str = "plain"      # of which word it is: plain, core, or no word at all (unpromised)
     is_copy: bool = False   # whether its struct holds nothing that is owned, and is copied
 
     @property
@@ -150,8 +153,8 @@ class Table:
                     at.rules = True
                 elif line == "copied":
                     at.is_copy = True
-                elif line == "unpromised":
-                    at.unpromised = True
+                elif line in PROMISES:
+                    at.promise = line
                 elif line.startswith("ghost "):
                     at.ghosts.append(line)
                 elif indent > 4:
@@ -242,11 +245,11 @@ def read_field(line):
         rest, parts = rest[1:], []
     unread = rest[0] == "unread"
     kind, *marks = rest[1:] if unread else rest
-    if set(marks) - {"dropped", "unpromised"}:
-        raise ValueError("a mark of a field is neither dropped nor unpromised")
+    if set(marks) - {"dropped", *PROMISES}:
+        raise ValueError("a mark of a field is none of dropped, core and unpromised")
     kind, _, other = kind.partition("/")
     needed = kind == "flag!"
     kind = kind.removesuffix("!") if needed else kind
     bare = kind.rstrip("?*")
     return Field(name, rust, bare, kind[len(bare):], default or None, only_for.strip() or None, unread, doc.strip(),
-                 other or None, parts, needed, place.strip() or None, "dropped" in marks, "unpromised" in marks)
+                 other or None, parts, needed, place.strip() or None, "dropped" in marks, next((mark for mark in marks if mark in PROMISES), "plain"))

@@ -13,8 +13,8 @@ ghost use Rattle.jsgen_model.specs.Layout.{style_of, empty_pen, written, other_e
 ghost use Rattle.jsgen_syntax.specs.declared.precedence.Precedence.TheVariants.{Lowest};
 ghost use Rattle.jsgen_model.specs.Spell.{text_bytes, spell};
 ghost use Rattle.std.specs.Str.{chars};
-ghost use Rattle.jsgen_model.specs.Plain.{IsPlain, IsQuiet};
-ghost use Rattle.jsgen_model.specs.Reading.{IsReadAs};
+ghost use Rattle.jsgen_model.specs.Plain.{IsCore, IsPlain, IsQuiet};
+ghost use Rattle.jsgen_model.specs.Reading.{HasReading, IsReadAs, IsReadOnlyAs};
 ghost use Rattle.jsgen_model.specs.Valid.{job_breaches, expression_breaches, IsValid, IsValidExpression, Judges};
 ghost use Rattle.jsgen_check.specs.Verdict.{told};
 ghost use Rattle.jsgen_printer.specs.Printer.{pen_of, by_tables, name_written, unless_empty};
@@ -348,6 +348,14 @@ impl<'a> Codegen<'a> {
         // The grammar reads the text of a plain and quiet program as that program, up to its normal form.
         ensures reads { IfOk result (λ printed. IsPlain (program_plain program.now) → IsQuiet (job_for self.entry (program_plain program.now))
             → IsReadAs (chars (string_bytes printed.code)) (job_for self.entry (program_plain program.now))) }
+
+        // It reads it as no other.
+        ensures one_reading { IfOk result (λ printed. IsPlain (program_plain program.now) → IsQuiet (job_for self.entry (program_plain program.now))
+            → IsReadOnlyAs (chars (string_bytes printed.code)) (job_for self.entry (program_plain program.now))) }
+
+        // And it reads the text of a quiet program that is core, plain or not, as that program.
+        ensures core_reads { IfOk result (λ printed. IsCore (program_plain program.now) → IsQuiet (job_for self.entry (program_plain program.now))
+            → HasReading (chars (string_bytes printed.code)) (job_for self.entry (program_plain program.now))) }
 
         // The source map of that text, by the marks of its layout.
         ensures map { IfOk result (λ printed. HasMap (job_for self.entry (program_plain program.now)) printed.map) }

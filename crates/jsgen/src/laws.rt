@@ -1,6 +1,6 @@
 // Laws over the definitions, each the contract of a function with an empty body.
 ghost use Rattle.jsgen_comment_laws.specs.Law.{CommentsStandIn};
-ghost use Rattle.jsgen_model.specs.Plain.{IsPlain, is_plain_by_type};
+ghost use Rattle.jsgen_model.specs.Plain.{IsCore, IsPlain, is_core_by_type, is_plain_by_type};
 ghost use Rattle.jsgen_model.specs.Spell.{printed};
 ghost use Rattle.jsgen_model.specs.Valid.{IsValid};
 ghost use Rattle.jsgen_rows.specs.Job.{job_plain};
@@ -12,6 +12,13 @@ use jsgen_rows::Job;
 /// which one is promised and has no flag set of which none is.
 pub fn jobs_plain_by_types(job: &Job)
     ensures { Everywhere is_plain_by_type (job_plain job.now).program → IsPlain (job_plain job.now).program }
+{
+    let _ = job;
+}
+
+/// And it is core where each node is that by its type and flags.
+pub fn jobs_core_by_types(job: &Job)
+    ensures { Everywhere is_core_by_type (job_plain job.now).program → IsCore (job_plain job.now).program }
 {
     let _ = job;
 }

@@ -25,4 +25,4 @@ pub use jsgen_syntax::{
 };
 pub use jsgen_tree as tree;
 pub use jsgen_tree::{CodegenOptions, CommentOptions, LegalComment, PrivateMappings, Scoping};
-pub use laws::jobs_plain_by_types;
+pub use laws::{jobs_core_by_types, jobs_plain_by_types};

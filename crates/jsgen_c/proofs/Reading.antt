@@ -6,6 +6,7 @@ use Rattle.std.proofs.Math.Seq.{take-append_seam}
 use Rattle.jsgen_tree.specs.Job.{JobData}
 use Rattle.jsgen_model.specs.Spell.{text_bytes}
 use Rattle.jsgen_model.specs.Plain.{IsPlain, IsQuiet}
+use Rattle.jsgen_model.proofs.PlainPrograms.{plain_is_core}
 use Rattle.jsgen_model.specs.Reading.{IsReadAs}
 use Rattle.jsgen_reading_laws.proofs.Reading.{bytes_are_read, text_is_utf8}
 use Rattle.jsgen_rows.specs.Job.{job_of}
@@ -32,7 +33,7 @@ of_done count answer bytes old new told (within, (printed, is, placed)) job want
     let typed = job_is_program bytes job wanted.0 in
     let same = ap text_bytes (one_job bytes job printed wanted.0 is.0) in
     let text = begins (text_bytes printed) old new count answer.text_length (ap (λ b. b.text_length) told) placed.0 placed.1 in
-    subst P (same ∙ text) (text_is_utf8 job typed wanted.1 plain quiet, bytes_are_read job typed wanted.1 plain quiet)
+    subst P (same ∙ text) (text_is_utf8 job typed wanted.1 (plain_is_core job.program plain) quiet, bytes_are_read job typed wanted.1 plain quiet)
 
 pub reads : (status : ℕ) (answer : Answer) (bytes old new : List ℕ) → Tells status answer (λ outcome. Printed outcome bytes old new) → IsReadBack status answer bytes new
 reads status answer bytes old new (Done count, s, a, h) done = of_done count answer bytes old new a h

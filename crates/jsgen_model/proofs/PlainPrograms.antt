@@ -1,13 +1,13 @@
--- A program of which each node is plain by its type and flags is plain.
-use Rattle.std.proofs.Common.{Bool, ◌&&◌, refl, sym, subst}
-use Rattle.std.proofs.lemmas.Bool.{and_from}
+-- A program of which each node is plain by its type and flags is plain, and core where each is core; and what is plain is core.
+use Rattle.std.proofs.Common.{◌≡◌, Bool, true, not, ◌&&◌, refl, sym, subst}
+use Rattle.std.proofs.lemmas.Bool.{and_from, and_parts}
 use Rattle.jsgen_tree.specs.Tree.{Tree, node, Slots, no_slots, one, maybe, many, maybe_many, Maybe, absent, given, Trees, no_trees, more, hole, MaybeTrees, no_list, listed}
 use Rattle.jsgen_tree.specs.Everywhere.{Everywhere, EverywhereInSlots, EverywhereIfGiven, EverywhereInTrees, EverywhereIfListed}
 use Rattle.jsgen_tree.specs.Plain.{node_plain, program_plain, layer}
 use Rattle.jsgen_tree.specs.declared.nodes.Node.{Node, map-Node}
 use Rattle.jsgen_tree.specs.declared.nodes.Node.TheFolds.{ind-Node, fold-roll-Node}
 use Rattle.jsgen_tree.specs.declared.statements.Program.{Program}
-use Rattle.jsgen_model.specs.Plain.{IsPlain, is_plain_by_type, is_formed}
+use Rattle.jsgen_model.specs.Plain.{IsCore, IsPlain, is_core_alone, is_core_by_type, is_core_row, is_core_type, has_core_flags, has_plain_flags, is_plain_by_type, is_plain_row, is_plain_type, is_formed, sets_core_flag}
 use Rattle.jsgen_model.proofs.FormedRows.{IsFormed, no_hole, all_formed, if_given_formed, module_kind}
 use Rattle.jsgen_model.proofs.Programs.{layer_is_formed}
 
@@ -47,7 +47,46 @@ module _ (f g : Tree → Bool) where
     both_if_listed no_list p q = tt
     both_if_listed (listed ts) p q = both_in_trees ts p q
 
+-- ---- what one test says of each node, another says of it
+
+module _ (f g : Tree → Bool) (h : (t : Tree) → f t ≡ true → g t ≡ true) where
+  mutual
+    pub passed_on : (t : Tree) → Everywhere f t → Everywhere g t
+    passed_on (node type a slots) p = (h (node type a slots) p.0, passed_on_in_slots slots p.1)
+
+    passed_on_in_slots : (slots : Slots) → EverywhereInSlots f slots → EverywhereInSlots g slots
+    passed_on_in_slots no_slots p = tt
+    passed_on_in_slots (one t slots) p = (passed_on t p.0, passed_on_in_slots slots p.1)
+    passed_on_in_slots (maybe m slots) p = (passed_on_if_given m p.0, passed_on_in_slots slots p.1)
+    passed_on_in_slots (many ts slots) p = (passed_on_in_trees ts p.0, passed_on_in_slots slots p.1)
+    passed_on_in_slots (maybe_many ts slots) p = (passed_on_if_listed ts p.0, passed_on_in_slots slots p.1)
+
+    passed_on_if_given : (m : Maybe) → EverywhereIfGiven f m → EverywhereIfGiven g m
+    passed_on_if_given absent p = tt
+    passed_on_if_given (given t) p = passed_on t p
+
+    passed_on_in_trees : (ts : Trees) → EverywhereInTrees f ts → EverywhereInTrees g ts
+    passed_on_in_trees no_trees p = tt
+    passed_on_in_trees (more t ts) p = (passed_on t p.0, passed_on_in_trees ts p.1)
+    passed_on_in_trees (hole ts) p = passed_on_in_trees ts p
+
+    passed_on_if_listed : (ts : MaybeTrees) → EverywhereIfListed f ts → EverywhereIfListed g ts
+    passed_on_if_listed no_list p = tt
+    passed_on_if_listed (listed ts) p = passed_on_in_trees ts p
+
+plain_row_is_core : (t : Tree) → is_plain_row t ≡ true → is_core_row t ≡ true
+plain_row_is_core (node type a slots) e =
+    let p = and_parts (is_plain_by_type (node type a slots)) (is_formed (node type a slots)) e in
+    let q = and_parts (is_plain_type type) (has_plain_flags type a) p.0 in
+    and_from (is_core_by_type (node type a slots)) (is_formed (node type a slots)) (and_from (is_core_type type) (has_core_flags type a) (and_parts (is_core_type type) (not (is_core_alone type)) q.0).0 (and_parts (has_core_flags type a) (not (sets_core_flag type a)) q.1).0) p.1
+
 -- ---- the whole
 
 pub plain_by_types : (p : Program Node) → Everywhere is_plain_by_type (program_plain p) → IsPlain (program_plain p)
 plain_by_types p h = both_everywhere is_plain_by_type is_formed (program_plain p) h (program_is_formed p)
+
+pub core_by_types : (p : Program Node) → Everywhere is_core_by_type (program_plain p) → IsCore (program_plain p)
+core_by_types p h = both_everywhere is_core_by_type is_formed (program_plain p) h (program_is_formed p)
+
+pub plain_is_core : (t : Tree) → IsPlain t → IsCore t
+plain_is_core t p = passed_on is_plain_row is_core_row plain_row_is_core t p

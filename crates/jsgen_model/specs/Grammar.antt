@@ -20,7 +20,7 @@ use Rattle.jsgen_tree.specs.declared.functions.FunctionKind.TheVariants as kinds
 use Rattle.jsgen_syntax.specs.Name.{is_free_name}
 use Rattle.jsgen_tree.specs.Atom.{units, flag, binary_operator, logical_operator, unary_operator, update_operator, assignment_operator}
 use Rattle.jsgen_model.specs.Numbers.{ends_in}
-use Rattle.jsgen_tree.specs.Tree.{Tree, Maybe, absent, given, Trees, no_trees, more, hole}
+use Rattle.jsgen_tree.specs.Tree.{Tree, Atoms, Maybe, absent, given, Trees, no_trees, more, hole}
 use Rattle.jsgen_tree.specs.Places.{bare}
 use Rattle.jsgen_tree.specs.Nodes as tree
 use Rattle.jsgen_model.specs.Punctuator.{plus, minus, star, slash, percent, star_star, equal_equal, not_equal, equal_equal_equal, not_equal_equal, less, less_equal, greater, greater_equal, shift_left, shift_right, shift_right_zero, bit_and, bit_or, bit_xor, and_and, or_or, nullish, dot, ellipsis, comma, semicolon, equal, Round, Square, Brace, bang, tilde, Punctuator, plus_plus, minus_minus, colon, question, plus_equal, minus_equal, star_equal, slash_equal, percent_equal, star_star_equal, shift_left_equal, shift_right_equal, shift_right_zero_equal, bit_or_equal, bit_xor_equal, bit_and_equal, or_or_equal, and_and_equal, nullish_equal, question_dot, arrow}
@@ -267,6 +267,10 @@ function_of kind id ps rest ds ss = tree.function (function_as kind) id (tree.fo
 abbrev pub method_of : Trees → Maybe → Trees → Trees → Tree
 method_of ps rest ds ss = function_of kinds.Expression absent ps rest ds ss
 
+-- whether a key is computed
+abbrev pub computed_values : Bool → Atoms
+computed_values computed = bare (flag computed ∷ [])
+
 -- a semicolon ends the tokens, or is omitted as the last of a brace group (12.10)
 pub data EndsBy : Bool → Tokens → Tokens → Type 0 where
   a_semicolon : {last : Bool} {ts a : Tokens} (mark : Bool) → ts ≡ a ⧺ piece mark (Sign semicolon) done → EndsBy last ts a
@@ -281,6 +285,8 @@ mutual
     -- what is given a value is a left-hand side, to which it is all one whether `in` may stand outside (13.15); without its parentheses, which
     -- the tree doesn't have, it names no function that it doesn't name with them
     an_assignment_to : {c : Allowed} {ts a b : Tokens} {t u v : Tree} (o : AssignmentOperator) (mark : Bool) → ts ≡ a ⧺ piece mark (Sign (assignment_sign o)) b → ReadsExpression (with_in c) LeftHandSide a t → simple_target t ≡ Some u → ReadsExpression c Assignment b v → names_function o t v ≡ names_function o u v → ReadsExpression c Assignment ts (tree.assignment (bare (assignment_operator o ∷ [])) u v)
+    -- or a pattern, to which a value is given as it is (13.15.5)
+    an_assignment_to_pattern : {c : Allowed} {ts a b : Tokens} {t v : Tree} (mark : Bool) → ts ≡ a ⧺ piece mark (Sign equal) b → ReadsPattern (with_in c) a t → ReadsExpression c Assignment b v → ReadsExpression c Assignment ts (tree.assignment (bare (assignment_operator assignment_operators.Assign ∷ [])) t v)
     a_short_circuit : {c : Allowed} {ts : Tokens} {t : Tree} → ReadsExpression c ShortCircuit ts t → ReadsExpression c Conditional ts t
     a_logical_or : {c : Allowed} {ts : Tokens} {t : Tree} → ReadsExpression c LogicalOr ts t → ReadsExpression c ShortCircuit ts t
     a_logical_and : {c : Allowed} {ts : Tokens} {t : Tree} → ReadsExpression c LogicalAnd ts t → ReadsExpression c LogicalOr ts t
@@ -433,13 +439,84 @@ mutual
     an_element : {c : Allowed} {ts : Tokens} {e : Tree} → ReadsExpression c Assignment ts e → ReadsElement c ts e
     a_spread : {c : Allowed} {mark : Bool} {ts : Tokens} {e : Tree} → ReadsExpression c Assignment ts e → ReadsElement c (piece mark (Sign ellipsis) ts) (tree.spread (nothing_of 0) e)
 
-  -- ---- bindings and declarations (14.3)
+  -- ---- bindings (14.3.3)
 
+  -- a name, or a pattern of names
   pub data ReadsBinding : Allowed → Tokens → Tree → Type 0 where
     a_bound_name : {c : Allowed} {mark : Bool} {w v : List ℕ} → word_value w ≡ Some v → is_free_name v ≡ true → ReadsBinding c (piece mark (Word w) done) (tree.binding_identifier (unnumbered v))
+    an_object_binding : {c : Allowed} {mark : Bool} {inside : Tokens} {ps : Trees} {rest : Maybe} → ReadsBindingProperties (with_in c) inside ps rest → ReadsBinding c (group mark Brace inside done) (tree.object_pattern (nothing_of 0) ps rest)
+    an_array_binding : {c : Allowed} {mark : Bool} {inside : Tokens} {es : Trees} {rest : Maybe} → ReadsBindingElements (with_in c) inside es rest → ReadsBinding c (group mark Square inside done) (tree.array_pattern (nothing_of 0) es rest)
+
+  -- an element of a pattern, by itself or with the value that it has where none is given
+  pub data ReadsBindingElement : Allowed → Tokens → Tree → Type 0 where
+    a_binding_alone : {c : Allowed} {ts : Tokens} {b : Tree} → ReadsBinding c ts b → ReadsBindingElement c ts b
+    a_binding_with_default : {c : Allowed} {ts a v : Tokens} {b e : Tree} (mark : Bool) → ts ≡ a ⧺ piece mark (Sign equal) v → ReadsBinding c a b → ReadsExpression c Assignment v e → ReadsBindingElement c ts (tree.assignment_pattern (nothing_of 0) b e)
+
+  -- between the brackets of a pattern: a comma that no element stands before leaves one out, and no comma follows what takes the rest
+  pub data ReadsBindingElements : Allowed → Tokens → Trees → Maybe → Type 0 where
+    no_binding_element : {c : Allowed} → ReadsBindingElements c done no_trees absent
+    last_binding_element : {c : Allowed} {ts : Tokens} {e : Tree} → ReadsBindingElement c ts e → ReadsBindingElements c ts (more e no_trees) absent
+    first_binding_element : {c : Allowed} {ts a b : Tokens} {e : Tree} {es : Trees} {rest : Maybe} (mark : Bool) → ts ≡ a ⧺ piece mark (Sign comma) b → ReadsBindingElement c a e → ReadsBindingElements c b es rest → ReadsBindingElements c ts (more e es) rest
+    a_binding_elision : {c : Allowed} {mark : Bool} {ts : Tokens} {es : Trees} {rest : Maybe} → ReadsBindingElements c ts es rest → ReadsBindingElements c (piece mark (Sign comma) ts) (hole es) rest
+    a_binding_rest : {c : Allowed} {mark : Bool} {ts : Tokens} {b : Tree} → ReadsBinding c ts b → ReadsBindingElements c (piece mark (Sign ellipsis) ts) no_trees (given (tree.binding_rest_element (nothing_of 0) b))
+
+  -- a property by its name alone, which stands for a key and a name, or by a key
+  pub data ReadsBindingProperty : Allowed → Tokens → Tree → Type 0 where
+    a_bound_shorthand : {c : Allowed} {mark : Bool} {w v : List ℕ} → word_value w ≡ Some v → is_free_name v ≡ true → ReadsBindingProperty c (piece mark (Word w) done) (tree.binding_property (computed_values false) (tree.identifier_name (named v)) (tree.binding_identifier (unnumbered v)))
+    a_bound_shorthand_with_default : {c : Allowed} {mark next : Bool} {w v : List ℕ} {ts : Tokens} {e : Tree} → word_value w ≡ Some v → is_free_name v ≡ true → ReadsExpression c Assignment ts e → ReadsBindingProperty c (piece mark (Word w) (piece next (Sign equal) ts)) (tree.binding_property (computed_values false) (tree.identifier_name (named v)) (tree.assignment_pattern (nothing_of 0) (tree.binding_identifier (unnumbered v)) e))
+    a_bound_property : {c : Allowed} {computed : Bool} {ts a b : Tokens} {k t : Tree} (mark : Bool) → ts ≡ a ⧺ piece mark (Sign colon) b → ReadsKey c computed a k → ReadsBindingElement c b t → ReadsBindingProperty c ts (tree.binding_property (computed_values computed) k t)
+
+  -- between the braces of a pattern; what takes the rest is a name
+  pub data ReadsBindingProperties : Allowed → Tokens → Trees → Maybe → Type 0 where
+    no_binding_property : {c : Allowed} → ReadsBindingProperties c done no_trees absent
+    last_binding_property : {c : Allowed} {ts : Tokens} {p : Tree} → ReadsBindingProperty c ts p → ReadsBindingProperties c ts (more p no_trees) absent
+    first_binding_property : {c : Allowed} {ts a b : Tokens} {p : Tree} {ps : Trees} {rest : Maybe} (mark : Bool) → ts ≡ a ⧺ piece mark (Sign comma) b → ReadsBindingProperty c a p → ReadsBindingProperties c b ps rest → ReadsBindingProperties c ts (more p ps) rest
+    a_binding_rest_property : {c : Allowed} {mark next : Bool} {w v : List ℕ} → word_value w ≡ Some v → is_free_name v ≡ true → ReadsBindingProperties c (piece mark (Sign ellipsis) (piece next (Word w) done)) no_trees (given (tree.binding_rest_element (nothing_of 0) (tree.binding_identifier (unnumbered v))))
+
+  -- ---- patterns of targets (13.15.5)
+
+  -- a pattern, whose elements and properties are given to targets
+  pub data ReadsPattern : Allowed → Tokens → Tree → Type 0 where
+    an_array_target : {c : Allowed} {mark : Bool} {inside : Tokens} {es : Trees} {rest : Maybe} → ReadsTargetElements (with_in c) inside es rest → ReadsPattern c (group mark Square inside done) (tree.array_target (nothing_of 0) es rest)
+    an_object_target : {c : Allowed} {mark : Bool} {inside : Tokens} {ps : Trees} {rest : Maybe} → ReadsTargetProperties (with_in c) inside ps rest → ReadsPattern c (group mark Brace inside done) (tree.object_target (nothing_of 0) ps rest)
+
+  pub data ReadsTarget : Allowed → Tokens → Tree → Type 0 where
+    a_simple_target : {c : Allowed} {ts : Tokens} {t u : Tree} → ReadsExpression c LeftHandSide ts t → simple_target t ≡ Some u → ReadsTarget c ts u
+    a_target_pattern : {c : Allowed} {ts : Tokens} {t : Tree} → ReadsPattern c ts t → ReadsTarget c ts t
+
+  -- a target, by itself or with the value that it is given where there is none; a simple one names a function as in an assignment (13.15.5.4)
+  pub data ReadsTargetElement : Allowed → Tokens → Tree → Type 0 where
+    a_target_alone : {c : Allowed} {ts : Tokens} {t : Tree} → ReadsTarget c ts t → ReadsTargetElement c ts t
+    a_target_with_default : {c : Allowed} {ts a b : Tokens} {t u e : Tree} (mark : Bool) → ts ≡ a ⧺ piece mark (Sign equal) b → ReadsExpression c LeftHandSide a t → simple_target t ≡ Some u → ReadsExpression c Assignment b e → names_function assignment_operators.Assign t e ≡ names_function assignment_operators.Assign u e → ReadsTargetElement c ts (tree.target_with_default (nothing_of 0) u e)
+    a_pattern_with_default : {c : Allowed} {ts a b : Tokens} {t e : Tree} (mark : Bool) → ts ≡ a ⧺ piece mark (Sign equal) b → ReadsPattern c a t → ReadsExpression c Assignment b e → ReadsTargetElement c ts (tree.target_with_default (nothing_of 0) t e)
+
+  -- between the brackets, as of a pattern of bindings
+  pub data ReadsTargetElements : Allowed → Tokens → Trees → Maybe → Type 0 where
+    no_target_element : {c : Allowed} → ReadsTargetElements c done no_trees absent
+    last_target_element : {c : Allowed} {ts : Tokens} {e : Tree} → ReadsTargetElement c ts e → ReadsTargetElements c ts (more e no_trees) absent
+    first_target_element : {c : Allowed} {ts a b : Tokens} {e : Tree} {es : Trees} {rest : Maybe} (mark : Bool) → ts ≡ a ⧺ piece mark (Sign comma) b → ReadsTargetElement c a e → ReadsTargetElements c b es rest → ReadsTargetElements c ts (more e es) rest
+    a_target_elision : {c : Allowed} {mark : Bool} {ts : Tokens} {es : Trees} {rest : Maybe} → ReadsTargetElements c ts es rest → ReadsTargetElements c (piece mark (Sign comma) ts) (hole es) rest
+    a_target_rest : {c : Allowed} {mark : Bool} {ts : Tokens} {t : Tree} → ReadsTarget c ts t → ReadsTargetElements c (piece mark (Sign ellipsis) ts) no_trees (given (tree.target_rest (nothing_of 0) t))
+
+  -- between the braces
+  pub data ReadsTargetProperties : Allowed → Tokens → Trees → Maybe → Type 0 where
+    no_target_property : {c : Allowed} → ReadsTargetProperties c done no_trees absent
+    last_target_property : {c : Allowed} {ts : Tokens} {p : Tree} → ReadsTargetProperty c ts p → ReadsTargetProperties c ts (more p no_trees) absent
+    first_target_property : {c : Allowed} {ts a b : Tokens} {p : Tree} {ps : Trees} {rest : Maybe} (mark : Bool) → ts ≡ a ⧺ piece mark (Sign comma) b → ReadsTargetProperty c a p → ReadsTargetProperties c b ps rest → ReadsTargetProperties c ts (more p ps) rest
+    -- it is no pattern (13.15.5.1)
+    a_target_rest_property : {c : Allowed} {mark : Bool} {ts : Tokens} {t u : Tree} → ReadsExpression c LeftHandSide ts t → simple_target t ≡ Some u → ReadsTargetProperties c (piece mark (Sign ellipsis) ts) no_trees (given (tree.target_rest (nothing_of 0) u))
+
+  -- a property by its name alone, which stands for a key and a reference, or by a key
+  pub data ReadsTargetProperty : Allowed → Tokens → Tree → Type 0 where
+    a_target_shorthand : {c : Allowed} {mark : Bool} {w v : List ℕ} → word_value w ≡ Some v → is_free_name v ≡ true → ReadsTargetProperty c (piece mark (Word w) done) (tree.target_property (computed_values false) (tree.identifier_name (named v)) (tree.identifier_reference (unnumbered v)))
+    a_target_shorthand_with_default : {c : Allowed} {mark next : Bool} {w v : List ℕ} {ts : Tokens} {e : Tree} → word_value w ≡ Some v → is_free_name v ≡ true → ReadsExpression c Assignment ts e → ReadsTargetProperty c (piece mark (Word w) (piece next (Sign equal) ts)) (tree.target_property (computed_values false) (tree.identifier_name (named v)) (tree.target_with_default (nothing_of 0) (tree.identifier_reference (unnumbered v)) e))
+    a_target_property : {c : Allowed} {computed : Bool} {ts a b : Tokens} {k t : Tree} (mark : Bool) → ts ≡ a ⧺ piece mark (Sign colon) b → ReadsKey c computed a k → ReadsTargetElement c b t → ReadsTargetProperty c ts (tree.target_property (computed_values computed) k t)
+
+  -- ---- declarations (14.3)
 
   pub data ReadsDeclarator : Allowed → Tokens → Tree → Type 0 where
-    without_value : {c : Allowed} {ts : Tokens} {b : Tree} → ReadsBinding c ts b → ReadsDeclarator c ts (tree.variable_declarator (nothing_of 1) b absent)
+    -- a pattern has a value (14.3.1 and 14.3.2)
+    without_value : {c : Allowed} {mark : Bool} {w v : List ℕ} → word_value w ≡ Some v → is_free_name v ≡ true → ReadsDeclarator c (piece mark (Word w) done) (tree.variable_declarator (nothing_of 1) (tree.binding_identifier (unnumbered v)) absent)
     with_value : {c : Allowed} {ts a v : Tokens} {b e : Tree} (mark : Bool) → ts ≡ a ⧺ piece mark (Sign equal) v → ReadsBinding c a b → ReadsExpression c Assignment v e → ReadsDeclarator c ts (tree.variable_declarator (nothing_of 1) b (given e))
 
   pub data ReadsDeclarators : Allowed → Tokens → Trees → Type 0 where
@@ -490,10 +567,11 @@ mutual
     nothing_there : {c : Allowed} → ReadsPart c done absent
     an_expression_there : {c : Allowed} {ts : Tokens} {e : Tree} → ReadsExpression c Expression ts e → ReadsPart c ts (given e)
 
-  -- what a loop gives its values: one name that is declared, or a simple target. The flag tells that `of` follows (14.7.5)
+  -- what a loop gives its values: one name or one pattern that is declared, a simple target, or a pattern of targets. The flag tells that `of` follows (14.7.5)
   pub data ReadsLeft : Allowed → Bool → Tokens → Tree → Type 0 where
     a_declared_name : {c : Allowed} {before_of mark : Bool} {ts : Tokens} {b : Tree} (kind : VariableDeclarationKind) → ReadsBinding c ts b → ReadsLeft c before_of (piece mark (Word (declaring kind)) ts) (tree.variable_declaration (declared_as kind) (more (tree.variable_declarator (nothing_of 1) b absent) no_trees))
     a_target : {c : Allowed} {before_of : Bool} {ts : Tokens} {t u : Tree} → (not before_of || may_precede_of ts) ≡ true → ReadsExpression c LeftHandSide ts t → simple_target t ≡ Some u → ReadsLeft c before_of ts u
+    a_left_pattern : {c : Allowed} {before_of : Bool} {ts : Tokens} {t : Tree} → ReadsPattern c ts t → ReadsLeft c before_of ts t
 
   -- what a jump leads to, on the line of its word (14.8 and 14.9)
   pub data ReadsLabel : Tokens → Maybe → Type 0 where

@@ -1,6 +1,6 @@
 -- What two trees of one meaning have in common.
 use Rattle.std.specs.Prelude.{ℕ, List, [], ◌∷◌, Bool, true, false, not, flat_map, Option, Some, None, decimal, if◌then◌else◌, ◌&&◌, ◌||◌, nat_lt}
-use Rattle.jsgen_tree.specs.Atom.{Atom, no_value, text, units, flag, numeric_kind, declaration_kind, kind_of_function, binary_operator, logical_operator, unary_operator, update_operator, property_kind, assignment_operator, kind_of_method}
+use Rattle.jsgen_tree.specs.Atom.{Atom, no_value, text, units, flag, numeric_kind, declaration_kind, kind_of_function, binary_operator, logical_operator, unary_operator, update_operator, property_kind, assignment_operator, kind_of_method, class_form, kind_of_import, with_keyword}
 use Rattle.std.specs.List.{list_all}
 use Rattle.std.specs.Option.{option_map_or}
 use Rattle.std.specs.Char.Escape.{encode_utf16}
@@ -8,7 +8,7 @@ use Rattle.jsgen_tree.specs.Number.{NumericKind, Whole, Raw}
 use Rattle.jsgen_tree.specs.Tree.{Tree, node, Slots, no_slots, one, maybe, many, maybe_many, Maybe, absent, given, Trees, no_trees, more, hole, MaybeTrees, no_list, listed, Atoms}
 use Rattle.jsgen_tree.specs.declared.types.NodeType.TheVariants as types
 use Rattle.jsgen_tree.specs.Places.{bare, absent_values}
-use Rattle.jsgen_tree.specs.Values.{directive_directive, variable_declaration_kind, binding_identifier_name, identifier_reference_name, identifier_name_name, label_identifier_name, for_of_statement_is_await, boolean_literal_value, numeric_literal_kind, numeric_literal_negative, numeric_literal_digits, numeric_literal_text, big_int_literal_value, string_literal_value, binary_expression_operator, logical_expression_operator, unary_expression_operator, update_expression_operator, update_expression_prefix, variable_declaration_declare, variable_declarator_definite, static_member_expression_optional, computed_member_expression_optional, call_expression_optional, object_property_kind, object_property_method, object_property_shorthand, object_property_computed, assignment_expression_operator, function_kind, function_is_async, function_generator, function_declare, formal_parameter_is_override, formal_parameter_readonly, formal_parameter_optional, arrow_function_expression_is_async, reg_exp_literal_pattern, reg_exp_literal_flags, method_definition_kind, method_definition_computed, method_definition_is_static, method_definition_is_override, method_definition_is_abstract, method_definition_optional, template_element_raw, template_element_cooked}
+use Rattle.jsgen_tree.specs.Values.{directive_directive, variable_declaration_kind, binding_identifier_name, identifier_reference_name, identifier_name_name, label_identifier_name, for_of_statement_is_await, boolean_literal_value, numeric_literal_kind, numeric_literal_negative, numeric_literal_digits, numeric_literal_text, big_int_literal_value, string_literal_value, binary_expression_operator, logical_expression_operator, unary_expression_operator, update_expression_operator, update_expression_prefix, variable_declaration_declare, variable_declarator_definite, static_member_expression_optional, computed_member_expression_optional, call_expression_optional, object_property_kind, object_property_method, object_property_shorthand, object_property_computed, assignment_expression_operator, function_kind, function_is_async, function_generator, function_declare, formal_parameter_is_override, formal_parameter_readonly, formal_parameter_optional, arrow_function_expression_is_async, reg_exp_literal_pattern, reg_exp_literal_flags, method_definition_kind, method_definition_computed, method_definition_is_static, method_definition_is_override, method_definition_is_abstract, method_definition_optional, template_element_raw, template_element_cooked, assignment_target_property_property_computed, binding_property_computed, class_declare, class_is_abstract, class_kind, export_from_declaration_export_kind, export_named_declaration_export_kind, hashbang_value, import_declaration_import_kind, private_field_expression_optional, private_identifier_name, property_definition_computed, property_definition_declare, property_definition_definite, property_definition_is_abstract, property_definition_is_override, property_definition_is_static, property_definition_optional, property_definition_readonly, with_clause_keyword, yield_expression_delegate}
 use Rattle.jsgen_syntax.specs.Raw.{directive_value, pattern_text}
 use Rattle.jsgen_syntax.specs.declared.operator.LogicalOperator.{LogicalOperator}
 use Rattle.jsgen_syntax.specs.declared.operator.UnaryOperator.TheVariants.{UnaryNegation}
@@ -205,6 +205,7 @@ untagged pieces expressions = tree.template_literal (nothing_of 0) pieces expres
 -- a name by its text, whether it is written as a name or as a string (ECMA-262, 16.2, ModuleExportName)
 abbrev pub by_its_text : Tree → Tree
 by_its_text (tree.identifier_name a) = tree.string_literal (bare (units (flat_map encode_utf16 (identifier_name_name a)) ∷ []))
+by_its_text (tree.identifier_reference a) = tree.string_literal (bare (units (flat_map encode_utf16 (identifier_reference_name a)) ∷ []))
 by_its_text t = t
 
 abbrev pub maybe_by_its_text : Maybe → Maybe
@@ -238,11 +239,12 @@ abbrev mutual
   normal (tree.method_definition a key value) = tree.method_definition (method_values (as_method (method_definition_kind a)) (method_definition_computed a) (method_definition_is_static a) (if_set (method_definition_is_override a)) (if_set (method_definition_is_abstract a)) (if_set (method_definition_optional a))) (normal key) (normal value)
   normal (tree.target_property_identifier a binding init) = written_out (nothing_of 0) (normal binding) (normal binding) (normal_maybe init)
   normal (tree.template_literal a quasis expressions) = untagged (by_values quasis) (normal_trees expressions)
-  normal (tree.tagged_template a tag quasi) = tree.tagged_template (bare a.values) (normal tag) (normal_quasi quasi)
+  normal (tree.tagged_template a tag quasi) = tree.tagged_template (nothing_of 0) (normal tag) (normal_quasi quasi)
   normal (tree.import_specifier a imported local) = tree.import_specifier (bare a.values) (by_its_text (normal imported)) (normal local)
   normal (tree.export_specifier a local exported) = tree.export_specifier (bare a.values) (by_its_text (normal local)) (by_its_text (normal exported))
   normal (tree.export_all_declaration a exported source with_clause) = tree.export_all_declaration (bare a.values) (maybe_by_its_text (normal_maybe exported)) (normal source) (normal_maybe with_clause)
   normal (tree.comment a) = tree.comment (bare a.values)
+  normal (tree.template_element a) = tree.template_element (bare a.values)
   -- generated from tools/nodes/table.txt: clauses
   normal (tree.variable_declaration a declarations) = tree.variable_declaration (bare (declaration_kind (variable_declaration_kind a) ∷ if_set (variable_declaration_declare a) ∷ [])) (normal_trees declarations)
   normal (tree.variable_declarator a id init) = tree.variable_declarator (bare (if_set (variable_declarator_definite a) ∷ [])) (normal id) (normal_maybe init)
@@ -263,6 +265,7 @@ abbrev mutual
   normal (tree.update a argument) = tree.update (bare (update_operator (update_expression_operator a) ∷ flag (update_expression_prefix a) ∷ [])) (normal argument)
   normal (tree.new_expression a callee arguments) = tree.new_expression (nothing_of 1) (normal callee) (normal_trees arguments)
   normal (tree.super a) = tree.super (nothing_of 0)
+  normal (tree.import_meta a) = tree.import_meta (nothing_of 0)
   normal (tree.conditional a test consequent alternate) = tree.conditional (nothing_of 0) (normal test) (normal consequent) (normal alternate)
   normal (tree.assignment a left right) = tree.assignment (bare (assignment_operator (assignment_expression_operator a) ∷ [])) (normal left) (normal right)
   normal (tree.formal_parameter a pattern initializer) = tree.formal_parameter (bare (if_set (formal_parameter_is_override a) ∷ if_set (formal_parameter_readonly a) ∷ if_set (formal_parameter_optional a) ∷ [])) (normal pattern) (normal_maybe initializer)
@@ -270,6 +273,9 @@ abbrev mutual
   normal (tree.formal_parameters a items rest) = tree.formal_parameters (nothing_of 0) (normal_trees items) (normal_maybe rest)
   normal (tree.function_body a directives statements) = tree.function_body (nothing_of 0) (normal_trees directives) (normal_trees statements)
   normal (tree.arrow_function a params body) = tree.arrow_function (bare (if_set (arrow_function_expression_is_async a) ∷ no_value ∷ no_value ∷ [])) (normal params) (normal body)
+  normal (tree.await_expression a argument) = tree.await_expression (nothing_of 0) (normal argument)
+  normal (tree.yield_expression a argument) = tree.yield_expression (bare (flag (yield_expression_delegate a) ∷ [])) (normal_maybe argument)
+  normal (tree.import_call a source options) = tree.import_call (nothing_of 0) (normal source) (normal_maybe options)
   normal (tree.for_statement a init test update body) = tree.for_statement (nothing_of 0) (normal_maybe init) (normal_maybe test) (normal_maybe update) (normal body)
   normal (tree.for_in_statement a left right body) = tree.for_in_statement (nothing_of 0) (normal left) (normal right) (normal body)
   normal (tree.for_of_statement a left right body) = tree.for_of_statement (bare (if_set (for_of_statement_is_await a) ∷ [])) (normal left) (normal right) (normal body)
@@ -285,6 +291,33 @@ abbrev mutual
   normal (tree.switch_case a test consequent) = tree.switch_case (nothing_of 0) (normal_maybe test) (normal_trees consequent)
   normal (tree.try_statement a block handler finalizer) = tree.try_statement (nothing_of 0) (normal block) (normal_maybe handler) (normal_maybe finalizer)
   normal (tree.catch_clause a param body) = tree.catch_clause (nothing_of 0) (normal_maybe param) (normal body)
+  normal (tree.object_pattern a properties rest) = tree.object_pattern (nothing_of 0) (normal_trees properties) (normal_maybe rest)
+  normal (tree.binding_property a key value) = tree.binding_property (bare (flag (binding_property_computed a) ∷ [])) (normal key) (normal value)
+  normal (tree.binding_rest_element a argument) = tree.binding_rest_element (nothing_of 0) (normal argument)
+  normal (tree.array_pattern a elements rest) = tree.array_pattern (nothing_of 0) (normal_trees elements) (normal_maybe rest)
+  normal (tree.assignment_pattern a left right) = tree.assignment_pattern (nothing_of 0) (normal left) (normal right)
+  normal (tree.array_target a elements rest) = tree.array_target (nothing_of 0) (normal_trees elements) (normal_maybe rest)
+  normal (tree.object_target a properties rest) = tree.object_target (nothing_of 0) (normal_trees properties) (normal_maybe rest)
+  normal (tree.target_with_default a binding init) = tree.target_with_default (nothing_of 0) (normal binding) (normal init)
+  normal (tree.target_property a the_name binding) = tree.target_property (bare (flag (assignment_target_property_property_computed a) ∷ [])) (normal the_name) (normal binding)
+  normal (tree.target_rest a target) = tree.target_rest (nothing_of 0) (normal target)
+  normal (tree.private_identifier a) = tree.private_identifier (bare (text (private_identifier_name a) ∷ []))
+  normal (tree.private_member a object field) = tree.private_member (bare (flag (private_field_expression_optional a) ∷ [])) (normal object) (normal field)
+  normal (tree.private_in a left right) = tree.private_in (nothing_of 0) (normal left) (normal right)
+  normal (tree.class a id heritage body) = tree.class (bare (class_form (class_kind a) ∷ if_set (class_declare a) ∷ if_set (class_is_abstract a) ∷ [])) (normal_maybe id) (normal_maybe heritage) (normal body)
+  normal (tree.class_body a body) = tree.class_body (nothing_of 0) (normal_trees body)
+  normal (tree.static_block a body) = tree.static_block (nothing_of 0) (normal_trees body)
+  normal (tree.property_definition a key value) = tree.property_definition (bare (flag (property_definition_computed a) ∷ if_set (property_definition_declare a) ∷ if_set (property_definition_is_abstract a) ∷ flag (property_definition_is_static a) ∷ if_set (property_definition_is_override a) ∷ if_set (property_definition_readonly a) ∷ if_set (property_definition_optional a) ∷ if_set (property_definition_definite a) ∷ [])) (normal key) (normal_maybe value)
+  normal (tree.hashbang a) = tree.hashbang (bare (text (hashbang_value a) ∷ []))
+  normal (tree.import_declaration a specifiers source with_clause) = tree.import_declaration (bare (kind_of_import (import_declaration_import_kind a) ∷ [])) (normal_maybe_trees specifiers) (normal source) (normal_maybe with_clause)
+  normal (tree.import_default_specifier a local) = tree.import_default_specifier (nothing_of 0) (normal local)
+  normal (tree.import_namespace_specifier a local) = tree.import_namespace_specifier (nothing_of 0) (normal local)
+  normal (tree.with_clause a entries) = tree.with_clause (bare (with_keyword (with_clause_keyword a) ∷ [])) (normal_trees entries)
+  normal (tree.import_attribute a key value) = tree.import_attribute (nothing_of 0) (normal key) (normal value)
+  normal (tree.export_declaration a declaration) = tree.export_declaration (nothing_of 0) (normal declaration)
+  normal (tree.export_named_declaration a specifiers) = tree.export_named_declaration (bare (kind_of_import (export_named_declaration_export_kind a) ∷ [])) (normal_trees specifiers)
+  normal (tree.export_from_declaration a specifiers source with_clause) = tree.export_from_declaration (bare (kind_of_import (export_from_declaration_export_kind a) ∷ [])) (normal_trees specifiers) (normal source) (normal_maybe with_clause)
+  normal (tree.export_default_declaration a declaration) = tree.export_default_declaration (nothing_of 0) (normal declaration)
   -- end of what is generated: clauses
   normal (node type a slots) = node type (bare a.values) (normal_slots slots)
 

@@ -1,4 +1,4 @@
--- The trees of which a reading is promised.
+-- The trees of which a reading is promised: core, and among these the plain ones.
 use Rattle.std.specs.Prelude.{◌≡◌, ◌^◌, ◌&&◌, ◌⊎◌, Bool, true, false, not, nat_lt, codes}
 use Rattle.jsgen_syntax.specs.Wtf8.{are_units}
 use Rattle.jsgen_syntax.specs.declared.span.SourceKind.{SourceKind}
@@ -19,67 +19,89 @@ use Rattle.jsgen_tree.specs.Job.{JobData}
 -- ---- types and flags
 
 -- Each type of which no reading is promised is left out here by its name.
-abbrev pub is_plain_type : NodeType → Bool
+abbrev pub is_core_type : NodeType → Bool
 -- generated from tools/nodes/table.txt: types
-is_plain_type types.RegExpLiteral = false
-is_plain_type types.ImportMeta = false
-is_plain_type types.AwaitExpression = false
-is_plain_type types.YieldExpression = false
-is_plain_type types.TemplateElement = false
-is_plain_type types.TemplateLiteral = false
-is_plain_type types.TaggedTemplateExpression = false
-is_plain_type types.ImportExpression = false
-is_plain_type types.ObjectPattern = false
-is_plain_type types.BindingProperty = false
-is_plain_type types.BindingRestElement = false
-is_plain_type types.ArrayPattern = false
-is_plain_type types.AssignmentPattern = false
-is_plain_type types.ArrayAssignmentTarget = false
-is_plain_type types.ObjectAssignmentTarget = false
-is_plain_type types.AssignmentTargetWithDefault = false
-is_plain_type types.AssignmentTargetPropertyIdentifier = false
-is_plain_type types.AssignmentTargetPropertyProperty = false
-is_plain_type types.AssignmentTargetRest = false
-is_plain_type types.PrivateIdentifier = false
-is_plain_type types.PrivateFieldExpression = false
-is_plain_type types.PrivateInExpression = false
-is_plain_type types.Class = false
-is_plain_type types.ClassBody = false
-is_plain_type types.StaticBlock = false
-is_plain_type types.MethodDefinition = false
-is_plain_type types.PropertyDefinition = false
-is_plain_type types.Hashbang = false
-is_plain_type types.ImportDeclaration = false
-is_plain_type types.ImportDefaultSpecifier = false
-is_plain_type types.ImportNamespaceSpecifier = false
-is_plain_type types.ImportSpecifier = false
-is_plain_type types.WithClause = false
-is_plain_type types.ImportAttribute = false
-is_plain_type types.ExportDeclaration = false
-is_plain_type types.ExportNamedDeclaration = false
-is_plain_type types.ExportFromDeclaration = false
-is_plain_type types.ExportSpecifier = false
-is_plain_type types.ExportAllDeclaration = false
-is_plain_type types.ExportDefaultDeclaration = false
+is_core_type types.RegExpLiteral = false
+is_core_type types.ImportMeta = false
+is_core_type types.AwaitExpression = false
+is_core_type types.YieldExpression = false
+is_core_type types.TemplateElement = false
+is_core_type types.TemplateLiteral = false
+is_core_type types.TaggedTemplateExpression = false
+is_core_type types.ImportExpression = false
+is_core_type types.PrivateIdentifier = false
+is_core_type types.PrivateFieldExpression = false
+is_core_type types.PrivateInExpression = false
+is_core_type types.Class = false
+is_core_type types.ClassBody = false
+is_core_type types.StaticBlock = false
+is_core_type types.MethodDefinition = false
+is_core_type types.PropertyDefinition = false
+is_core_type types.Hashbang = false
+is_core_type types.ImportDeclaration = false
+is_core_type types.ImportDefaultSpecifier = false
+is_core_type types.ImportNamespaceSpecifier = false
+is_core_type types.ImportSpecifier = false
+is_core_type types.WithClause = false
+is_core_type types.ImportAttribute = false
+is_core_type types.ExportDeclaration = false
+is_core_type types.ExportNamedDeclaration = false
+is_core_type types.ExportFromDeclaration = false
+is_core_type types.ExportSpecifier = false
+is_core_type types.ExportAllDeclaration = false
+is_core_type types.ExportDefaultDeclaration = false
 -- end of what is generated: types
-is_plain_type type = true
+is_core_type type = true
 
 -- no flag is set of which no reading is promised
-abbrev pub has_plain_flags : NodeType → Atoms → Bool
+abbrev pub has_core_flags : NodeType → Atoms → Bool
 -- generated from tools/nodes/table.txt: flags
-has_plain_flags types.VariableDeclaration a = not (variable_declaration_declare a)
-has_plain_flags types.VariableDeclarator a = not (variable_declarator_definite a)
-has_plain_flags types.FormalParameter a = not (formal_parameter_is_override a) && not (formal_parameter_readonly a) && not (formal_parameter_optional a)
-has_plain_flags types.Function a = not (function_is_async a) && not (function_generator a) && not (function_declare a)
-has_plain_flags types.ArrowFunctionExpression a = not (arrow_function_expression_is_async a)
-has_plain_flags types.ForOfStatement a = not (for_of_statement_is_await a)
-has_plain_flags types.Class a = not (class_declare a) && not (class_is_abstract a)
-has_plain_flags types.MethodDefinition a = not (method_definition_is_override a) && not (method_definition_is_abstract a) && not (method_definition_optional a)
-has_plain_flags types.PropertyDefinition a = not (property_definition_declare a) && not (property_definition_is_abstract a) && not (property_definition_is_override a) && not (property_definition_readonly a) && not (property_definition_optional a) && not (property_definition_definite a)
+has_core_flags types.VariableDeclaration a = not (variable_declaration_declare a)
+has_core_flags types.VariableDeclarator a = not (variable_declarator_definite a)
+has_core_flags types.FormalParameter a = not (formal_parameter_is_override a) && not (formal_parameter_readonly a) && not (formal_parameter_optional a)
+has_core_flags types.Function a = not (function_is_async a) && not (function_generator a) && not (function_declare a)
+has_core_flags types.ArrowFunctionExpression a = not (arrow_function_expression_is_async a)
+has_core_flags types.ForOfStatement a = not (for_of_statement_is_await a)
+has_core_flags types.Class a = not (class_declare a) && not (class_is_abstract a)
+has_core_flags types.MethodDefinition a = not (method_definition_is_override a) && not (method_definition_is_abstract a) && not (method_definition_optional a)
+has_core_flags types.PropertyDefinition a = not (property_definition_declare a) && not (property_definition_is_abstract a) && not (property_definition_is_override a) && not (property_definition_readonly a) && not (property_definition_optional a) && not (property_definition_definite a)
 -- end of what is generated: flags
-has_plain_flags type a = true
+has_core_flags type a = true
 
 -- by its type and its flags a reading is promised of the node
+abbrev pub is_core_by_type : Tree → Bool
+is_core_by_type (node type a slots) = is_core_type type && has_core_flags type a
+
+-- Of these types all are plain but those that are named here.
+abbrev pub is_core_alone : NodeType → Bool
+-- generated from tools/nodes/table.txt: core_types
+is_core_alone types.ObjectPattern = true
+is_core_alone types.BindingProperty = true
+is_core_alone types.BindingRestElement = true
+is_core_alone types.ArrayPattern = true
+is_core_alone types.AssignmentPattern = true
+is_core_alone types.ArrayAssignmentTarget = true
+is_core_alone types.ObjectAssignmentTarget = true
+is_core_alone types.AssignmentTargetWithDefault = true
+is_core_alone types.AssignmentTargetPropertyIdentifier = true
+is_core_alone types.AssignmentTargetPropertyProperty = true
+is_core_alone types.AssignmentTargetRest = true
+-- end of what is generated: core_types
+is_core_alone type = false
+
+-- a flag is set that no plain node has
+abbrev pub sets_core_flag : NodeType → Atoms → Bool
+-- generated from tools/nodes/table.txt: core_flags
+-- end of what is generated: core_flags
+sets_core_flag type a = false
+
+abbrev pub is_plain_type : NodeType → Bool
+is_plain_type type = is_core_type type && not (is_core_alone type)
+
+abbrev pub has_plain_flags : NodeType → Atoms → Bool
+has_plain_flags type a = has_core_flags type a && not (sets_core_flag type a)
+
+-- by its type and its flags the node is plain
 abbrev pub is_plain_by_type : Tree → Bool
 is_plain_by_type (node type a slots) = is_plain_type type && has_plain_flags type a
 
@@ -212,7 +234,14 @@ is_formed (tree.export_default_declaration a declaration) = true
 -- end of what is generated: formed
 is_formed t = false
 
--- ---- plain
+-- ---- core, and plain
+
+-- the word that grows: each family of which a reading is proved joins it
+abbrev pub is_core_row : Tree → Bool
+is_core_row t = is_core_by_type t && is_formed t
+
+abbrev pub IsCore : Tree → Type 0
+IsCore t = Everywhere is_core_row t
 
 abbrev pub is_plain_row : Tree → Bool
 is_plain_row t = is_plain_by_type t && is_formed t

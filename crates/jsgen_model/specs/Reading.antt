@@ -15,3 +15,15 @@ pub record IsReadAs (text : List ℕ) (job : JobData) : Type 0 where
   pub reading : Tree
   pub reads : ReadsModule tokens reading
   pub same : normal reading ≡ normal (renamed job.tables job.program)
+
+-- whatever plain tokens the text has, and whatever program they are read as, this has that normal form
+abbrev pub IsReadOnlyAs : List ℕ → JobData → Type 0
+IsReadOnlyAs text job = (ts : Tokens) (p : Tree) → AreTokensOf text ts → are_plain ts ≡ true → ReadsModule ts p → normal p ≡ normal (renamed job.tables job.program)
+
+-- the text has tokens, which are read as such a program
+pub record HasReading (text : List ℕ) (job : JobData) : Type 0 where
+  pub tokens : Tokens
+  pub are_tokens : AreTokensOf text tokens
+  pub reading : Tree
+  pub reads : ReadsModule tokens reading
+  pub same : normal reading ≡ normal (renamed job.tables job.program)

@@ -5,4 +5,4 @@ mod fault;
 mod laws;
 
 pub use fault::TreeFault;
-pub use laws::{kept_classes_are_enough, plain_by_types};
+pub use laws::{core_by_types, kept_classes_are_enough, plain_by_types, plain_is_core};

@@ -21,7 +21,7 @@ target : {c : Allowed} {ts : Tokens} {t : Tree} → ReadsExpression c Primary ts
 target r = grammar.a_new (grammar.a_member (grammar.a_primary r))
 
 one_name : {c : Allowed} {kind : VariableDeclarationKind} {mark next : Bool} {w v : List ℕ} → word_value w ≡ Some v → is_free_name v ≡ true → ReadsVariables c kind (piece mark (Word (declaring kind)) (piece next (Word w) done)) (statements.declaration_of kind v)
-one_name e h = grammar.some_variables (grammar.last_declarator (grammar.without_value (grammar.a_bound_name e h)))
+one_name e h = grammar.some_variables (grammar.last_declarator (grammar.without_value e h))
 
 pub let_declaration : IsRead (codes "let a;") (samples.module_of (more (statements.declaration_of Let (codes "a")) no_trees))
 unfolding unicode_ident longer_stands word_value

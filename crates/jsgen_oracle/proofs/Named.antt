@@ -9,9 +9,9 @@ use Rattle.jsgen_syntax.specs.declared.operator.UnaryOperator.TheVariants as una
 use Rattle.jsgen_syntax.specs.declared.operator.AssignmentOperator.{AssignmentOperator}
 use Rattle.jsgen_tree.specs.Tree.{Tree}
 use Rattle.jsgen_tree.specs.Nodes as tree
-use Rattle.jsgen_model.specs.Punctuator.{dot, question_dot, comma, star_star, and_and, or_or, nullish, question, arrow, Round, Square, Brace}
+use Rattle.jsgen_model.specs.Punctuator.{dot, question_dot, comma, star_star, and_and, or_or, nullish, question, equal, arrow, Round, Square, Brace}
 use Rattle.jsgen_model.specs.Tokens.{Tokens, done, piece, group, ◌⧺◌, Word, Sign}
-use Rattle.jsgen_model.specs.Grammar.{Allowed, Level, ReadsExpression, ReadsArrowParameters, ReadsChain, ReadsChainBase, operator_piece, unary_piece, update_sign, assignment_sign, simple_target, may_name, is_reference, is_anonymous_function, names_function}
+use Rattle.jsgen_model.specs.Grammar.{Allowed, Level, ReadsExpression, ReadsArrowParameters, ReadsPattern, ReadsChain, ReadsChainBase, operator_piece, unary_piece, update_sign, assignment_sign, simple_target, may_name, is_reference, is_anonymous_function, names_function}
 use Rattle.jsgen_model.specs.Grammar as grammar
 use Rattle.jsgen_model.specs.Normal.{nothing_of}
 
@@ -101,11 +101,16 @@ parameters_filled : {c : Allowed} {ts : Tokens} {t : Tree} → ReadsArrowParamet
 parameters_filled (grammar.a_parameter_name e h) = refl
 parameters_filled (grammar.grouped_parameters r) = refl
 
+pattern_filled : {c : Allowed} {ts : Tokens} {t : Tree} → ReadsPattern c ts t → has_tokens ts ≡ true
+pattern_filled (grammar.an_array_target r) = refl
+pattern_filled (grammar.an_object_target r) = refl
+
 mutual
   pub tells : {c : Allowed} {g : Level} {ts : Tokens} {t : Tree} → ReadsExpression c g ts t → Told ts t
   tells (grammar.an_assignment r) = tells r
   tells (grammar.a_sequence {a = a} {t = t} m e r s) = behind a (piece m (Sign comma) _) t _ e (tells r) tt
   tells (grammar.an_assignment_to {a = a} {t = t} o m e r s w n) = behind a (piece m (Sign (assignment_sign o)) _) t _ e (tells r) tt
+  tells (grammar.an_assignment_to_pattern {a = a} m e r s) = behind_tokens a (piece m (Sign equal) _) _ e (pattern_filled r) tt
   tells (grammar.a_conditional r) = tells r
   tells (grammar.a_short_circuit r) = tells r
   tells (grammar.a_logical_or r) = tells r

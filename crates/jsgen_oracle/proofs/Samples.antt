@@ -169,7 +169,7 @@ unfolding unicode_ident longer_stands word_value
 without_value = (
   word (codes "const") (word (codes "a") (sign semicolon done)),
   ([], codes " a;", refl, refl, refl, refl, refl, (codes " ", codes ";", refl, refl, refl, refl, refl, ([], [], refl, refl, refl, refl, refl, refl))),
-  undirected refl (grammar.last_statement (grammar.a_declaration Const refl (grammar.a_semicolon {a = word (codes "const") (word (codes "a") done)} false refl) (grammar.some_variables (grammar.last_declarator (grammar.without_value (grammar.a_bound_name value_a free_a)))))),
+  undirected refl (grammar.last_statement (grammar.a_declaration Const refl (grammar.a_semicolon {a = word (codes "const") (word (codes "a") done)} false refl) (grammar.some_variables (grammar.last_declarator (grammar.without_value value_a free_a))))),
 )
 
 pub over_lines : IsRead (codes "a\n+b;") (samples.module_of (more (samples.statement_of (samples.sum_of samples.a samples.b)) no_trees))

@@ -304,6 +304,10 @@ assigned_passes {i} {ts} {a} {b} o m e n r s = go (is_name_in_parentheses a) (is
     go true false h k = by (further first) (a_part e refl r (a_token (assignment_is o) (whole (ap not k) s)))
     go true true h k = by third (a_part e refl r (a_token (only_assignment_is o (n h k)) (alone s)))
 
+-- a pattern passes as the array or the object that its brackets may be
+bracketed : {i : Bool} {ts : Tokens} → Passes (expression i Primary) ts → Passes (target i) ts
+bracketed r = by first (alone (by first (alone (by first (alone r)))))
+
 abbrev pub is_left : Level → Bool
 is_left LeftHandSide = true
 is_left l = false
@@ -318,6 +322,8 @@ mutual
   passed (grammar.a_sequence m e r s) = by second (apart _ _ e refl (passed r) (parts_pass s))
   passed (grammar.a_conditional r) = by first (alone (passed r))
   passed (grammar.an_assignment_to o m e r h s n) = assigned_passes o m e (unnamed o r h s n) (target_passes r refl h) (passed s)
+  passed (grammar.an_assignment_to_pattern m e (grammar.an_array_target r) s) = by second (a_part e refl (bracketed (by third (some_brackets the_end))) (a_token refl (alone (passed s))))
+  passed (grammar.an_assignment_to_pattern m e (grammar.an_object_target r) s) = by second (a_part e refl (bracketed (by (further first) (some_brackets the_end))) (a_token refl (alone (passed s))))
   passed (grammar.a_short_circuit r) = by first (alone (passed r))
   passed (grammar.a_logical_or r) = by first (alone (passed r))
   passed (grammar.a_logical_and r) = by first (alone (passed r))
@@ -417,6 +423,8 @@ init_passes (grammar.first_expression r) = by third (alone (passed r))
 left_passes : {c : Allowed} {before_of : Bool} {ts : Tokens} {t : Tree} → ReadsLeft c before_of ts t → c.in_operator ≡ true → Passes (left before_of) ts
 left_passes (grammar.a_declared_name kind r) i = by first (a_token (declaring_is kind) anything)
 left_passes {ts = ts} (grammar.a_target h r k) i = by second (whole h (subst (λ x. Passes (target x) ts) i (target_passes r refl k)))
+left_passes {before_of} (grammar.a_left_pattern (grammar.an_array_target r)) i = by second (whole (or_right (not before_of) true refl) (bracketed (by third (some_brackets the_end))))
+left_passes {before_of} (grammar.a_left_pattern (grammar.an_object_target r)) i = by second (whole (or_right (not before_of) true refl) (bracketed (by (further first) (some_brackets the_end))))
 
 -- a statement that its first word tells
 told : {m : Bool} {w : List ℕ} {ts : Tokens} → begins_other (Word w) ≡ true → Passes statement (piece m (Word w) ts)

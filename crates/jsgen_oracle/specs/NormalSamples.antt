@@ -325,5 +325,7 @@ pub record NormalSamples : Type 0 where
   pub name_of_an_export : AreOne (tree.export_specifier (nothing_of 1) a (key_of (codes "b"))) (tree.export_specifier (nothing_of 1) a (string_of (codes "b")))
   -- `export{a as b}` and `export{a as c}`
   pub other_name_of_an_export : AreTwo (tree.export_specifier (nothing_of 1) a (key_of (codes "b"))) (tree.export_specifier (nothing_of 1) a (key_of (codes "c")))
+  -- `a as b` of a binding, and of a name, as behind `from`
+  pub exported_by_text : AreOne (tree.export_specifier (nothing_of 1) a (key_of (codes "b"))) (tree.export_specifier (nothing_of 1) (key_of (codes "a")) (key_of (codes "b")))
   -- `export{a as b}` of a binding, and of a name, as behind `from`
-  pub exported_or_passed_on : AreTwo (tree.export_specifier (nothing_of 1) a (key_of (codes "b"))) (tree.export_specifier (nothing_of 1) (key_of (codes "a")) (key_of (codes "b")))
+  pub exported_or_passed_on : AreTwo (tree.export_named_declaration (nothing_of 1) (alone (tree.export_specifier (nothing_of 1) a (key_of (codes "b"))))) (tree.export_from_declaration (nothing_of 1) (alone (tree.export_specifier (nothing_of 1) (key_of (codes "a")) (key_of (codes "b")))) (string_of (codes "c")) absent)

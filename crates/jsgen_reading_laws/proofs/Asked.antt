@@ -140,6 +140,7 @@ asked (family.an_update s v) = no_string refl (λ a. (refl, refl, refl, refl)) r
 asked (family.a_construction v w) = no_string refl (λ a. (refl, refl, refl, refl)) refl refl refl refl
 asked (family.a_choice v w x) = no_string refl (λ a. (refl, refl, refl, refl)) refl refl refl refl
 asked (family.a_sequence v w x) = no_string refl (λ a. (refl, refl, refl, refl)) refl refl refl refl
+asked (family.an_assignment_to_pattern o v w) = no_string refl (λ a. (refl, refl, refl, refl)) refl refl refl refl
 asked (family.an_assignment s v w) = no_string refl (λ a. (refl, refl, refl, refl)) refl refl refl refl
 asked family.a_new_target = no_string refl (λ a. (refl, refl, refl, refl)) refl refl refl refl
 asked (family.an_arrow_function h v w) = no_string refl (λ a. (refl, refl, refl, refl)) refl refl refl refl

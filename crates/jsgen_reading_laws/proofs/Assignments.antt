@@ -34,7 +34,7 @@ use Rattle.jsgen_reading_laws.proofs.Chains.{punctuator_between}
 
 -- ---- the sign
 
-assignment_between : {names : Tables} (o : AssignmentOperator) → Between names (assignment_item o) (Sign (assignment_sign o))
+pub assignment_between : {names : Tables} (o : AssignmentOperator) → Between names (assignment_item o) (Sign (assignment_sign o))
 assignment_between operators.Assign = punctuator_between _ tt tt tt
 assignment_between o = punctuator_between _ tt tt tt
 

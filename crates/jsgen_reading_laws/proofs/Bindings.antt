@@ -24,8 +24,6 @@ use Rattle.jsgen_token_laws.proofs.Last.{Last, After, line_of, Operand, Ready, b
 use Rattle.jsgen_token_laws.proofs.Writes.{Writes, wrote_both}
 use Rattle.jsgen_token_laws.proofs.Steps.{Soft, wrote_name, wrote_punctuator, soft_space_written}
 use Rattle.jsgen_reading_laws.proofs.Levels.{under}
-use Rattle.jsgen_reading_laws.proofs.Families.{IsBinding}
-use Rattle.jsgen_reading_laws.proofs.Families as family
 use Rattle.jsgen_reading_laws.proofs.Names.{free_spelled}
 use Rattle.jsgen_reading_laws.proofs.Good.{Good, Printed}
 use Rattle.jsgen_reading_laws.proofs.Lists.{Element, GivesElement}
@@ -44,7 +42,7 @@ pub record GoodBinding (names : Tables) (p : Pen) (l : Last) (q : Pen) (c : Allo
 abbrev pub Bound : Tables → Allowed → Tree → Type 0
 Bound names c t = (place : Place) (p : Pen) (l : Last) → p.pending_semicolon ≡ false → Ready l → Knows names p l → GoodBinding names p l (layout (spell t place) p) (under place c) t
 
-good_bound_name : {names : Tables} (c : Allowed) (a : Atoms) → is_free_name (printed_name names (binding_named a)) ≡ true → Bound names c (tree.binding_identifier a)
+pub good_bound_name : {names : Tables} (c : Allowed) (a : Atoms) → is_free_name (printed_name names (binding_named a)) ≡ true → Bound names c (tree.binding_identifier a)
 good_bound_name {names} c a h place p l z y k =
     let v : List ℕ = printed_name names (binding_named a) in
     record {
@@ -58,9 +56,6 @@ good_bound_name {names} c a h place p l z y k =
       same = refl;
     }
 
-pub bound : {names : Tables} {c : Allowed} {t : Tree} → IsBinding names c t → Bound names c t
-bound {names} {c} (family.a_bound_name {a} h) = good_bound_name c a h
-
 -- ---- with a value, or without one
 
 -- the value is printed, where there is one
@@ -68,22 +63,26 @@ abbrev pub PrintedIfGiven : Tables → Allowed → Maybe → Type 0
 PrintedIfGiven names c absent = Unit {0}
 PrintedIfGiven names c (given t) = Printed names c t
 
--- what is made of a binding and its value is read so, as a tree of the same normal form
+-- what is made of a binding and its value has the normal form of what is printed, and is read so with a value
 pub record Holds (names : Tables) (c : Allowed) (R : Tokens → Tree → Type 0) (made : Tree → Maybe → Tree) : Type 0 where
   pub reading : Tree → Maybe → Tree
-  pub alone : (ts : Tokens) (b : Tree) → ReadsBinding c ts b → R ts (reading b absent)
   pub with_value : (mark : Bool) (a v : Tokens) (b e : Tree) → ReadsBinding c a b → ReadsExpression c grammar.Assignment v e → R (a ⧺ piece mark (Sign equal) v) (reading b (given e))
   pub same : (b u : Tree) (m n : Maybe) → normal b ≡ normal (renamed names u) → normal_maybe m ≡ normal_maybe (renamed_maybe names n) → normal (reading b m) ≡ normal (renamed names (made u n))
 
-alone_parts : {names : Tables} {p q : Pen} {l : Last} {c : Allowed} (R : Tokens → Tree → Type 0) (made : Tree → Maybe → Tree) (b : Tree) → Holds names c R made → GoodBinding names p l q c b → Element names R p l q (made b absent)
-alone_parts R made b h g = record {
+-- and without one where none is given
+abbrev pub HoldsAlone : {names : Tables} {c : Allowed} {R : Tokens → Tree → Type 0} {made : Tree → Maybe → Tree} → Holds names c R made → Tree → Maybe → Type 0
+HoldsAlone {names} {c} {R} h b absent = (ts : Tokens) (u : Tree) → ReadsBinding c ts u → normal u ≡ normal (renamed names b) → R ts (h.reading u absent)
+HoldsAlone h b (given v) = Unit {0}
+
+alone_parts : {names : Tables} {p q : Pen} {l : Last} {c : Allowed} (R : Tokens → Tree → Type 0) (made : Tree → Maybe → Tree) (b : Tree) → (h : Holds names c R made) → HoldsAlone h b absent → GoodBinding names p l q c b → Element names R p l q (made b absent)
+alone_parts R made b h x g = record {
   last = g.last;
   tokens = g.tokens;
   writes = g.writes;
   operand = g.operand;
   semicolon = g.semicolon;
   tree = h.reading g.tree absent;
-  reads = h.alone g.tokens g.tree g.reads;
+  reads = x g.tokens g.tree g.reads g.same;
   same = h.same g.tree b absent absent g.same refl;
 }
 
@@ -100,9 +99,9 @@ value_parts R made b v h g x o n e = record {
   same = h.same g.tree b (given e.tree) (given v) g.same (ap (λ t. given t) e.same);
 }
 
-pub good_held : {names : Tables} (c : Allowed) (R : Tokens → Tree → Type 0) (made : Tree → Maybe → Tree) (b : Tree) (m : Maybe) (place : Place) → Holds names (under place c) R made → Bound names c b → PrintedIfGiven names c m → GivesElement names R (spell b (child levels.Lowest place) ⊕ spell_value m (child levels.Comma place)) (made b m)
-good_held c R made b absent place h f v p l z y k = alone_parts R made b h (f (child levels.Lowest place) p l z (begun_ready l y) k)
-good_held c R made b (given t) place h f v p l z y k =
+pub good_held : {names : Tables} (c : Allowed) (R : Tokens → Tree → Type 0) (made : Tree → Maybe → Tree) (b : Tree) (m : Maybe) (place : Place) → (h : Holds names (under place c) R made) → HoldsAlone h b m → Bound names c b → PrintedIfGiven names c m → GivesElement names R (spell b (child levels.Lowest place) ⊕ spell_value m (child levels.Comma place)) (made b m)
+good_held c R made b absent place h x f v p l z y k = alone_parts R made b h x (f (child levels.Lowest place) p l z (begun_ready l y) k)
+good_held c R made b (given t) place h w f v p l z y k =
     let p1 : Pen = layout (spell b (child levels.Lowest place)) p in
     let p2 : Pen = layout soft_space p1 in
     let p3 : Pen = layout (punctuator equal) p2 in

@@ -1,5 +1,5 @@
 -- Declarators and declarations.
-use Rattle.std.proofs.Common.{◌≡◌, ℕ, Bool, true, false, codes, List, [], ◌∷◌, refl, sym, ◌∙◌, subst}
+use Rattle.std.proofs.Common.{◌≡◌, ℕ, Bool, true, false, codes, List, [], ◌∷◌, refl, sym, ap, ◌∙◌, subst}
 use Rattle.std.proofs.lemmas.Bool.{both_ways}
 use Rattle.jsgen_syntax.specs.declared.precedence.Precedence.TheVariants as levels
 use Rattle.jsgen_syntax.specs.Name.{spells_name}
@@ -7,7 +7,8 @@ use Rattle.jsgen_tree.specs.Job.{Tables}
 use Rattle.jsgen_tree.specs.declared.statements.VariableDeclarationKind.{VariableDeclarationKind}
 use Rattle.jsgen_tree.specs.declared.statements.VariableDeclarationKind.TheVariants as kinds
 use Rattle.jsgen_tree.specs.Words.{declaration_word}
-use Rattle.jsgen_tree.specs.Tree.{Tree, Maybe, Trees, no_trees, more, Atoms}
+use Rattle.jsgen_tree.specs.Tree.{Tree, Maybe, absent, given, Trees, no_trees, more, Atoms, type_of}
+use Rattle.jsgen_tree.specs.Sets.{is_binding_identifier}
 use Rattle.jsgen_tree.specs.Values.{variable_declaration_kind, variable_declaration_declare, variable_declarator_definite}
 use Rattle.jsgen_tree.specs.Places.{bare}
 use Rattle.jsgen_tree.specs.Atom.{declaration_kind}
@@ -15,7 +16,7 @@ use Rattle.jsgen_tree.specs.Nodes as tree
 use Rattle.jsgen_model.specs.Tokens.{Tokens, done, piece, Word}
 use Rattle.jsgen_model.specs.Items.{Items, ◌⊕◌, word, soft_space}
 use Rattle.jsgen_model.specs.Layout.{Pen, layout}
-use Rattle.jsgen_model.specs.Grammar.{Allowed, ReadsDeclarator, ReadsDeclarators, ReadsVariables, EndsBy, is_var, with_in}
+use Rattle.jsgen_model.specs.Grammar.{Allowed, ReadsBinding, ReadsDeclarator, ReadsDeclarators, ReadsVariables, EndsBy, is_var, with_in}
 use Rattle.jsgen_model.specs.Grammar as grammar
 use Rattle.jsgen_model.specs.Normal.{normal, normal_maybe, nothing_of, declared_as, if_set}
 use Rattle.jsgen_model.specs.Renamed.{renamed, renamed_maybe}
@@ -28,9 +29,9 @@ use Rattle.jsgen_token_laws.proofs.Last.{Last, After, line_of, Knows}
 use Rattle.jsgen_token_laws.proofs.Writes.{Writes, wrote_both}
 use Rattle.jsgen_token_laws.proofs.Steps.{Soft, wrote_word, soft_space_written}
 use Rattle.jsgen_reading_laws.proofs.Levels.{under}
-use Rattle.jsgen_reading_laws.proofs.Good.{operand_ready}
+use Rattle.jsgen_reading_laws.proofs.Good.{Printed, operand_ready}
 use Rattle.jsgen_reading_laws.proofs.Lists.{Element, Elements, ElementAt, ElementsAt, MoreAt, Joins, no_more, one_more, whole_list}
-use Rattle.jsgen_reading_laws.proofs.Bindings.{Bound, PrintedIfGiven, Holds, good_held}
+use Rattle.jsgen_reading_laws.proofs.Bindings.{Bound, Holds, good_held}
 use Rattle.jsgen_reading_laws.proofs.Stands.{Unended, UnendedAt, ReadsClosed, Stated, stated_among, Listed, SameTree, whole_line}
 
 -- ---- declarators
@@ -51,13 +52,24 @@ same_declarator a b u m n h e f = λ i. tree.variable_declarator (bare (if_set (
 declarator_holds : {names : Tables} (c : Allowed) (a : Atoms) → variable_declarator_definite a ≡ false → Holds names c (ReadsDeclarator c) (λ b m. tree.variable_declarator a b m)
 declarator_holds {names} c a h = record {
   reading = λ b m. tree.variable_declarator (nothing_of 1) b m;
-  alone = λ ts b r. grammar.without_value r;
   with_value = λ mark x v b e r s. grammar.with_value mark refl r s;
   same = λ b u m n e f. same_declarator a b (renamed names u) m (renamed_maybe names n) h e f;
 }
 
-pub good_declarator : {names : Tables} (c : Allowed) (a : Atoms) (b : Tree) (m : Maybe) → variable_declarator_definite a ≡ false → Bound names c b → PrintedIfGiven names c m → (place : Place) → DeclaredAt names c place (tree.variable_declarator a b m)
-good_declarator c a b m h f v place = good_held c (ReadsDeclarator (under place c)) (λ x n. tree.variable_declarator a x n) b m place (declarator_holds (under place c) a h) f v
+-- what has the normal form of a name is read as one
+name_alone : {c : Allowed} {ts : Tokens} {u : Tree} (v : Atoms) → ReadsBinding c ts u → normal u ≡ tree.binding_identifier v → ReadsDeclarator c ts (tree.variable_declarator (nothing_of 1) u absent)
+name_alone v (grammar.a_bound_name e h) n = grammar.without_value e h
+name_alone v (grammar.an_object_binding r) n = absurd (both_ways false refl (ap (λ t. is_binding_identifier (type_of t)) n))
+name_alone v (grammar.an_array_binding r) n = absurd (both_ways false refl (ap (λ t. is_binding_identifier (type_of t)) n))
+
+-- a name without a value
+pub good_declared_alone : {names : Tables} (c : Allowed) (a b : Atoms) → variable_declarator_definite a ≡ false → Bound names c (tree.binding_identifier b) → (place : Place) → DeclaredAt names c place (tree.variable_declarator a (tree.binding_identifier b) absent)
+unfolding declarator_holds
+good_declared_alone c a b h f place = good_held c (ReadsDeclarator (under place c)) (λ x n. tree.variable_declarator a x n) (tree.binding_identifier b) absent place (declarator_holds (under place c) a h) (λ ts u r n. name_alone _ r n) f tt
+
+pub good_declared_with_value : {names : Tables} (c : Allowed) (a : Atoms) (b v : Tree) → variable_declarator_definite a ≡ false → Bound names c b → Printed names c v → (place : Place) → DeclaredAt names c place (tree.variable_declarator a b (given v))
+unfolding declarator_holds
+good_declared_with_value c a b v h f g place = good_held c (ReadsDeclarator (under place c)) (λ x n. tree.variable_declarator a x n) b (given v) place (declarator_holds (under place c) a h) tt f g
 
 declarators_join : (c : Allowed) → Joins (ReadsDeclarator c) (ReadsDeclarators c)
 declarators_join c = record { one = λ ts d r. grammar.last_declarator r; first = λ mark a b d ds r s. grammar.first_declarator mark refl r s }

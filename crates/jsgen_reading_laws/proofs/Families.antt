@@ -1,15 +1,16 @@
 -- The trees over which the induction goes, where names are printed by these tables.
-use Rattle.std.proofs.Common.{◌≡◌, ◌^◌, nat_lt, ℕ, Bool, true, false, List, [], Some}
+use Rattle.std.proofs.Common.{◌≡◌, ◌^◌, nat_lt, ℕ, Bool, true, false, List, [], Some, ◌||◌}
 use Rattle.jsgen_tree.specs.Tree.{Tree, Maybe, absent, given, Trees, no_trees, more, hole, Atoms, type_of}
 use Rattle.jsgen_tree.specs.Nodes as tree
-use Rattle.jsgen_tree.specs.Values.{as_text, directive_directive, identifier_name_name, numeric_literal_kind, numeric_literal_digits, numeric_literal_text, big_int_literal_value, string_literal_value, variable_declaration_kind, variable_declaration_declare, variable_declarator_definite, label_identifier_name, for_of_statement_is_await, static_member_expression_optional, computed_member_expression_optional, call_expression_optional, object_property_kind, object_property_method, object_property_shorthand, object_property_computed, formal_parameter_is_override, formal_parameter_readonly, formal_parameter_optional, function_kind, function_is_async, function_generator, function_declare, arrow_function_expression_is_async}
+use Rattle.jsgen_tree.specs.Values.{identifier_reference_name, assignment_target_property_property_computed, assignment_expression_operator, binding_property_computed, as_text, directive_directive, identifier_name_name, numeric_literal_kind, numeric_literal_digits, numeric_literal_text, big_int_literal_value, string_literal_value, variable_declaration_kind, variable_declaration_declare, variable_declarator_definite, label_identifier_name, for_of_statement_is_await, static_member_expression_optional, computed_member_expression_optional, call_expression_optional, object_property_kind, object_property_method, object_property_shorthand, object_property_computed, formal_parameter_is_override, formal_parameter_readonly, formal_parameter_optional, function_kind, function_is_async, function_generator, function_declare, arrow_function_expression_is_async}
 use Rattle.jsgen_tree.specs.declared.functions.FunctionKind.{FunctionKind}
 use Rattle.jsgen_tree.specs.declared.functions.FunctionKind.TheVariants as kinds
 use Rattle.jsgen_tree.specs.Number.{NumericKind, Whole, Raw}
 use Rattle.jsgen_tree.specs.Job.{Tables}
 use Rattle.jsgen_tree.specs.Named.{printed_name}
-use Rattle.jsgen_tree.specs.Inside.{reference_named, binding_named, is_method, is_negative_big_integer}
+use Rattle.jsgen_tree.specs.Inside.{reference_named, binding_named, is_method, is_negative_big_integer, is_negative_number}
 use Rattle.jsgen_tree.specs.Sets.{is_simple_assignment_target}
+use Rattle.jsgen_syntax.specs.declared.operator.AssignmentOperator.TheVariants as operators
 use Rattle.jsgen_syntax.specs.Name.{spells_name, is_free_name}
 use Rattle.jsgen_syntax.specs.Raw.{directive_value}
 use Rattle.jsgen_syntax.specs.Wtf8.{are_units}
@@ -64,6 +65,7 @@ mutual
     a_choice : {names : Tables} {c : Allowed} {a : Atoms} {x y z : Tree} → IsExpression names c x → IsExpression names c y → IsExpression names c z → IsExpression names c (tree.conditional a x y z)
     a_sequence : {names : Tables} {c : Allowed} {a : Atoms} {t u : Tree} {ts : Trees} → IsExpression names c t → IsExpression names c u → AreParts names c ts → IsExpression names c (tree.sequence a (more t (more u ts)))
     an_assignment : {names : Tables} {c : Allowed} {a : Atoms} {t u : Tree} → is_simple_assignment_target (type_of t) ≡ true → IsExpression names c t → IsExpression names c u → IsExpression names c (tree.assignment a t u)
+    an_assignment_to_pattern : {names : Tables} {c : Allowed} {a : Atoms} {t u : Tree} → assignment_expression_operator a ≡ operators.Assign → IsPattern names c t → IsExpression names c u → IsExpression names c (tree.assignment a t u)
     an_array : {names : Tables} {c : Allowed} {a : Atoms} {es : Trees} → AreElements names c es → IsExpression names c (tree.array a es)
     an_object : {names : Tables} {c : Allowed} {a : Atoms} {ps : Trees} → AreProperties names c ps → IsExpression names c (tree.object_expression a ps)
     a_function : {names : Tables} {c : Allowed} {a : Atoms} {id : Maybe} {ps body : Tree} → IsFunction names kinds.Expression (tree.function a id ps (given body)) → IsExpression names c (tree.function a id ps (given body))
@@ -146,13 +148,79 @@ mutual
 
   pub data IsBinding : Tables → Allowed → Tree → Type 0 where
     a_bound_name : {names : Tables} {c : Allowed} {a : Atoms} → is_free_name (printed_name names (binding_named a)) ≡ true → IsBinding names c (tree.binding_identifier a)
+    an_array_pattern : {names : Tables} {c : Allowed} {a : Atoms} {es : Trees} {rest : Maybe} → AreBindingElements names c es → IsBindingRest names c rest → IsBinding names c (tree.array_pattern a es rest)
+    an_object_pattern : {names : Tables} {c : Allowed} {a : Atoms} {ps : Trees} {rest : Maybe} → AreBindingProperties names c ps → IsNameOfRest names rest → IsBinding names c (tree.object_pattern a ps rest)
+
+  pub data AreBindingElements : Tables → Allowed → Trees → Type 0 where
+    no_binding_element : {names : Tables} {c : Allowed} → AreBindingElements names c no_trees
+    first_binding_element : {names : Tables} {c : Allowed} {t : Tree} {ts : Trees} → IsBindingElement names c t → AreBindingElements names c ts → AreBindingElements names c (more t ts)
+    a_binding_elision : {names : Tables} {c : Allowed} {ts : Trees} → AreBindingElements names c ts → AreBindingElements names c (hole ts)
+
+  -- with a value or without one
+  pub data IsBindingElement : Tables → Allowed → Tree → Type 0 where
+    a_binding_alone : {names : Tables} {c : Allowed} {t : Tree} → IsBinding names c t → IsBindingElement names c t
+    a_binding_with_value : {names : Tables} {c : Allowed} {a : Atoms} {b v : Tree} → IsBinding names c b → IsExpression names c v → IsBindingElement names c (tree.assignment_pattern a b v)
+
+  pub data IsBindingRest : Tables → Allowed → Maybe → Type 0 where
+    no_binding_rest : {names : Tables} {c : Allowed} → IsBindingRest names c absent
+    a_binding_rest : {names : Tables} {c : Allowed} {a : Atoms} {b : Tree} → IsBinding names c b → IsBindingRest names c (given (tree.binding_rest_element a b))
+
+  -- what takes the rest of an object is a name
+  pub data IsNameOfRest : Tables → Maybe → Type 0 where
+    no_name_of_rest : {names : Tables} → IsNameOfRest names absent
+    a_name_of_rest : {names : Tables} {a d : Atoms} → is_free_name (printed_name names (binding_named d)) ≡ true → IsNameOfRest names (given (tree.binding_rest_element a (tree.binding_identifier d)))
+
+  pub data AreBindingProperties : Tables → Allowed → Trees → Type 0 where
+    no_binding_property : {names : Tables} {c : Allowed} → AreBindingProperties names c no_trees
+    first_binding_property : {names : Tables} {c : Allowed} {t : Tree} {ts : Trees} → IsBindingProperty names c t → AreBindingProperties names c ts → AreBindingProperties names c (more t ts)
+
+  pub data IsBindingProperty : Tables → Allowed → Tree → Type 0 where
+    a_binding_property : {names : Tables} {c : Allowed} {a : Atoms} {k v : Tree} → (binding_property_computed a || is_negative_number k) ≡ binding_property_computed a → IsKey names c (binding_property_computed a) k → IsBindingElement names c v → IsBindingProperty names c (tree.binding_property a k v)
+
+  -- what is given a value: a name or a member, or a pattern
+  pub data IsTarget : Tables → Allowed → Tree → Type 0 where
+    a_simple_target : {names : Tables} {c : Allowed} {t : Tree} → is_simple_assignment_target (type_of t) ≡ true → IsExpression names c t → IsTarget names c t
+    a_target_pattern : {names : Tables} {c : Allowed} {t : Tree} → IsPattern names c t → IsTarget names c t
+
+  pub data IsPattern : Tables → Allowed → Tree → Type 0 where
+    an_array_target : {names : Tables} {c : Allowed} {a : Atoms} {es : Trees} {rest : Maybe} → AreTargetElements names c es → IsTargetRest names c rest → IsPattern names c (tree.array_target a es rest)
+    an_object_target : {names : Tables} {c : Allowed} {a : Atoms} {ps : Trees} {rest : Maybe} → AreTargetProperties names c ps → IsSimpleRest names c rest → IsPattern names c (tree.object_target a ps rest)
+
+  pub data AreTargetElements : Tables → Allowed → Trees → Type 0 where
+    no_target_element : {names : Tables} {c : Allowed} → AreTargetElements names c no_trees
+    first_target_element : {names : Tables} {c : Allowed} {t : Tree} {ts : Trees} → IsTargetElement names c t → AreTargetElements names c ts → AreTargetElements names c (more t ts)
+    a_target_elision : {names : Tables} {c : Allowed} {ts : Trees} → AreTargetElements names c ts → AreTargetElements names c (hole ts)
+
+  -- with a default or without one
+  pub data IsTargetElement : Tables → Allowed → Tree → Type 0 where
+    a_target_alone : {names : Tables} {c : Allowed} {t : Tree} → IsTarget names c t → IsTargetElement names c t
+    a_target_with_default : {names : Tables} {c : Allowed} {a : Atoms} {t v : Tree} → IsTarget names c t → IsExpression names c v → IsTargetElement names c (tree.target_with_default a t v)
+
+  pub data IsTargetRest : Tables → Allowed → Maybe → Type 0 where
+    no_target_rest : {names : Tables} {c : Allowed} → IsTargetRest names c absent
+    a_target_rest : {names : Tables} {c : Allowed} {a : Atoms} {t : Tree} → IsTarget names c t → IsTargetRest names c (given (tree.target_rest a t))
+
+  -- what takes the rest of an object is no pattern
+  pub data IsSimpleRest : Tables → Allowed → Maybe → Type 0 where
+    no_simple_rest : {names : Tables} {c : Allowed} → IsSimpleRest names c absent
+    a_simple_rest : {names : Tables} {c : Allowed} {a : Atoms} {t : Tree} → is_simple_assignment_target (type_of t) ≡ true → IsExpression names c t → IsSimpleRest names c (given (tree.target_rest a t))
+
+  pub data AreTargetProperties : Tables → Allowed → Trees → Type 0 where
+    no_target_property : {names : Tables} {c : Allowed} → AreTargetProperties names c no_trees
+    first_target_property : {names : Tables} {c : Allowed} {t : Tree} {ts : Trees} → IsTargetProperty names c t → AreTargetProperties names c ts → AreTargetProperties names c (more t ts)
+
+  -- by its own name alone, which may be printed as a key, or by a key
+  pub data IsTargetProperty : Tables → Allowed → Tree → Type 0 where
+    a_target_name : {names : Tables} {c : Allowed} {a b : Atoms} {m : Maybe} → spells_name (identifier_reference_name b) ≡ true → is_free_name (printed_name names (reference_named b)) ≡ true → IsValue names c m → IsTargetProperty names c (tree.target_property_identifier a (tree.identifier_reference b) m)
+    a_target_property : {names : Tables} {c : Allowed} {a : Atoms} {k t : Tree} → (assignment_target_property_property_computed a || is_negative_number k) ≡ assignment_target_property_property_computed a → IsKey names c (assignment_target_property_property_computed a) k → IsTargetElement names c t → IsTargetProperty names c (tree.target_property a k t)
 
   pub data IsValue : Tables → Allowed → Maybe → Type 0 where
     no_value : {names : Tables} {c : Allowed} → IsValue names c absent
     a_value : {names : Tables} {c : Allowed} {t : Tree} → IsExpression names c t → IsValue names c (given t)
 
   pub data IsDeclarator : Tables → Allowed → Tree → Type 0 where
-    a_declarator : {names : Tables} {c : Allowed} {a : Atoms} {b : Tree} {m : Maybe} → variable_declarator_definite a ≡ false → IsBinding names c b → IsValue names c m → IsDeclarator names c (tree.variable_declarator a b m)
+    a_declared_alone : {names : Tables} {c : Allowed} {a b : Atoms} → variable_declarator_definite a ≡ false → IsBinding names c (tree.binding_identifier b) → IsDeclarator names c (tree.variable_declarator a (tree.binding_identifier b) absent)
+    a_declared_with_value : {names : Tables} {c : Allowed} {a : Atoms} {b v : Tree} → variable_declarator_definite a ≡ false → IsBinding names c b → IsExpression names c v → IsDeclarator names c (tree.variable_declarator a b (given v))
 
   pub data AreDeclarators : Tables → Allowed → Trees → Type 0 where
     last_declarator : {names : Tables} {c : Allowed} {d : Tree} → IsDeclarator names c d → AreDeclarators names c (more d no_trees)
@@ -190,6 +258,7 @@ mutual
   pub data IsLeft : Tables → Allowed → Tree → Type 0 where
     a_declared_name : {names : Tables} {c : Allowed} {a b : Atoms} {t : Tree} → variable_declaration_declare a ≡ false → variable_declarator_definite b ≡ false → IsBinding names c t → IsLeft names c (tree.variable_declaration a (more (tree.variable_declarator b t absent) no_trees))
     a_target : {names : Tables} {c : Allowed} {t : Tree} → is_simple_assignment_target (type_of t) ≡ true → IsExpression names c t → IsLeft names c t
+    a_left_pattern : {names : Tables} {c : Allowed} {t : Tree} → IsPattern names c t → IsLeft names c t
 
   -- what a jump leads to
   pub data IsLabel : Maybe → Type 0 where

@@ -6,30 +6,32 @@ use Rattle.std.proofs.lemmas.Bool.{both_ways, and_parts, and_from, not-true, ltb
 use Rattle.jsgen_tree.specs.Atom.{Atom, text}
 use Rattle.jsgen_tree.specs.Tree.{Tree, node, Maybe, absent, given, Trees, no_trees, more, hole, Atoms, type_of, span_of}
 use Rattle.jsgen_tree.specs.Nodes as tree
-use Rattle.jsgen_tree.specs.Values.{as_text, directive_directive, identifier_name_name, numeric_literal_kind, numeric_literal_text, big_int_literal_value, variable_declaration_kind, variable_declaration_declare, label_identifier_name, object_property_kind, object_property_shorthand, object_property_computed, function_kind, class_kind, function_is_async, function_generator, function_declare, object_property_method, arrow_function_expression_is_async}
+use Rattle.jsgen_tree.specs.Values.{identifier_reference_name, assignment_expression_operator, as_text, directive_directive, identifier_name_name, numeric_literal_kind, numeric_literal_text, big_int_literal_value, variable_declaration_kind, variable_declaration_declare, variable_declarator_definite, label_identifier_name, object_property_kind, object_property_shorthand, object_property_computed, function_kind, class_kind, function_is_async, function_generator, function_declare, object_property_method, arrow_function_expression_is_async}
 use Rattle.jsgen_tree.specs.Number.{NumericKind, Whole, Raw}
 use Rattle.jsgen_tree.specs.Job.{Tables}
 use Rattle.jsgen_tree.specs.Named.{Named, printed_name}
-use Rattle.jsgen_tree.specs.Inside.{binding_named, has_name, is_negative_big_integer, has_optional_link, is_method, is_negative_number}
+use Rattle.jsgen_tree.specs.Inside.{reference_named, binding_named, has_name, is_negative_big_integer, has_optional_link, is_method, is_negative_number}
 use Rattle.jsgen_tree.specs.Everywhere.{EverywhereIfGiven, EverywhereInTrees}
-use Rattle.jsgen_tree.specs.Sets.{in_set, is_expression, is_argument, is_statement, is_binding_pattern, is_identifier_name, is_directive, is_simple_assignment_target, is_assignment_target, is_object_property_kind, is_formal_parameter_rest, is_for_statement_init, is_for_statement_left, is_label_identifier, is_switch_case, is_binding_identifier, is_formal_parameters, is_function_body}
+use Rattle.jsgen_tree.specs.Sets.{in_set, is_expression, is_argument, is_statement, is_identifier_name, is_directive, is_simple_assignment_target, is_assignment_target, is_assignment_target_maybe_default, is_assignment_target_rest, is_assignment_target_property, is_variable_declarator, is_binding_property, is_identifier_reference, is_object_property_kind, is_for_statement_init, is_for_statement_left, is_label_identifier, is_switch_case, is_binding_identifier, is_formal_parameters, is_function_body, is_binding_rest_element}
 use Rattle.jsgen_tree.specs.declared.types.NodeType.{NodeType}
 use Rattle.jsgen_tree.specs.declared.types.NodeType.TheVariants as types
 use Rattle.jsgen_tree.specs.declared.types.NodeSet.{NodeSet}
 use Rattle.jsgen_tree.specs.declared.types.NodeSet.TheVariants as sets
+use Rattle.jsgen_syntax.specs.declared.operator.AssignmentOperator.{AssignmentOperator}
+use Rattle.jsgen_syntax.specs.declared.operator.AssignmentOperator.TheVariants as assignment_operators
 use Rattle.jsgen_syntax.specs.Name.{spells_name, is_free_name}
 use Rattle.jsgen_syntax.specs.Raw.{directive_value}
 use Rattle.jsgen_model.specs.declared.fault.TreeFault.{TreeFault}
 use Rattle.jsgen_model.specs.declared.fault.TreeFault.TheVariants as faults
 use Rattle.jsgen_model.specs.Numbers.{is_raw_number, is_big_integer}
 use Rattle.jsgen_model.specs.Grammar.{Allowed}
-use Rattle.jsgen_model.specs.Plain.{IsPlain, is_plain_row, has_plain_flags, is_number, is_raw, has_no_hole, has_plain_flags}
+use Rattle.jsgen_model.specs.Plain.{IsCore, is_core_row, has_core_flags, is_number, is_raw, has_no_hole, has_core_flags}
 use Rattle.jsgen_model.specs.Normal.{or_none, directive_units}
 use Rattle.jsgen_tree.specs.declared.functions.FunctionKind.{FunctionKind}
 use Rattle.jsgen_tree.specs.declared.functions.FunctionKind.TheVariants as kinds
 use Rattle.jsgen_model.specs.Resolved.{after}
-use Rattle.jsgen_model.specs.Valid.{Surroundings, ChildPlace, is_super, is_default, has_place, may_stand, breaches, in_maybe, in_trees, fault_if, fits_kind, set_faults, span_faults, body_faults, is_in_tables, name_faults, directive_faults, written_name_faults, number_faults, big_integer_faults, is_literal_key, may_be_key, key_faults, method_faults, fits_accessor, fits_words, within_nothing, within_function, within_arrow, within_braces, target_faults, shorthand_faults, takes_optional_link, link_faults, super_faults, is_one_name, is_lexical_word, label_faults, try_faults, stands_among, same_kind, function_faults, fits_method, declaration_faults, as_function_kind, uncooked_faults, is_module_item, is_default_export, fits_place}
-use Rattle.jsgen_reading_laws.proofs.Families.{has_value, IsLink, IsExpression, IsChain, IsChainBase, IsKey, IsRest, IsBinding, AreDeclarators, IsStatement, IsLeft, IsLabel, AreEndsOfTry, IsHandler, IsBlock, IsItem, AreDirectives, HasName, IsSynchronous, IsProperty}
+use Rattle.jsgen_model.specs.Valid.{Surroundings, ChildPlace, shorthand_name_faults, object_rest_faults, assigns_alone, is_target_pattern, is_super, is_default, has_place, may_stand, breaches, in_maybe, in_trees, fault_if, fits_kind, set_faults, span_faults, body_faults, is_in_tables, name_faults, directive_faults, written_name_faults, number_faults, big_integer_faults, is_literal_key, may_be_key, key_faults, method_faults, fits_accessor, fits_words, within_nothing, within_function, within_arrow, within_braces, shorthand_faults, takes_optional_link, link_faults, super_faults, is_one_name, is_lexical_word, label_faults, try_faults, stands_among, same_kind, function_faults, fits_method, declaration_faults, as_function_kind, uncooked_faults, is_module_item, is_default_export, fits_place, may_be_pattern_key, pattern_key_faults, rest_faults, is_binding_name}
+use Rattle.jsgen_reading_laws.proofs.Families.{has_value, IsLink, IsExpression, IsChain, IsChainBase, IsKey, IsRest, IsBinding, IsBindingElement, IsNameOfRest, IsTarget, IsTargetElement, IsTargetRest, IsSimpleRest, IsPattern, IsDeclarator, AreDeclarators, IsStatement, IsLeft, IsLabel, AreEndsOfTry, IsHandler, IsBlock, IsItem, AreDirectives, HasName, IsSynchronous, IsProperty}
 use Rattle.jsgen_reading_laws.proofs.Families as family
 
 -- ---- no fault
@@ -117,7 +119,7 @@ unset false e = refl
 -- ---- the rows of expressions
 
 -- the name of a member
-pub member_valid : (next : ℕ) (around : Surroundings) (n : Tree) (P : Tree → Type 0) → IsPlain n → is_identifier_name (type_of n) ≡ true → breaches around next n ≡ [] → ((b : Atoms) → spells_name (identifier_name_name b) ≡ true → P (tree.identifier_name b)) → P n
+pub member_valid : (next : ℕ) (around : Surroundings) (n : Tree) (P : Tree → Type 0) → IsCore n → is_identifier_name (type_of n) ≡ true → breaches around next n ≡ [] → ((b : Atoms) → spells_name (identifier_name_name b) ≡ true → P (tree.identifier_name b)) → P n
 member_valid next around (tree.identifier_name b) P p s e f = f b (none_unless (spells_name (identifier_name_name b)) (faults.Name b.span.start) (parts (span_faults around b.span) (written_name_faults b.span (identifier_name_name b)) [] e).0)
 member_valid next around n P p s e f = absurd (search no_truth)
 
@@ -126,11 +128,11 @@ abbrev pub is_spread : Tree → Bool
 is_spread (tree.spread a t) = true
 is_spread t = false
 
-pub none_other : (t : Tree) → is_plain_row t ≡ true → is_argument (type_of t) ≡ true → is_spread t ≡ false → is_expression (type_of t) ≡ false → ⊥
+pub none_other : (t : Tree) → is_core_row t ≡ true → is_argument (type_of t) ≡ true → is_spread t ≡ false → is_expression (type_of t) ≡ false → ⊥
 none_other (tree.spread a t) p s n e = no_falsehood n
 none_other t p s n e = search (no_truth, no_falsehood)
 
-pub expression_type : (t : Tree) → is_plain_row t ≡ true → is_argument (type_of t) ≡ true → is_spread t ≡ false → is_expression (type_of t) ≡ true
+pub expression_type : (t : Tree) → is_core_row t ≡ true → is_argument (type_of t) ≡ true → is_spread t ≡ false → is_expression (type_of t) ≡ true
 expression_type t p s n = by (is_expression (type_of t)) refl
   where
     by : (b : Bool) → is_expression (type_of t) ≡ b → b ≡ true
@@ -138,11 +140,11 @@ expression_type t p s n = by (is_expression (type_of t)) refl
     by false e = absurd (none_other t p s n e)
 
 -- and so it is no `super`, which no argument is
-pub argument_stands : (t : Tree) → is_plain_row t ≡ true → StandsAt sets.Argument t → is_spread t ≡ false → StandsAt sets.Expression t
+pub argument_stands : (t : Tree) → is_core_row t ≡ true → StandsAt sets.Argument t → is_spread t ≡ false → StandsAt sets.Expression t
 argument_stands t p s n = let h = and_parts (is_argument (type_of t)) (has_place sets.Expression (type_of t)) s.0 in (and_from (is_expression (type_of t)) (has_place sets.Expression (type_of t)) (expression_type t p h.0 n) h.1, s.1, fits_expression sets.Argument t refl refl s.2)
 
 -- of arguments, and of an array's elements, the first that isn't spread, and the others
-pub argument_parts : (next : ℕ) (around : Surroundings) (t : Tree) (ts : Trees) → is_plain_row t ≡ true → is_spread t ≡ false → in_trees around (place_of sets.Argument around ∷ []) next (more t ts) ≡ [] → StandsAt sets.Expression t × (breaches around next t ≡ []) × (in_trees around (place_of sets.Argument around ∷ []) (after t next) ts ≡ [])
+pub argument_parts : (next : ℕ) (around : Surroundings) (t : Tree) (ts : Trees) → is_core_row t ≡ true → is_spread t ≡ false → in_trees around (place_of sets.Argument around ∷ []) next (more t ts) ≡ [] → StandsAt sets.Expression t × (breaches around next t ≡ []) × (in_trees around (place_of sets.Argument around ∷ []) (after t next) ts ≡ [])
 argument_parts next around t ts p s e = let k = standing next around sets.Argument t (in_trees around (place_of sets.Argument around ∷ []) (after t next) ts) e in (argument_stands t p k.0 s, k.1, k.2)
 
 element_type : (type : NodeType) → in_set sets.ArrayExpressionElement type ≡ true → is_argument type ≡ true
@@ -154,7 +156,7 @@ element_stands t s =
     let h = and_parts (in_set sets.ArrayExpressionElement (type_of t)) (has_place sets.Expression (type_of t)) s.0 in
     (and_from (is_argument (type_of t)) (has_place sets.Expression (type_of t)) (element_type (type_of t) h.0) h.1, s.1, fits_expression sets.ArrayExpressionElement t refl refl s.2)
 
-pub element_parts : (next : ℕ) (around : Surroundings) (t : Tree) (ts : Trees) → is_plain_row t ≡ true → is_spread t ≡ false → in_trees around (place_of sets.ArrayExpressionElement around ∷ []) next (more t ts) ≡ [] → StandsAt sets.Expression t × (breaches around next t ≡ []) × (in_trees around (place_of sets.ArrayExpressionElement around ∷ []) (after t next) ts ≡ [])
+pub element_parts : (next : ℕ) (around : Surroundings) (t : Tree) (ts : Trees) → is_core_row t ≡ true → is_spread t ≡ false → in_trees around (place_of sets.ArrayExpressionElement around ∷ []) next (more t ts) ≡ [] → StandsAt sets.Expression t × (breaches around next t ≡ []) × (in_trees around (place_of sets.ArrayExpressionElement around ∷ []) (after t next) ts ≡ [])
 element_parts next around t ts p s e = let k = standing next around sets.ArrayExpressionElement t (in_trees around (place_of sets.ArrayExpressionElement around ∷ []) (after t next) ts) e in (argument_stands t p (element_stands t k.0) s, k.1, k.2)
 
 -- what stands behind an arrow is an expression, or a body in braces
@@ -165,14 +167,14 @@ arrow_body_stands t n s = (s.0, s.1, fits_expression sets.ArrowFunctionBody t re
 -- the parameters and the expression of an arrow function, where nothing is at fault
 pub record ArrowParts (around : Surroundings) (a : Atoms) (ps t : Tree) : Type 0 where
   pub synchronous : arrow_function_expression_is_async a ≡ false
-  pub plain_parameters : IsPlain ps
+  pub core_parameters : IsCore ps
   pub are_parameters : is_formal_parameters (type_of ps) ≡ true
   pub parameters : (next : ℕ) × (breaches (within_nothing around) next ps ≡ [])
-  pub plain_body : IsPlain t
+  pub core_body : IsCore t
   pub stands : StandsAt sets.Expression t
   pub body : (next : ℕ) × (breaches (within_arrow (arrow_function_expression_is_async a) around) next t ≡ [])
 
-pub arrow_parts : (next : ℕ) (around : Surroundings) (a : Atoms) (ps t : Tree) → IsPlain (tree.arrow_function a ps t) → is_function_body (type_of t) ≡ false → breaches around next (tree.arrow_function a ps t) ≡ [] → ArrowParts around a ps t
+pub arrow_parts : (next : ℕ) (around : Surroundings) (a : Atoms) (ps t : Tree) → IsCore (tree.arrow_function a ps t) → is_function_body (type_of t) ≡ false → breaches around next (tree.arrow_function a ps t) ≡ [] → ArrowParts around a ps t
 arrow_parts next around a ps t p n e =
     let outside : Surroundings = within_nothing around in
     let within : Surroundings = within_arrow (arrow_function_expression_is_async a) around in
@@ -180,10 +182,10 @@ arrow_parts next around a ps t p n e =
     let j = standing _ within sets.ArrowFunctionBody t [] k.2 in
     record {
       synchronous = unset (arrow_function_expression_is_async a) p.0;
-      plain_parameters = p.1.0;
+      core_parameters = p.1.0;
       are_parameters = k.0;
       parameters = (_, k.1);
-      plain_body = p.1.1.0;
+      core_body = p.1.1.0;
       stands = arrow_body_stands t n j.0;
       body = (_, j.1);
     }
@@ -202,23 +204,102 @@ target_fits (tree.class a id heritage body) h = absurd (no_truth h)
 target_fits (tree.variable_declaration a ds) h = absurd (no_truth h)
 target_fits t h = refl
 
--- what may be given a value may be changed as it stands, where a reading is promised of it
-none_pattern : (t : Tree) → is_plain_row t ≡ true → is_assignment_target (type_of t) ≡ true → is_simple_assignment_target (type_of t) ≡ false → ⊥
-none_pattern (tree.array_target a elements rest) p s e = no_truth p
-none_pattern t p s e = search (no_truth, no_falsehood, no_truth_behind)
+-- what is printed for a name is free
+pub free_since : (around : Surroundings) (s : Span) (n : Named) → name_faults around.tables s n ≡ [] → is_free_name (printed_name around.tables n) ≡ true
+free_since around s n e =
+    let known : Bool = option_map_or (λ scoping. is_in_tables scoping n) around.tables.scoping true in
+    (and_parts known (is_free_name (printed_name around.tables n)) (none_unless (known && is_free_name (printed_name around.tables n)) (faults.Name s.start) e)).1
 
-plain_row : (t : Tree) → IsPlain t → is_plain_row t ≡ true
-plain_row (node type a slots) p = p.0
+-- ---- what is given a value
 
-pub target_is_simple : (t : Tree) → IsPlain t → is_assignment_target (type_of t) ≡ true → is_simple_assignment_target (type_of t) ≡ true
-target_is_simple t p s = by (is_simple_assignment_target (type_of t)) refl
+abbrev pub is_pattern_or_default : Tree → Bool
+is_pattern_or_default (tree.array_target a elements rest) = true
+is_pattern_or_default (tree.object_target a properties rest) = true
+is_pattern_or_default (tree.target_with_default a binding init) = true
+is_pattern_or_default t = false
+
+none_other_target : (t : Tree) → is_core_row t ≡ true → is_assignment_target_maybe_default (type_of t) ≡ true → is_pattern_or_default t ≡ false → is_simple_assignment_target (type_of t) ≡ false → ⊥
+none_other_target (tree.array_target a elements rest) p s n e = no_falsehood n
+none_other_target (tree.object_target a properties rest) p s n e = no_falsehood n
+none_other_target (tree.target_with_default a binding init) p s n e = no_falsehood n
+none_other_target t p s n e = search (no_truth, no_falsehood, no_truth_behind)
+
+-- what is no pattern and has no default is a name or a member
+simple_otherwise : (t : Tree) → is_core_row t ≡ true → is_assignment_target_maybe_default (type_of t) ≡ true → is_pattern_or_default t ≡ false → is_simple_assignment_target (type_of t) ≡ true
+simple_otherwise t p s n = by (is_simple_assignment_target (type_of t)) refl
   where
     by : (b : Bool) → is_simple_assignment_target (type_of t) ≡ b → b ≡ true
     by true e = refl
-    by false e = absurd (none_pattern t (plain_row t p) s e)
+    by false e = absurd (none_other_target t p s n e)
+
+pub other_element : {names : Tables} {c : Allowed} (t : Tree) → is_core_row t ≡ true → is_assignment_target_maybe_default (type_of t) ≡ true → is_pattern_or_default t ≡ false → has_optional_link t ≡ false → (StandsAt sets.Expression t → IsExpression names c t) → IsTargetElement names c t
+other_element t p s o n g = let i = simple_otherwise t p s o in family.a_target_alone (family.a_simple_target i (g (target_stands (type_of t) i, n, target_fits t i)))
+
+-- a target is one that may have a default
+pub target_as_element : (type : NodeType) → is_assignment_target type ≡ true → is_assignment_target_maybe_default type ≡ true
+target_as_element types.AssignmentTargetWithDefault s = refl
+target_as_element type s = s
+
+pub as_target : {names : Tables} {c : Allowed} {t : Tree} → IsTargetElement names c t → is_assignment_target (type_of t) ≡ true → IsTarget names c t
+as_target (family.a_target_alone v) s = v
+as_target (family.a_target_with_default v w) s = absurd (no_truth s)
+
+-- what takes the rest of an object is no pattern
+pub simple_rest : {names : Tables} {c : Allowed} {m : Maybe} → IsTargetRest names c m → object_rest_faults m ≡ [] → IsSimpleRest names c m
+simple_rest family.no_target_rest f = family.no_simple_rest
+simple_rest (family.a_target_rest (family.a_simple_target i v)) f = family.a_simple_rest i v
+simple_rest (family.a_target_rest (family.a_target_pattern (family.an_array_target {a} v w))) f = absurd (no_falsehood (none_if true (faults.Place a.span.start) f))
+simple_rest (family.a_target_rest (family.a_target_pattern (family.an_object_target {a} v w))) f = absurd (no_falsehood (none_if true (faults.Place a.span.start) f))
+
+pattern_type : {names : Tables} {c : Allowed} {t : Tree} → IsPattern names c t → is_target_pattern (type_of t) ≡ true
+pattern_type (family.an_array_target v w) = refl
+pattern_type (family.an_object_target v w) = refl
+
+plainly_assigned : (o : AssignmentOperator) → not (assigns_alone o) ≡ false → o ≡ assignment_operators.Assign
+plainly_assigned assignment_operators.Assign n = refl
+plainly_assigned o n = absurd (no_falsehood n)
+
+-- a value is given to a pattern by `=` alone
+pub assignment_valid : {names : Tables} {c : Allowed} {a : Atoms} {t u : Tree} → IsTarget names c t → (not (assigns_alone (assignment_expression_operator a)) && is_target_pattern (type_of t)) ≡ false → IsExpression names c u → IsExpression names c (tree.assignment a t u)
+assignment_valid (family.a_simple_target i v) n w = family.an_assignment i v w
+assignment_valid {a = a} {t} (family.a_target_pattern v) n w = family.an_assignment_to_pattern (plainly_assigned (assignment_expression_operator a) (alone (not (assigns_alone (assignment_expression_operator a))) (is_target_pattern (type_of t)) n (pattern_type v))) v w
+  where
+    alone : (b d : Bool) → b && d ≡ false → d ≡ true → b ≡ false
+    alone false d e f = refl
+    alone true true e f = absurd (no_falsehood e)
+    alone true false e f = absurd (no_truth f)
+
+-- the reference of a property of its name
+pub own_name_valid : (next : ℕ) (around : Surroundings) (n : Tree) (P : Tree → Type 0) → IsCore n → is_identifier_reference (type_of n) ≡ true → shorthand_name_faults n ≡ [] → breaches around next n ≡ [] → ((b : Atoms) → spells_name (identifier_reference_name b) ≡ true → is_free_name (printed_name around.tables (reference_named b)) ≡ true → P (tree.identifier_reference b)) → P n
+own_name_valid next around (tree.identifier_reference b) P p s w e f = f b (none_unless (spells_name (identifier_reference_name b)) (faults.Name b.span.start) w) (free_since around b.span (reference_named b) (parts (span_faults around b.span) (name_faults around.tables b.span (reference_named b)) [] e).0)
+own_name_valid next around n P p s w e f = absurd (search no_truth)
+
+-- what takes the rest is a node of its own
+abbrev pub is_target_rest : Tree → Bool
+is_target_rest (tree.target_rest a target) = true
+is_target_rest t = false
+
+pub none_but_rest : (t : Tree) → is_core_row t ≡ true → is_assignment_target_rest (type_of t) ≡ true → is_target_rest t ≡ false → ⊥
+none_but_rest (tree.target_rest a target) p s n = no_falsehood n
+none_but_rest t p s n = search (no_truth, no_truth_behind)
+
+-- so is each property of a target
+abbrev pub is_target_property : Tree → Bool
+is_target_property (tree.target_property_identifier a binding init) = true
+is_target_property (tree.target_property a key binding) = true
+is_target_property t = false
+
+pub none_but_property : (t : Tree) → is_core_row t ≡ true → is_assignment_target_property (type_of t) ≡ true → is_target_property t ≡ false → ⊥
+none_but_property (tree.target_property_identifier a binding init) p s n = no_falsehood n
+none_but_property (tree.target_property a key binding) p s n = no_falsehood n
+none_but_property t p s n = search (no_truth, no_truth_behind)
+
+pub left_since : {names : Tables} {c : Allowed} {t : Tree} → IsTarget names c t → IsLeft names c t
+left_since (family.a_simple_target i v) = family.a_target i v
+left_since (family.a_target_pattern v) = family.a_left_pattern v
 
 -- what a link goes on from is `super`, or may stand anywhere
-pub link_valid : {names : Tables} (c : Allowed) (t : Tree) → IsPlain t → StandsAt sets.Link t → has_optional_link t ≡ false → (StandsAt sets.Expression t → IsExpression names c t) → IsLink names c t
+pub link_valid : {names : Tables} (c : Allowed) (t : Tree) → IsCore t → StandsAt sets.Link t → has_optional_link t ≡ false → (StandsAt sets.Expression t → IsExpression names c t) → IsLink names c t
 link_valid c (tree.super a) p s n f = family.a_super
 link_valid c (node types.Super a slots) p s n f = absurd (no_truth p.0)
 link_valid c t p s n f = family.an_operand (f (s.0, n, fits_expression sets.Link t refl refl s.2))
@@ -242,12 +323,12 @@ is_in_object (tree.spread a t) = true
 is_in_object (tree.object_property a k v) = true
 is_in_object t = false
 
-pub none_in_object : (t : Tree) → is_plain_row t ≡ true → is_object_property_kind (type_of t) ≡ true → is_in_object t ≡ false → ⊥
+pub none_in_object : (t : Tree) → is_core_row t ≡ true → is_object_property_kind (type_of t) ≡ true → is_in_object t ≡ false → ⊥
 none_in_object (tree.spread a t) p s n = no_falsehood n
 none_in_object (tree.object_property a k v) p s n = no_falsehood n
 none_in_object t p s n = search no_truth
 
-pub none_among_properties : (next : ℕ) (around : Surroundings) (t : Tree) (ts : Trees) → is_plain_row t ≡ true → is_in_object t ≡ false → in_trees around (place_of sets.ObjectPropertyKind around ∷ []) next (more t ts) ≡ [] → ⊥
+pub none_among_properties : (next : ℕ) (around : Surroundings) (t : Tree) (ts : Trees) → is_core_row t ≡ true → is_in_object t ≡ false → in_trees around (place_of sets.ObjectPropertyKind around ∷ []) next (more t ts) ≡ [] → ⊥
 none_among_properties next around t ts p n e = none_in_object t p (placed next around sets.ObjectPropertyKind t (in_trees around (place_of sets.ObjectPropertyKind around ∷ []) (after t next) ts) e).0 n
 
 -- of a property that is a method or an accessor, or of another
@@ -269,14 +350,14 @@ pub number_valued : (kind : NumericKind) (a : Atoms) → is_number kind a ≡ tr
 number_valued Whole a p e = p
 number_valued Raw a p e = none_unless (is_raw_number (numeric_literal_text a)) (faults.Literal a.span.start) e
 
-pub literal_key_valid : (next : ℕ) (c : Allowed) (around : Surroundings) (k : Tree) → IsPlain k → is_literal_key (type_of k) ≡ true → is_negative_big_integer k ≡ false → breaches around next k ≡ [] → IsKey around.tables c false k
+pub literal_key_valid : (next : ℕ) (c : Allowed) (around : Surroundings) (k : Tree) → IsCore k → is_literal_key (type_of k) ≡ true → is_negative_big_integer k ≡ false → breaches around next k ≡ [] → IsKey around.tables c false k
 literal_key_valid next c around (tree.identifier_name a) p s m e = family.a_name_key (none_unless (spells_name (identifier_name_name a)) (faults.Name a.span.start) (parts (span_faults around a.span) (written_name_faults a.span (identifier_name_name a)) [] e).0)
 literal_key_valid next c around (tree.string_literal a) p s m e = family.a_string_key p.0
 literal_key_valid next c around (tree.numeric_literal a) p s m e = family.a_number_key (number_valued (numeric_literal_kind a) a p.0 (parts (span_faults around a.span) (number_faults a.span (numeric_literal_kind a) (numeric_literal_text a)) [] e).0)
 literal_key_valid next c around (tree.big_int_literal a) p s m e = family.a_big_integer_key (big_valued next around a e) m
 literal_key_valid next c around k p s m e = absurd (search no_truth)
 
-pub key_valid : (next : ℕ) (c : Allowed) (around : Surroundings) (computed : Bool) (k : Tree) → IsPlain k → key_faults computed k ≡ [] → breaches around next k ≡ [] → (is_expression (type_of k) ≡ true → IsExpression around.tables c k) → IsKey around.tables c computed k
+pub key_valid : (next : ℕ) (c : Allowed) (around : Surroundings) (computed : Bool) (k : Tree) → IsCore k → key_faults computed k ≡ [] → breaches around next k ≡ [] → (is_expression (type_of k) ≡ true → IsExpression around.tables c k) → IsKey around.tables c computed k
 key_valid next c around true k p f e h = family.a_computed_key (h (none_unless (is_expression (type_of k)) (faults.Place (span_of k).start) f))
 key_valid next c around false k p f e h =
     let m = and_parts (is_literal_key (type_of k)) (not (is_negative_big_integer k)) (none_unless (may_be_key false k) (faults.Place (span_of k).start) f) in
@@ -287,35 +368,45 @@ pub link_kind : {A : Type 0} (b : Bool) (o : Tree) → (b || has_optional_link o
 link_kind true o i e f g = f refl e
 link_kind false o i e f g = g refl i
 
--- what is printed for a name is free
-pub free_since : (around : Surroundings) (s : Span) (n : Named) → name_faults around.tables s n ≡ [] → is_free_name (printed_name around.tables n) ≡ true
-free_since around s n e =
-    let known : Bool = option_map_or (λ scoping. is_in_tables scoping n) around.tables.scoping true in
-    (and_parts known (is_free_name (printed_name around.tables n)) (none_unless (known && is_free_name (printed_name around.tables n)) (faults.Name s.start) e)).1
-
-pub binding_valid : (next : ℕ) (c : Allowed) (around : Surroundings) (t : Tree) → IsPlain t → is_binding_pattern (type_of t) ≡ true → breaches around next t ≡ [] → IsBinding around.tables c t
-binding_valid next c around (tree.binding_identifier a) p s e = family.a_bound_name (free_since around a.span (binding_named a) (parts (span_faults around a.span) (name_faults around.tables a.span (binding_named a)) [] e).0)
-binding_valid next c around t p s e = absurd (search no_truth)
-
--- the parameter that takes the rest
-pub rest_parameter_valid : (next : ℕ) (c : Allowed) (around : Surroundings) (t : Tree) → IsPlain t → is_formal_parameter_rest (type_of t) ≡ true → breaches around next t ≡ [] → IsRest around.tables c (given t)
-rest_parameter_valid next c around (tree.formal_parameter_rest a b) p s e =
-    let k = placed _ around sets.BindingPattern b [] (parts (span_faults around a.span) [] _ e).1 in
-    family.a_rest (binding_valid _ c around b p.1.0 k.0 k.1)
-rest_parameter_valid next c around t p s e = absurd (search no_truth)
-
-pub rest_valid : (next : ℕ) (c : Allowed) (around : Surroundings) (m : Maybe) → EverywhereIfGiven is_plain_row m → in_maybe around (place_of sets.FormalParameterRest around ∷ []) next m ≡ [] → IsRest around.tables c m
-rest_valid next c around absent p e = family.no_rest
-rest_valid next c around (given t) p e =
-    let h = none_both (set_faults sets.FormalParameterRest t) (breaches around _ t) e in
-    let s = stands_at sets.FormalParameterRest t h.0 in
-    rest_parameter_valid _ c around t p (and_parts (is_formal_parameter_rest (type_of t)) (has_place sets.Expression (type_of t)) s.0).0 h.1
-
 -- a child that is there, and is of the set that its field asks for
 pub placed_if_given : (next : ℕ) (around : Surroundings) (s : NodeSet) (t : Tree) → set_faults s t ++ breaches around next t ≡ [] → (in_set s (type_of t) ≡ true) × (breaches around next t ≡ [])
 placed_if_given next around s t e =
     let h = none_both (set_faults s t) (breaches around _ t) e in
     ((and_parts (in_set s (type_of t)) (has_place s (type_of t)) (stands_at s t h.0).0).0, h.1)
+
+-- what may stand as a pattern may stand as an element of one, and any other than one with a value the other way round
+pub as_element : (type : NodeType) → may_stand sets.BindingPattern type ≡ true → may_stand sets.BindingElement type ≡ true
+as_element types.BindingIdentifier s = refl
+as_element types.ObjectPattern s = refl
+as_element types.ArrayPattern s = refl
+as_element types.AssignmentPattern s = absurd (no_truth s)
+as_element type s = absurd (no_truth s)
+
+pub as_alone : {names : Tables} {c : Allowed} {t : Tree} → IsBindingElement names c t → may_stand sets.BindingPattern (type_of t) ≡ true → IsBinding names c t
+as_alone (family.a_binding_alone v) s = v
+as_alone (family.a_binding_with_value v w) s = absurd (no_truth s)
+
+-- a key of a pattern is one of a property, and no negative number
+pub pattern_key : (computed : Bool) (k : Tree) → pattern_key_faults computed k ≡ [] → (key_faults computed k ≡ []) × ((computed || is_negative_number k) ≡ computed)
+pattern_key true k f = (f, refl)
+pattern_key false k f =
+    let h = and_parts (may_be_key false k) (not (is_negative_number k)) (none_unless (may_be_pattern_key false k) (faults.Place (span_of k).start) f) in
+    (ap (λ b. fault_if (not b) (faults.Place (span_of k).start)) h.0, not-true (is_negative_number k) h.1)
+
+-- what takes the rest of an object is a name
+bound_name_valid : (next : ℕ) (around : Surroundings) (a : Atoms) (t : Tree) → IsCore t → is_binding_name (type_of t) ≡ true → breaches around next t ≡ [] → IsNameOfRest around.tables (given (tree.binding_rest_element a t))
+bound_name_valid next around a (tree.binding_identifier d) p s e = family.a_name_of_rest (free_since around d.span (binding_named d) (parts (span_faults around d.span) (name_faults around.tables d.span (binding_named d)) [] e).0)
+bound_name_valid next around a t p s e = absurd (search no_truth)
+
+some_name_of_rest : (next : ℕ) (around : Surroundings) (t : Tree) → IsCore t → is_binding_rest_element (type_of t) ≡ true → rest_faults (given t) ≡ [] → breaches around next t ≡ [] → IsNameOfRest around.tables (given t)
+some_name_of_rest next around (tree.binding_rest_element a b) p s f e =
+    let k = placed _ around sets.BindingPattern b [] (parts (span_faults around a.span) [] _ e).1 in
+    bound_name_valid _ around a b p.1.0 (none_unless (is_binding_name (type_of b)) (faults.Place (span_of b).start) f) k.1
+some_name_of_rest next around t p s f e = absurd (search no_truth)
+
+pub name_of_rest_valid : (next : ℕ) (around : Surroundings) (m : Maybe) → EverywhereIfGiven is_core_row m → rest_faults m ≡ [] → in_maybe around (place_of sets.BindingRestElement around ∷ []) next m ≡ [] → IsNameOfRest around.tables m
+name_of_rest_valid next around absent p f e = family.no_name_of_rest
+name_of_rest_valid next around (given t) p f e = let h = placed_if_given next around sets.BindingRestElement t e in some_name_of_rest next around t p h.0 f h.1
 
 -- ---- directives
 
@@ -328,7 +419,7 @@ raw_directive (text raw) p h = by (directive_value raw) refl h
     by None e k = absurd (no_truth k)
 raw_directive v p h = absurd (no_truth p)
 
-pub directive_valid : (next : ℕ) (around : Surroundings) (t : Tree) (ds : Trees) → IsPlain t → is_directive (type_of t) ≡ true → breaches around next t ≡ [] → AreDirectives ds → AreDirectives (more t ds)
+pub directive_valid : (next : ℕ) (around : Surroundings) (t : Tree) (ds : Trees) → IsCore t → is_directive (type_of t) ≡ true → breaches around next t ≡ [] → AreDirectives ds → AreDirectives (more t ds)
 directive_valid next around (tree.directive a) ds p s e v =
     let raw : List ℕ = as_text (directive_directive a) in
     let k = raw_directive (directive_directive a) p.0 (none_unless (is_some (directive_value raw)) (faults.Literal a.span.start) (parts (span_faults around a.span) (directive_faults a.span raw) [] e).0) in
@@ -336,7 +427,7 @@ directive_valid next around (tree.directive a) ds p s e v =
 directive_valid next around t ds p s e v = absurd (search no_truth)
 
 -- behind their field stand others
-pub directives_valid : (next : ℕ) (around : Surroundings) (others : List ChildPlace) (ds : Trees) → has_no_hole ds ≡ true → EverywhereInTrees is_plain_row ds → in_trees around (place_of sets.Directive around ∷ others) next ds ≡ [] → AreDirectives ds
+pub directives_valid : (next : ℕ) (around : Surroundings) (others : List ChildPlace) (ds : Trees) → has_no_hole ds ≡ true → EverywhereInTrees is_core_row ds → in_trees around (place_of sets.Directive around ∷ others) next ds ≡ [] → AreDirectives ds
 directives_valid next around others no_trees n p e = family.no_directive
 directives_valid next around others (more t ts) n p e = let k = placed _ around sets.Directive t _ e in directive_valid _ around t ts p.0 k.0 k.1 (directives_valid _ around others ts n p.1 k.2)
 directives_valid next around others (hole ts) n p e = absurd (no_truth n)
@@ -370,12 +461,12 @@ function_fits kind a id f =
     let k = kind_is kind a h.0 in
     (k, subst (λ x. (has_name id || same_kind x kinds.Expression) ≡ true) k h.1)
 
-pub function_name_valid : (next : ℕ) (around : Surroundings) (kind : FunctionKind) (t : Tree) → IsPlain t → is_binding_identifier (type_of t) ≡ true → breaches around next t ≡ [] → HasName around.tables kind (given t)
+pub function_name_valid : (next : ℕ) (around : Surroundings) (kind : FunctionKind) (t : Tree) → IsCore t → is_binding_identifier (type_of t) ≡ true → breaches around next t ≡ [] → HasName around.tables kind (given t)
 function_name_valid next around kind (tree.binding_identifier a) p s e = family.a_name (free_since around a.span (binding_named a) (parts (span_faults around a.span) (name_faults around.tables a.span (binding_named a)) [] e).0)
 function_name_valid next around kind t p s e = absurd (search no_truth)
 
 -- behind its field stand others
-pub named_validly : (next : ℕ) (around : Surroundings) (kind : FunctionKind) (others : List ChildPlace) (id : Maybe) → (has_name id || same_kind kind kinds.Expression) ≡ true → EverywhereIfGiven is_plain_row id → in_maybe around (place_of sets.BindingIdentifier around ∷ others) next id ≡ [] → HasName around.tables kind id
+pub named_validly : (next : ℕ) (around : Surroundings) (kind : FunctionKind) (others : List ChildPlace) (id : Maybe) → (has_name id || same_kind kind kinds.Expression) ≡ true → EverywhereIfGiven is_core_row id → in_maybe around (place_of sets.BindingIdentifier around ∷ others) next id ≡ [] → HasName around.tables kind id
 named_validly next around kind others (given t) f p e = let k = placed_if_given _ around sets.BindingIdentifier t e in function_name_valid _ around kind t p k.0 k.1
 named_validly next around kinds.Expression others absent f p e = family.no_name
 named_validly next around kinds.Declaration others absent f p e = absurd (no_truth f)
@@ -384,14 +475,14 @@ named_validly next around kinds.Declaration others absent f p e = absurd (no_tru
 pub record FunctionParts (around : Surroundings) (kind : FunctionKind) (a : Atoms) (id : Maybe) (ps u : Tree) : Type 0 where
   pub synchronous : IsSynchronous a
   pub name : HasName around.tables kind id
-  pub plain_parameters : IsPlain ps
+  pub core_parameters : IsCore ps
   pub are_parameters : is_formal_parameters (type_of ps) ≡ true
   pub parameters : (next : ℕ) × (breaches (within_nothing around) next ps ≡ [])
-  pub plain_body : IsPlain u
+  pub core_body : IsCore u
   pub is_body : is_function_body (type_of u) ≡ true
   pub body : (next : ℕ) × (breaches (within_function (function_is_async a) (function_generator a) around) next u ≡ [])
 
-pub function_parts : (next : ℕ) (around : Surroundings) (kind : FunctionKind) (a : Atoms) (id : Maybe) (ps u : Tree) → (has_name id || same_kind kind kinds.Expression) ≡ true → IsPlain (tree.function a id ps (given u)) → breaches around next (tree.function a id ps (given u)) ≡ [] → FunctionParts around kind a id ps u
+pub function_parts : (next : ℕ) (around : Surroundings) (kind : FunctionKind) (a : Atoms) (id : Maybe) (ps u : Tree) → (has_name id || same_kind kind kinds.Expression) ≡ true → IsCore (tree.function a id ps (given u)) → breaches around next (tree.function a id ps (given u)) ≡ [] → FunctionParts around kind a id ps u
 function_parts next around kind a id ps u h p e =
     let outside : Surroundings = within_nothing around in
     let within : Surroundings = within_function (function_is_async a) (function_generator a) around in
@@ -400,20 +491,20 @@ function_parts next around kind a id ps u h p e =
     let i = none_both (in_maybe around (place_of sets.BindingIdentifier around ∷ place_of sets.FormalParameters outside ∷ last) _ id) _ f.1 in
     let k = placed _ outside sets.FormalParameters ps _ i.1 in
     let j = placed_if_given _ within sets.FunctionBody u (none_both (in_maybe around last _ (given u)) [] k.2).0 in
-    let m = and_parts (not (function_is_async a) && not (function_generator a)) (not (function_declare a)) (and_parts (has_plain_flags types.Function a) true p.0).0 in
+    let m = and_parts (not (function_is_async a) && not (function_generator a)) (not (function_declare a)) (and_parts (has_core_flags types.Function a) true p.0).0 in
     let n = and_parts (not (function_is_async a)) (not (function_generator a)) m.0 in
     record {
       synchronous = (not-true (function_is_async a) n.0, not-true (function_generator a) n.1, not-true (function_declare a) m.1);
       name = named_validly _ around kind (place_of sets.FormalParameters outside ∷ last) id h p.1.0 i.0;
-      plain_parameters = p.1.1.0;
+      core_parameters = p.1.1.0;
       are_parameters = k.0;
       parameters = (_, k.1);
-      plain_body = p.1.1.1.0;
+      core_body = p.1.1.1.0;
       is_body = j.0;
       body = (_, j.1);
     }
 
-pub braces_parts : (next : ℕ) (around : Surroundings) (a : Atoms) (ds ss : Trees) → IsPlain (tree.function_body a ds ss) → breaches around next (tree.function_body a ds ss) ≡ [] → AreDirectives ds × (has_no_hole ss ≡ true) × EverywhereInTrees is_plain_row ss × ((last : ℕ) × (in_trees (within_braces around) (place_of sets.Statement (within_braces around) ∷ []) last ss ≡ []))
+pub braces_parts : (next : ℕ) (around : Surroundings) (a : Atoms) (ds ss : Trees) → IsCore (tree.function_body a ds ss) → breaches around next (tree.function_body a ds ss) ≡ [] → AreDirectives ds × (has_no_hole ss ≡ true) × EverywhereInTrees is_core_row ss × ((last : ℕ) × (in_trees (within_braces around) (place_of sets.Statement (within_braces around) ∷ []) last ss ≡ []))
 braces_parts next around a ds ss p e =
     let within : Surroundings = within_braces around in
     let last : List ChildPlace = place_of sets.Statement within ∷ [] in
@@ -442,7 +533,7 @@ Returns c around = around.in_function ≡ true → c.return_statement ≡ true
 -- ---- declarations
 
 -- the declarators, and no word of TypeScript before them
-pub variables_parts : (next : ℕ) (around : Surroundings) (a : Atoms) (ds : Trees) → IsPlain (tree.variable_declaration a ds) → breaches around next (tree.variable_declaration a ds) ≡ [] → (variable_declaration_declare a ≡ false) × (has_no_hole ds ≡ true) × EverywhereInTrees is_plain_row ds × (declaration_faults a.span ds ≡ []) × (in_trees around (place_of sets.VariableDeclarator around ∷ []) next ds ≡ [])
+pub variables_parts : (next : ℕ) (around : Surroundings) (a : Atoms) (ds : Trees) → IsCore (tree.variable_declaration a ds) → breaches around next (tree.variable_declaration a ds) ≡ [] → (variable_declaration_declare a ≡ false) × (has_no_hole ds ≡ true) × EverywhereInTrees is_core_row ds × (declaration_faults a.span ds ≡ []) × (in_trees around (place_of sets.VariableDeclarator around ∷ []) next ds ≡ [])
 variables_parts next around a ds p e =
     let h = parts (span_faults around a.span) (declaration_faults a.span ds) _ e in
     let k = none_both (in_trees around (place_of sets.VariableDeclarator around ∷ []) _ ds) [] h.1 in
@@ -456,11 +547,11 @@ abbrev pub is_declaration : Tree → Bool
 is_declaration (tree.variable_declaration a ds) = true
 is_declaration t = false
 
-pub none_first : (t : Tree) → is_plain_row t ≡ true → is_for_statement_init (type_of t) ≡ true → is_declaration t ≡ false → is_expression (type_of t) ≡ false → ⊥
+pub none_first : (t : Tree) → is_core_row t ≡ true → is_for_statement_init (type_of t) ≡ true → is_declaration t ≡ false → is_expression (type_of t) ≡ false → ⊥
 none_first (tree.variable_declaration a ds) p s n e = no_falsehood n
 none_first t p s n e = search (no_truth, no_falsehood, no_truth_behind)
 
-pub init_stands : (t : Tree) → is_plain_row t ≡ true → StandsAt sets.ForStatementInit t → is_declaration t ≡ false → StandsAt sets.Expression t
+pub init_stands : (t : Tree) → is_core_row t ≡ true → StandsAt sets.ForStatementInit t → is_declaration t ≡ false → StandsAt sets.Expression t
 init_stands t p s n =
     let h = and_parts (is_for_statement_init (type_of t)) (has_place sets.Expression (type_of t)) s.0 in
     (and_from (is_expression (type_of t)) (has_place sets.Expression (type_of t)) (by (is_expression (type_of t)) refl) h.1, s.1, fits_expression sets.ForStatementInit t refl refl s.2)
@@ -470,42 +561,72 @@ init_stands t p s n =
     by false e = absurd (none_first t p (and_parts (is_for_statement_init (type_of t)) (has_place sets.Expression (type_of t)) s.0).0 n e)
 
 -- behind its field stand others
-pub init_parts : (next : ℕ) (around : Surroundings) (others : List ChildPlace) (t : Tree) → is_plain_row t ≡ true → is_declaration t ≡ false → in_maybe around (place_of sets.ForStatementInit around ∷ others) next (given t) ≡ [] → StandsAt sets.Expression t × (breaches around next t ≡ [])
+pub init_parts : (next : ℕ) (around : Surroundings) (others : List ChildPlace) (t : Tree) → is_core_row t ≡ true → is_declaration t ≡ false → in_maybe around (place_of sets.ForStatementInit around ∷ others) next (given t) ≡ [] → StandsAt sets.Expression t × (breaches around next t ≡ [])
 init_parts next around others t p n e =
     let h = none_both (set_faults sets.ForStatementInit t) (breaches around next t) e in
     (init_stands t p (stands_at sets.ForStatementInit t h.0) n, h.1)
 
 -- and what a loop gives its values is a target
-pub none_left : (t : Tree) → is_plain_row t ≡ true → is_for_statement_left (type_of t) ≡ true → is_declaration t ≡ false → is_simple_assignment_target (type_of t) ≡ false → ⊥
-none_left (tree.variable_declaration a ds) p s n e = no_falsehood n
-none_left t p s n e = search (no_truth, no_falsehood, no_truth_behind)
-
-pub left_is_simple : (t : Tree) → is_plain_row t ≡ true → is_for_statement_left (type_of t) ≡ true → is_declaration t ≡ false → is_simple_assignment_target (type_of t) ≡ true
-left_is_simple t p s n = by (is_simple_assignment_target (type_of t)) refl
+pub left_as_element : (t : Tree) → is_core_row t ≡ true → is_for_statement_left (type_of t) ≡ true → is_declaration t ≡ false → is_assignment_target (type_of t) ≡ true
+left_as_element t p s n = by (is_assignment_target (type_of t)) refl
   where
-    by : (b : Bool) → is_simple_assignment_target (type_of t) ≡ b → b ≡ true
+    none : (u : Tree) → is_core_row u ≡ true → is_for_statement_left (type_of u) ≡ true → is_declaration u ≡ false → is_assignment_target (type_of u) ≡ false → ⊥
+    none (tree.variable_declaration a ds) p s n e = no_falsehood n
+    none u p s n e = search (no_truth, no_falsehood, no_truth_behind)
+
+    by : (b : Bool) → is_assignment_target (type_of t) ≡ b → b ≡ true
     by true e = refl
-    by false e = absurd (none_left t p s n e)
-
-pub target_valid : {names : Tables} {c : Allowed} (t : Tree) → is_plain_row t ≡ true → is_for_statement_left (type_of t) ≡ true → is_declaration t ≡ false → target_faults t ≡ [] → (StandsAt sets.Expression t → IsExpression names c t) → IsLeft names c t
-target_valid t p s n f g =
-    let i = left_is_simple t p s n in
-    family.a_target i (g (target_stands (type_of t) i, none_if (has_optional_link t) (faults.Place (span_of t).start) f, target_fits t i))
-
--- one declarator without a value
-pub name_valid : {names : Tables} {c : Allowed} (a : Atoms) (ds : Trees) → is_one_name ds ≡ true → variable_declaration_declare a ≡ false → AreDeclarators names c ds → IsLeft names c (tree.variable_declaration a ds)
-name_valid a (more (tree.variable_declarator b t absent) no_trees) n m (family.last_declarator (family.a_declarator h v w)) = family.a_declared_name m h v
-name_valid a ds n m v = absurd (search no_truth)
+    by false e = absurd (none t p s n e)
 
 -- ---- the rows of statements
 
-pub label_valid : (next : ℕ) (around : Surroundings) (n : Tree) (P : Tree → Type 0) → IsPlain n → is_label_identifier (type_of n) ≡ true → breaches around next n ≡ [] → ((b : Atoms) → is_free_name (label_identifier_name b) ≡ true → P (tree.label_identifier b)) → P n
+pub label_valid : (next : ℕ) (around : Surroundings) (n : Tree) (P : Tree → Type 0) → IsCore n → is_label_identifier (type_of n) ≡ true → breaches around next n ≡ [] → ((b : Atoms) → is_free_name (label_identifier_name b) ≡ true → P (tree.label_identifier b)) → P n
 label_valid next around (tree.label_identifier b) P p s e f = f b (none_unless (is_free_name (label_identifier_name b)) (faults.Name b.span.start) (parts (span_faults around b.span) (label_faults b.span (label_identifier_name b)) [] e).0)
 label_valid next around n P p s e f = absurd (search no_truth)
 
-pub jump_valid : (next : ℕ) (around : Surroundings) (m : Maybe) → EverywhereIfGiven is_plain_row m → in_maybe around (place_of sets.LabelIdentifier around ∷ []) next m ≡ [] → IsLabel m
+pub jump_valid : (next : ℕ) (around : Surroundings) (m : Maybe) → EverywhereIfGiven is_core_row m → in_maybe around (place_of sets.LabelIdentifier around ∷ []) next m ≡ [] → IsLabel m
 jump_valid next around absent p e = family.no_label
 jump_valid next around (given t) p e = let k = placed_if_given _ around sets.LabelIdentifier t e in label_valid _ around t (λ x. IsLabel (given x)) p k.0 k.1 (λ b h. family.a_label h)
+
+-- a declarator, a property of a pattern and what takes its rest are nodes of their own
+abbrev pub is_declarator : Tree → Bool
+is_declarator (tree.variable_declarator a id init) = true
+is_declarator t = false
+
+pub none_but_declarator : (t : Tree) → is_core_row t ≡ true → is_variable_declarator (type_of t) ≡ true → is_declarator t ≡ false → ⊥
+none_but_declarator (tree.variable_declarator a id init) p s n = no_falsehood n
+none_but_declarator t p s n = search (no_truth, no_truth_behind)
+
+abbrev pub is_bound_property : Tree → Bool
+is_bound_property (tree.binding_property a key value) = true
+is_bound_property t = false
+
+pub none_but_bound_property : (t : Tree) → is_core_row t ≡ true → is_binding_property (type_of t) ≡ true → is_bound_property t ≡ false → ⊥
+none_but_bound_property (tree.binding_property a key value) p s n = no_falsehood n
+none_but_bound_property t p s n = search (no_truth, no_truth_behind)
+
+abbrev pub is_bound_rest : Tree → Bool
+is_bound_rest (tree.binding_rest_element a argument) = true
+is_bound_rest t = false
+
+pub none_but_bound_rest : (t : Tree) → is_core_row t ≡ true → is_binding_rest_element (type_of t) ≡ true → is_bound_rest t ≡ false → ⊥
+none_but_bound_rest (tree.binding_rest_element a argument) p s n = no_falsehood n
+none_but_bound_rest t p s n = search (no_truth, no_truth_behind)
+
+-- one declarator without a value
+abbrev pub is_one_declared : Trees → Bool
+is_one_declared (more (tree.variable_declarator a id absent) no_trees) = true
+is_one_declared ts = false
+
+pub not_one_name : (ds : Trees) → is_one_name ds ≡ true → is_one_declared ds ≡ false → ⊥
+not_one_name (more (tree.variable_declarator a id absent) no_trees) n m = no_falsehood m
+not_one_name ds n m = no_truth n
+
+-- what is declared without a value is a name
+pub declared_alone : {names : Tables} {c : Allowed} {a : Atoms} {b : Tree} → variable_declarator_definite a ≡ false → IsBinding names c b → not (is_binding_name (type_of b)) ≡ false → IsDeclarator names c (tree.variable_declarator a b absent)
+declared_alone h (family.a_bound_name e) n = family.a_declared_alone h (family.a_bound_name e)
+declared_alone h (family.an_array_pattern v w) n = absurd (no_falsehood n)
+declared_alone h (family.an_object_pattern v w) n = absurd (no_falsehood n)
 
 -- of `var` a statement, and of another word a declaration
 pub variables_are : {names : Tables} {c : Allowed} (a : Atoms) (ds : Trees) → variable_declaration_declare a ≡ false → AreDeclarators names c ds → IsItem names c (tree.variable_declaration a ds)
@@ -536,11 +657,11 @@ abbrev pub is_case : Tree → Bool
 is_case (tree.switch_case a test ss) = true
 is_case t = false
 
-pub none_case : (t : Tree) → is_plain_row t ≡ true → is_switch_case (type_of t) ≡ true → is_case t ≡ false → ⊥
+pub none_case : (t : Tree) → is_core_row t ≡ true → is_switch_case (type_of t) ≡ true → is_case t ≡ false → ⊥
 none_case (tree.switch_case a test ss) p s n = no_falsehood n
 none_case t p s n = search no_truth
 
-pub none_among_cases : (next : ℕ) (around : Surroundings) (t : Tree) (ts : Trees) → is_plain_row t ≡ true → is_case t ≡ false → in_trees around (place_of sets.SwitchCase around ∷ []) next (more t ts) ≡ [] → ⊥
+pub none_among_cases : (next : ℕ) (around : Surroundings) (t : Tree) (ts : Trees) → is_core_row t ≡ true → is_case t ≡ false → in_trees around (place_of sets.SwitchCase around ∷ []) next (more t ts) ≡ [] → ⊥
 none_among_cases next around t ts p n e = none_case t p (placed next around sets.SwitchCase t (in_trees around (place_of sets.SwitchCase around ∷ []) (after t next) ts) e).0 n
 
 -- a handler and a finalizer, where they are given

@@ -17,6 +17,7 @@ mutual
   freed (grammar.a_sequence mark x y z) = grammar.a_sequence mark x (freed y) (freed_parts z)
   freed (grammar.a_conditional x) = grammar.a_conditional (freed x)
   freed (grammar.an_assignment_to o mark x y z u v) = grammar.an_assignment_to o mark x y z (freed u) v
+  freed (grammar.an_assignment_to_pattern mark x y z) = grammar.an_assignment_to_pattern mark x y (freed z)
   freed (grammar.a_short_circuit x) = grammar.a_short_circuit (freed x)
   freed (grammar.a_logical_or x) = grammar.a_logical_or (freed x)
   freed (grammar.a_logical_and x) = grammar.a_logical_and (freed x)
@@ -99,8 +100,10 @@ mutual
 
 -- ---- parameters
 
-freed_binding : {c : Allowed} {ts : Tokens} {b : Tree} → ReadsBinding c ts b → ReadsBinding (with_in c) ts b
+pub freed_binding : {c : Allowed} {ts : Tokens} {b : Tree} → ReadsBinding c ts b → ReadsBinding (with_in c) ts b
 freed_binding (grammar.a_bound_name e h) = grammar.a_bound_name e h
+freed_binding (grammar.an_object_binding r) = grammar.an_object_binding r
+freed_binding (grammar.an_array_binding r) = grammar.an_array_binding r
 
 pub freed_parameter : {c : Allowed} {ts : Tokens} {t : Tree} → ReadsParameter c ts t → ReadsParameter (with_in c) ts t
 freed_parameter (grammar.a_parameter r) = grammar.a_parameter (freed_binding r)

@@ -1,18 +1,28 @@
 -- Each tree of the families is printed so that it is read: one induction over expressions and statements, which functions nest in one another.
-use Rattle.std.proofs.Common.{◌≡◌, Bool, true, false, refl, sym, subst}
+use Rattle.std.proofs.Common.{◌≡◌, Bool, true, false, refl, sym, subst, Some, is_some, ap}
 use Rattle.std.proofs.lemmas.Bool.{both_ways}
 use Rattle.jsgen_tree.specs.Job.{Tables}
 use Rattle.jsgen_tree.specs.Tree.{Tree, Maybe, Trees, type_of, given, more}
 use Rattle.jsgen_tree.specs.Sets.{is_simple_assignment_target}
 use Rattle.jsgen_tree.specs.Values.{object_property_kind}
 use Rattle.jsgen_tree.specs.Nodes as tree
-use Rattle.jsgen_model.specs.Grammar.{Allowed, ReadsParameters, in_function}
+use Rattle.jsgen_model.specs.Grammar.{Allowed, ReadsParameters, in_function, ReadsBindingElement, ReadsBindingProperty, with_in}
 use Rattle.jsgen_model.specs.Grammar as grammar
 use Rattle.jsgen_place.specs.declared.place.Place.{Place}
-use Rattle.jsgen_place.specs.Place.{among_statements}
-use Rattle.jsgen_model.specs.Spell.{spell, spell_statements, spell_body}
-use Rattle.jsgen_reading_laws.proofs.Families.{IsExpression, IsParameters, AreParameters, IsParameter, IsRest, IsValue, IsLink, IsElement, AreArguments, AreElements, IsProperty, AreProperties, IsKey, AreParts, IsChain, IsChainBase, IsStatement, IsItem, AreStatements, AreCases, IsCase, AreEndsOfTry, IsHandler, IsBlock, IsBody, IsDeclarator, AreDeclarators, IsInit, IsLeft}
+use Rattle.jsgen_syntax.specs.declared.precedence.Precedence.TheVariants as levels
+use Rattle.jsgen_place.specs.Place.{among_statements, in_brackets}
+use Rattle.jsgen_model.specs.Spell.{spell, spell_statements, spell_body, target_named}
+use Rattle.jsgen_reading_laws.proofs.Families.{IsTarget, IsTargetElement, AreTargetElements, IsTargetRest, IsSimpleRest, AreTargetProperties, IsTargetProperty, IsExpression, IsParameters, AreParameters, IsParameter, IsRest, IsValue, IsLink, IsElement, AreArguments, AreElements, IsProperty, AreProperties, IsKey, AreParts, IsChain, IsChainBase, IsStatement, IsItem, AreStatements, AreCases, IsCase, AreEndsOfTry, IsHandler, IsBlock, IsBody, IsDeclarator, AreDeclarators, IsInit, IsLeft, IsBinding, AreBindingElements, IsBindingElement, IsBindingRest, IsNameOfRest, AreBindingProperties, IsBindingProperty}
 use Rattle.jsgen_reading_laws.proofs.Families as family
+use Rattle.std.proofs.lemmas.Option.{same_Some}
+use Rattle.jsgen_syntax.specs.Name.{is_free_name}
+use Rattle.jsgen_tree.specs.Inside.{reference_named, binding_named, bound_in}
+use Rattle.jsgen_tree.specs.Named.{Named, printed_name}
+use Rattle.jsgen_reading_laws.proofs.Adds.{at_any}
+use Rattle.jsgen_reading_laws.proofs.Rests.{Each, Every}
+use Rattle.jsgen_reading_laws.proofs.BoundPatterns as patterns
+use Rattle.jsgen_reading_laws.proofs.Targets as targets
+use Rattle.jsgen_reading_laws.proofs.TargetProperties as by_key
 use Rattle.jsgen_reading_laws.proofs.Asked.{asked}
 use Rattle.jsgen_reading_laws.proofs.Literals.{good_number, good_big_integer}
 use Rattle.jsgen_reading_laws.proofs.Good.{Printed, TargetPrinted}
@@ -27,12 +37,12 @@ use Rattle.jsgen_reading_laws.proofs.Updates.{good_update}
 use Rattle.jsgen_reading_laws.proofs.Properties.{KeyOf, PropertyOf, good_name_key, good_string_key, good_number_key, good_big_integer_key, good_computed_key, good_spread_property, good_property}
 use Rattle.jsgen_reading_laws.proofs.Choices.{good_choice}
 use Rattle.jsgen_reading_laws.proofs.Assignments.{good_assignment}
-use Rattle.jsgen_reading_laws.proofs.Bindings.{PrintedIfGiven, bound}
+use Rattle.jsgen_reading_laws.proofs.Bindings.{PrintedIfGiven, Bound, good_bound_name}
 use Rattle.jsgen_reading_laws.proofs.Parameters.{ParameterOf, RestOf, MoreParametersOf, ParametersOf, ArrowParametersOf, good_parameter, good_rest, no_more_parameters, one_more_parameter, no_parameters, some_parameters, name_alone, good_arrow_parameters}
 use Rattle.jsgen_reading_laws.proofs.Arrows.{good_arrow_function, good_arrow_with_body}
 use Rattle.jsgen_reading_laws.proofs.Sequences.{MorePartsAt, good_sequence, no_more_parts, one_more_part}
 use Rattle.jsgen_reading_laws.proofs.Expressions.{reference_target, good_reference, good_this, good_null, good_boolean, good_new_target, good_string, good_parenthesized}
-use Rattle.jsgen_reading_laws.proofs.Declarations.{listed_declaration, good_variable_statement, DeclaredAt, ListDeclaredAt, MoreDeclaredAt, good_declarator, last_declared, first_declared, variables_from}
+use Rattle.jsgen_reading_laws.proofs.Declarations.{listed_declaration, good_variable_statement, DeclaredAt, ListDeclaredAt, MoreDeclaredAt, good_declared_alone, good_declared_with_value, last_declared, first_declared, variables_from}
 use Rattle.jsgen_reading_laws.proofs.Stands.{Stated, Listed, listed_statement}
 use Rattle.jsgen_reading_laws.proofs.Rows.{RowAt, RestAt, statements_join, row_none, row_more, rest_none, rest_more}
 use Rattle.jsgen_reading_laws.proofs.Blocks.{good_block}
@@ -40,7 +50,7 @@ use Rattle.jsgen_reading_laws.proofs.Bodies.{good_empty}
 use Rattle.jsgen_reading_laws.proofs.Branches.{good_if, good_if_with_else}
 use Rattle.jsgen_reading_laws.proofs.Whiles.{good_while, good_do_while}
 use Rattle.jsgen_reading_laws.proofs.Jumps.{good_labelled, good_continue, good_break, good_throw, good_debugger, good_return}
-use Rattle.jsgen_reading_laws.proofs.Loops.{good_for, good_for_in, good_for_of, InitOf, LeftOf, no_init, init_expression, init_variables, left_declared, left_target}
+use Rattle.jsgen_reading_laws.proofs.Loops.{good_for, good_for_in, good_for_of, InitOf, LeftOf, no_init, init_expression, init_variables, left_declared, left_target, left_array, left_object}
 use Rattle.jsgen_reading_laws.proofs.Switches.{CasesOf, CaseOf, ConsequentOf, OnlyOf, no_cases, more_cases, good_case, good_default, no_consequent, some_consequents, only_statement, only_declaration, good_switch}
 use Rattle.jsgen_reading_laws.proofs.Tries.{BlockOf, HandlerOf, EndsOf, some_block, good_catch, good_catch_by_name, good_finally, handler_alone, finalizer_alone, handler_and_finalizer, good_try}
 use Rattle.jsgen_tree.specs.declared.collections.PropertyKind.{PropertyKind}
@@ -51,6 +61,10 @@ use Rattle.jsgen_reading_laws.proofs.Functions.{GroupOf, BodyOf, good_group, emp
 use Rattle.jsgen_reading_laws.proofs.Methods.{GroupsOf, good_method}
 use Rattle.jsgen_reading_laws.proofs.Directives.{BodyAt, first_stated, no_body, some_body}
 use Rattle.jsgen_reading_laws.proofs.Prologue.{whole_body}
+
+bound_name_of_rest : {names : Tables} {rest : Maybe} (c : Allowed) → IsNameOfRest names rest → patterns.RestName names c rest
+bound_name_of_rest c family.no_name_of_rest place = tt
+bound_name_of_rest c (family.a_name_of_rest {a} {d} h) place = patterns.rest_name c a d h place
 
 mutual
   pub printed_expression : {names : Tables} {c : Allowed} {t : Tree} → IsExpression names c t → Printed names c t
@@ -74,6 +88,8 @@ mutual
   printed_expression {names} {c} (family.a_choice {a} {x} {y} {z} u v w) = good_choice c a x y z (printed_expression u) (printed_expression v) (printed_expression w)
   printed_expression {names} {c} (family.a_sequence {a} {t} {u} {ts} v w x) = good_sequence c a t u ts (printed_expression v) (printed_expression w) (printed_parts x)
   printed_expression {names} {c} (family.an_assignment {a} {t} {u} s v w) = good_assignment c a t u s (printed_target v s) (printed_expression w)
+  printed_expression {names} {c} (family.an_assignment_to_pattern {a} {u} o (family.an_array_target {a = b} {es} {rest} v w) x) = targets.good_array_assignment c a b es rest u o (targets.good_array_target c b es rest (target_elements v) (target_rest w)) (printed_expression x)
+  printed_expression {names} {c} (family.an_assignment_to_pattern {a} {u} o (family.an_object_target {a = b} {ps} {rest} v w) x) = targets.good_object_assignment c a b ps rest u o (targets.good_object_target c b ps rest (target_properties v) (simple_rest w)) (printed_expression x)
   printed_expression {names} {c} (family.a_chain {a} {t} v) = good_chain c a t (printed_chain v)
   printed_expression {names} {c} (family.an_array {a} {es} v) = good_array c a es (printed_elements v)
   printed_expression {names} {c} (family.an_object {a} {ps} v) = good_object c a ps (printed_properties v)
@@ -100,11 +116,93 @@ mutual
   more_parameters {names} {c} (family.first_parameter {t} {ts} v w) = one_more_parameter c t ts (printed_parameter v) (more_parameters w)
 
   printed_parameter : {names : Tables} {c : Allowed} {t : Tree} → IsParameter names c t → ParameterOf names c t
-  printed_parameter {names} {c} (family.a_parameter {a} {b} {m} h i j v w) = good_parameter c a b m h i j (bound v) (printed_value w)
+  printed_parameter {names} {c} (family.a_parameter {a} {b} {m} h i j v w) = good_parameter c a b m h i j (printed_binding v) (printed_value w)
 
   printed_rest : {names : Tables} {c : Allowed} {rest : Maybe} → IsRest names c rest → RestOf names c rest
   printed_rest {names} {c} family.no_rest = tt
-  printed_rest {names} {c} (family.a_rest {a} {b} v) = good_rest c a b (bound v)
+  printed_rest {names} {c} (family.a_rest {a} {b} v) = good_rest c a b (printed_binding v)
+
+  printed_binding : {names : Tables} {c : Allowed} {t : Tree} → IsBinding names c t → Bound names c t
+  printed_binding {names} {c} (family.a_bound_name {a} h) = good_bound_name c a h
+  printed_binding {names} {c} (family.an_array_pattern {a} {es} {rest} v w) = patterns.good_array_pattern c a es rest (λ place. bound_elements v place) (λ place. bound_rest w place)
+  printed_binding {names} {c} (family.an_object_pattern {a} {ps} {rest} v w) = patterns.good_object_pattern c a ps rest (λ place. bound_properties v place) (λ place. bound_name_of_rest c w place)
+
+  bound_elements : {names : Tables} {c : Allowed} {es : Trees} → AreBindingElements names c es → (place : Place) → Each names (ReadsBindingElement (with_in c)) place es
+  bound_elements family.no_binding_element place = tt
+  bound_elements (family.first_binding_element v w) place = (at_any refl (bound_element v place), bound_elements w place)
+  bound_elements (family.a_binding_elision v) place = bound_elements v place
+
+  bound_element : {names : Tables} {c : Allowed} {t : Tree} → IsBindingElement names c t → patterns.ElementOf names c t
+  bound_element {names} {c} (family.a_binding_alone {t} v) = patterns.element_alone c t (printed_binding v)
+  bound_element {names} {c} (family.a_binding_with_value {a} {b} {v = e} v w) = patterns.element_with_value c a b e (printed_binding v) (printed_expression w)
+
+  bound_rest : {names : Tables} {c : Allowed} {rest : Maybe} → IsBindingRest names c rest → patterns.RestOf names c rest
+  bound_rest family.no_binding_rest place = tt
+  bound_rest {names} {c} (family.a_binding_rest {a} {b} v) place = patterns.rest_element c a b (printed_binding v) place
+
+  bound_properties : {names : Tables} {c : Allowed} {ps : Trees} → AreBindingProperties names c ps → (place : Place) → Every names (ReadsBindingProperty (with_in c)) place ps
+  bound_properties family.no_binding_property place = tt
+  bound_properties (family.first_binding_property v w) place = (bound_property v place, bound_properties w place)
+
+  bound_property : {names : Tables} {c : Allowed} {t : Tree} → IsBindingProperty names c t → patterns.BoundProperty names c t
+  bound_property {names} {c} (family.a_binding_property {a} {k} {v = x} n key v) = patterns.good_bound_property a x refl n key (printed_key key) (λ m e. bound_named v m e) (bound_element v)
+
+  -- what is bound by a name alone
+  bound_named : {names : Tables} {c : Allowed} {t : Tree} → IsBindingElement names c t → (n : Named) → bound_in t ≡ Some n → patterns.IsNamed names c n t × (is_free_name (printed_name names n) ≡ true)
+  bound_named {names} (family.a_binding_alone (family.a_bound_name {a} h)) n e = let s = same_Some (binding_named a) n e in (patterns.named_alone s, subst (λ m. is_free_name (printed_name names m) ≡ true) s h)
+  bound_named (family.a_binding_alone (family.an_array_pattern v w)) n e = absurd (both_ways false refl (ap is_some e))
+  bound_named (family.a_binding_alone (family.an_object_pattern v w)) n e = absurd (both_ways false refl (ap is_some e))
+  bound_named {names} (family.a_binding_with_value (family.a_bound_name {a} h) v) n e = let s = same_Some (binding_named a) n e in (patterns.named_with_value s (printed_expression v), subst (λ m. is_free_name (printed_name names m) ≡ true) s h)
+  bound_named (family.a_binding_with_value (family.an_array_pattern v w) x) n e = absurd (both_ways false refl (ap is_some e))
+  bound_named (family.a_binding_with_value (family.an_object_pattern v w) x) n e = absurd (both_ways false refl (ap is_some e))
+
+  -- what is given a value
+  target_of : {names : Tables} {c : Allowed} {t : Tree} → IsTarget names c t → targets.TargetOf names c t
+  target_of {c = c} (family.a_simple_target s v) = targets.simple_target_of c (printed_target v s)
+  target_of {c = c} (family.a_target_pattern (family.an_array_target {a} {es} {rest} v w)) = targets.pattern_of c (targets.good_array_target c a es rest (target_elements v) (target_rest w))
+  target_of {c = c} (family.a_target_pattern (family.an_object_target {a} {ps} {rest} v w)) = targets.pattern_of c (targets.good_object_target c a ps rest (target_properties v) (simple_rest w))
+
+  target_element : {names : Tables} {c : Allowed} {t : Tree} → IsTargetElement names c t → targets.ElementOf names c t
+  target_element {c = c} (family.a_target_alone {t} v) = targets.element_alone c t (target_of v)
+  target_element {c = c} (family.a_target_with_default {a} {t} {v = x} (family.a_simple_target s v) w) = targets.simple_with_default c a t x (printed_target v s) (printed_expression w)
+  target_element {c = c} (family.a_target_with_default {a} {v = x} (family.a_target_pattern (family.an_array_target {a = b} {es} {rest} v w)) y) = targets.pattern_with_default c a (tree.array_target b es rest) x (targets.good_array_target c b es rest (target_elements v) (target_rest w)) (printed_expression y)
+  target_element {c = c} (family.a_target_with_default {a} {v = x} (family.a_target_pattern (family.an_object_target {a = b} {ps} {rest} v w)) y) = targets.pattern_with_default c a (tree.object_target b ps rest) x (targets.good_object_target c b ps rest (target_properties v) (simple_rest w)) (printed_expression y)
+
+  target_elements : {names : Tables} {c : Allowed} {es : Trees} → AreTargetElements names c es → targets.ElementsOf names c es
+  target_elements family.no_target_element = tt
+  target_elements (family.first_target_element v w) = (at_any refl (target_element v), target_elements w)
+  target_elements (family.a_target_elision v) = target_elements v
+
+  target_rest : {names : Tables} {c : Allowed} {rest : Maybe} → IsTargetRest names c rest → targets.RestOf names c rest
+  target_rest family.no_target_rest = tt
+  target_rest {c = c} (family.a_target_rest {a} {t} v) = targets.rest_of c a t (target_of v)
+
+  simple_rest : {names : Tables} {c : Allowed} {rest : Maybe} → IsSimpleRest names c rest → targets.SimpleRestOf names c rest
+  simple_rest family.no_simple_rest = tt
+  simple_rest {c = c} (family.a_simple_rest {a} {t} s v) = targets.simple_rest_of c a t (printed_target v s)
+
+  target_properties : {names : Tables} {c : Allowed} {ps : Trees} → AreTargetProperties names c ps → targets.PropertiesOf names c ps
+  target_properties family.no_target_property = tt
+  target_properties (family.first_target_property v w) = (target_property v (in_brackets levels.Comma), target_properties w)
+
+  target_property : {names : Tables} {c : Allowed} {t : Tree} → IsTargetProperty names c t → by_key.TargetProperty names c t
+  target_property {c = c} (family.a_target_name {a} {b} {m} h f v) = by_key.good_own_name c a b m h f (printed_value v)
+  target_property {c = c} (family.a_target_property {a} {t = x} n key v) = by_key.good_target_property a x refl n key (printed_key key) (λ m e. named_target_of v m e) (target_element v)
+
+  -- a name alone, with a default or without one
+  named_target_of : {names : Tables} {c : Allowed} {t : Tree} → IsTargetElement names c t → (n : Named) → target_named t ≡ Some n → by_key.IsNamed names c n t × (is_free_name (printed_name names n) ≡ true)
+  named_target_of {names} (family.a_target_alone (family.a_simple_target s (family.a_reference {a} h))) n e = let x = same_Some (reference_named a) n e in (by_key.named_alone x, subst (λ m. is_free_name (printed_name names m) ≡ true) x h)
+  named_target_of {names} (family.a_target_with_default (family.a_simple_target s (family.a_reference {a} h)) v) n e = let x = same_Some (reference_named a) n e in (by_key.named_with_default x (printed_expression v), subst (λ m. is_free_name (printed_name names m) ≡ true) x h)
+  named_target_of (family.a_target_alone (family.a_simple_target s (family.a_named_member m v h))) n e = absurd (both_ways false refl (ap is_some e))
+  named_target_of (family.a_target_alone (family.a_simple_target s (family.a_computed_member m v w))) n e = absurd (both_ways false refl (ap is_some e))
+  named_target_of (family.a_target_alone (family.a_simple_target s v)) n e = absurd (both_ways false refl s)
+  named_target_of (family.a_target_alone (family.a_target_pattern (family.an_array_target v w))) n e = absurd (both_ways false refl (ap is_some e))
+  named_target_of (family.a_target_alone (family.a_target_pattern (family.an_object_target v w))) n e = absurd (both_ways false refl (ap is_some e))
+  named_target_of (family.a_target_with_default (family.a_simple_target s (family.a_named_member m v h)) x) n e = absurd (both_ways false refl (ap is_some e))
+  named_target_of (family.a_target_with_default (family.a_simple_target s (family.a_computed_member m v w)) x) n e = absurd (both_ways false refl (ap is_some e))
+  named_target_of (family.a_target_with_default (family.a_simple_target s v) x) n e = absurd (both_ways false refl s)
+  named_target_of (family.a_target_with_default (family.a_target_pattern (family.an_array_target v w)) x) n e = absurd (both_ways false refl (ap is_some e))
+  named_target_of (family.a_target_with_default (family.a_target_pattern (family.an_object_target v w)) x) n e = absurd (both_ways false refl (ap is_some e))
 
   pub printed_value : {names : Tables} {c : Allowed} {m : Maybe} → IsValue names c m → PrintedIfGiven names c m
   printed_value {names} {c} family.no_value = tt
@@ -203,7 +301,8 @@ mutual
 
   -- declarators, as a list and as more of one
   declared : {names : Tables} {c : Allowed} {t : Tree} → IsDeclarator names c t → (place : Place) → DeclaredAt names c place t
-  declared {names} {c} (family.a_declarator {a} {b} {m} h v w) place = good_declarator c a b m h (bound v) (printed_value w) place
+  declared {names} {c} (family.a_declared_alone {a} {b} h v) place = good_declared_alone c a b h (printed_binding v) place
+  declared {names} {c} (family.a_declared_with_value {a} {b} {v} h w x) place = good_declared_with_value c a b v h (printed_binding w) (printed_expression x) place
 
   list_declared : {names : Tables} {c : Allowed} {ds : Trees} → AreDeclarators names c ds → (place : Place) → ListDeclaredAt names c place ds × MoreDeclaredAt names c place ds
   list_declared {names} {c} (family.last_declarator {d} v) place = last_declared c d place (declared v place)
@@ -216,8 +315,10 @@ mutual
   printed_init {c = c} (family.first_expression {t} v) = init_expression c t (printed_expression v)
 
   printed_left : {names : Tables} {c : Allowed} {t : Tree} → IsLeft names c t → LeftOf names c t
-  printed_left {c = c} (family.a_declared_name {a} {b} {t} m n v) = left_declared c a b t m n (bound v)
+  printed_left {c = c} (family.a_declared_name {a} {b} {t} m n v) = left_declared c a b t m n (printed_binding v)
   printed_left (family.a_target s v) = left_target v s (printed_target v s)
+  printed_left {c = c} (family.a_left_pattern (family.an_array_target {a} {es} {rest} v w)) = left_array c a es rest (targets.good_array_target c a es rest (target_elements v) (target_rest w))
+  printed_left {c = c} (family.a_left_pattern (family.an_object_target {a} {ps} {rest} v w)) = left_object c a ps rest (targets.good_object_target c a ps rest (target_properties v) (simple_rest w))
 
   cases_of : {names : Tables} {c : Allowed} {default : Bool} {ts : Trees} → AreCases names c default ts → CasesOf names c default ts
   cases_of {names} {c} (family.no_case {default}) = no_cases c default
@@ -243,7 +344,7 @@ mutual
 
   handler_of : {names : Tables} {c : Allowed} {t : Tree} → IsHandler names c t → HandlerOf names c t
   handler_of {names} {c} (family.a_catch {a} {t} v) = good_catch c a t (block_of v)
-  handler_of {names} {c} (family.a_catch_by_name {a} {n} {t} v w) = good_catch_by_name c a n t (bound v) (block_of w)
+  handler_of {names} {c} (family.a_catch_by_name {a} {n} {t} v w) = good_catch_by_name c a n t (printed_binding v) (block_of w)
 
   block_of : {names : Tables} {c : Allowed} {t : Tree} → IsBlock names c t → BlockOf names c t
   block_of {names} {c} (family.some_block {a} {ss} v) = some_block c a ss ((rows v).0)

@@ -1,7 +1,10 @@
+pub mod Adds
+pub mod Parts
 pub mod Patterns
 pub mod Levels
 pub mod Families
 pub mod Faultless
+pub mod ValidPatterns
 pub mod Valid
 pub mod Numbers
 pub mod Freed
@@ -9,6 +12,7 @@ pub mod Good
 pub mod Marks
 pub mod Names
 pub mod Lists
+pub mod Rests
 pub mod Elements
 pub mod Asked
 pub mod Openings
@@ -28,6 +32,9 @@ pub mod Choices
 pub mod Sequences
 pub mod Assignments
 pub mod Bindings
+pub mod BoundPatterns
+pub mod Targets
+pub mod TargetProperties
 pub mod Parameters
 pub mod Expressions
 pub mod Ends

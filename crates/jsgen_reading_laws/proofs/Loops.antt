@@ -19,28 +19,32 @@ use Rattle.jsgen_tree.specs.declared.statements.VariableDeclarationKind.{Variabl
 use Rattle.jsgen_tree.specs.declared.statements.VariableDeclarationKind.TheVariants as kinds
 use Rattle.jsgen_tree.specs.declared.types.NodeType.{NodeType}
 use Rattle.jsgen_tree.specs.declared.types.NodeType.TheVariants as types
-use Rattle.jsgen_model.specs.Punctuator.{semicolon, Round, opening}
+use Rattle.jsgen_model.specs.Punctuator.{Bracket, semicolon, Round, Square, Brace, opening}
 use Rattle.jsgen_model.specs.Tokens.{Tokens, done, piece, group, ◌⧺◌, Word, Sign}
 use Rattle.jsgen_model.specs.Items.{Items, ◌⊕◌, word, name, punctuator, indentation, soft_space, hard_space, brackets}
 use Rattle.jsgen_model.specs.Layout.{Pen, other_end, layout, written}
 use Rattle.jsgen_model.specs.Grammar.{Allowed, Level, ReadsExpression, ReadsBinding, ReadsInit, ReadsPart, ReadsLeft, declaring, with_in, may_precede_of}
 use Rattle.jsgen_model.specs.Grammar as grammar
-use Rattle.jsgen_model.specs.Normal.{normal, normal_maybe, nothing_of, unnumbered, declared_as, if_set}
-use Rattle.jsgen_model.specs.Renamed.{renamed, renamed_maybe}
+use Rattle.jsgen_model.specs.Normal.{normal, nothing_of, unnumbered, declared_as, if_set}
+use Rattle.jsgen_model.specs.Renamed.{renamed}
 use Rattle.jsgen_place.specs.declared.place.Place.{Place}
 use Rattle.jsgen_place.specs.Place.{among_statements, within_statement, in_brackets, loop_head}
 use Rattle.jsgen_model.specs.Spell.{spell, spell_if_given, spell_apart, left_place, shape, body_items, items_if, before_of, apart_from_of}
 use Rattle.jsgen_token_laws.proofs.Characters.{letters_spelled}
 use Rattle.jsgen_token_laws.proofs.Last.{Last, Open, After, line_of}
 use Rattle.jsgen_token_laws.proofs.Writes.{Writes, wrote_none, wrote_both}
-use Rattle.jsgen_token_laws.proofs.Steps.{Soft, wrote_word, wrote_name, wrote_semicolon, soft_space_written, within_brackets, brackets_written}
+use Rattle.jsgen_token_laws.proofs.Steps.{Soft, wrote_word, wrote_name, soft_space_written, within_brackets, brackets_written}
 use Rattle.jsgen_reading_laws.proofs.Levels.{from_primary}
 use Rattle.jsgen_reading_laws.proofs.Families.{IsExpression}
 use Rattle.jsgen_reading_laws.proofs.Families as family
+use Rattle.jsgen_reading_laws.proofs.Freed.{freed_binding}
 use Rattle.jsgen_reading_laws.proofs.Good.{Good, Printed, TargetPrinted, is_word_alone}
+use Rattle.jsgen_reading_laws.proofs.Adds.{behind_sign, unknown, Is, is, ◌⨟◌, ◌&◌, Nothing, none, Says, Adds, ◌⨾◌, read, forget, semicolon_sign, empty, spaced}
+use Rattle.jsgen_reading_laws.proofs.Parts.{Reads, SameMaybe, expression, inside, gives_inside}
 use Rattle.jsgen_reading_laws.proofs.Names.{free_spelled, free_precedes_of}
 use Rattle.jsgen_reading_laws.proofs.Openings.{precedes_of}
 use Rattle.jsgen_reading_laws.proofs.Bindings.{Bound, PrintedIfGiven}
+use Rattle.jsgen_reading_laws.proofs.Targets.{PatternOf}
 use Rattle.jsgen_reading_laws.proofs.Properties.{same_laid}
 use Rattle.jsgen_reading_laws.proofs.Declarations.{kind_spelled, VariablesAt}
 use Rattle.jsgen_reading_laws.proofs.Stands.{Stated, StatedAt, stated_among, SameTree}
@@ -55,9 +59,6 @@ for_spelled : spells_name (codes "for") ≡ true
 for_spelled = letters_spelled 102 (codes "or") refl
 
 -- ---- the three parts of a head, with semicolons between
-
-abbrev SameMaybe : Tables → Maybe → Maybe → Type 0
-SameMaybe names m n = normal_maybe n ≡ normal_maybe (renamed_maybe names m)
 
 abbrev pub InitOf : Tables → Allowed → Maybe → Type 0
 InitOf names c m = InsideAt names (ReadsInit c) (SameMaybe names m) (spell_if_given m loop_head)
@@ -75,47 +76,35 @@ init_variables c a ds f p l z y k =
     let g = f loop_head p l z k in
     record { last = g.last; tokens = g.tokens; writes = g.writes; semicolon = g.semicolon; reading = given g.tree; reads = grammar.first_variables (variable_declaration_kind a) g.reads; same = ap (λ t. given t) g.same }
 
-abbrev PartOf : Tables → Allowed → Maybe → Type 0
-PartOf names c m = InsideAt names (ReadsPart (with_in c)) (SameMaybe names m) (spell_apart m (in_brackets levels.Lowest))
+-- a part of the head behind a semicolon
+abbrev Part : Tables → Allowed → Maybe → Tokens → Type 0
+Part names c m = Says (ReadsPart (with_in c)) (SameMaybe names m)
 
-good_part : {names : Tables} (c : Allowed) (m : Maybe) → PrintedIfGiven names c m → PartOf names c m
-good_part c absent f p l z y k = record { last = l; tokens = done; writes = wrote_none p p l refl k; semicolon = z; reading = absent; reads = grammar.nothing_there; same = refl }
-good_part c (given t) f p l z y k =
-    let s = soft_space_written p l k in
-    let g = f (in_brackets levels.Lowest) (layout soft_space p) s.last (s.semicolon ∙ z) (s.ready y) s.writes.knows in
-    record { last = g.last; tokens = g.tokens; writes = wrote_both s.writes g.writes; semicolon = g.semicolon; reading = given g.tree; reads = grammar.an_expression_there g.reads; same = ap (λ u. given u) g.same }
+a_part : (names : Tables) (c : Allowed) (t : Tree) {ts : Tokens} → Reads names (ReadsExpression (with_in c) grammar.Expression) t ts → Part names c (given t) ts
+a_part names c t r = record { reading = given r.reading; reads = grammar.an_expression_there r.reads; same = ap (λ u. given u) r.same }
 
-same_for : (m n o i j k : Maybe) (u v : Tree) → normal_maybe m ≡ normal_maybe i → normal_maybe n ≡ normal_maybe j → normal_maybe o ≡ normal_maybe k → normal u ≡ normal v → tree.for_statement (nothing_of 0) (normal_maybe m) (normal_maybe n) (normal_maybe o) (normal u) ≡ tree.for_statement (nothing_of 0) (normal_maybe i) (normal_maybe j) (normal_maybe k) (normal v)
-same_for m n o i j k u v e f g h = λ x. tree.for_statement (nothing_of 0) (e x) (f x) (g x) (h x)
+no_part : (names : Tables) (c : Allowed) {ts : Tokens} → Nothing ts → Part names c absent ts
+no_part names c none = record { reading = absent; reads = grammar.nothing_there; same = refl }
 
--- from the first part, a semicolon, the second, a semicolon and the third
-three_parts : {names : Tables} {c : Allowed} (a : Atoms) (init test update : Maybe) {p p1 p2 p3 p4 q : Pen} {l : Last} → (i : Inside names (ReadsInit c) (SameMaybe names init) p l p1) → Writes names p1 i.last p2 (After (Sign semicolon)) (piece (line_of i.last) (Sign semicolon) done) → (t : Inside names (ReadsPart (with_in c)) (SameMaybe names test) p2 (After (Sign semicolon)) p3) → Writes names p3 t.last p4 (After (Sign semicolon)) (piece (line_of t.last) (Sign semicolon) done)
-    → Inside names (ReadsPart (with_in c)) (SameMaybe names update) p4 (After (Sign semicolon)) q → Inside names (ReadsHead c (codes "for")) (SameHead names (λ s. tree.for_statement a init test update s)) p l q
-three_parts {names} a init test update i x t y u = record {
-  last = u.last;
-  tokens = i.tokens ⧺ piece (line_of i.last) (Sign semicolon) (t.tokens ⧺ piece (line_of t.last) (Sign semicolon) u.tokens);
-  writes = wrote_both i.writes (wrote_both x (wrote_both t.writes (wrote_both y u.writes)));
-  semicolon = u.semicolon;
+part : {names : Tables} (c : Allowed) (m : Maybe) → PrintedIfGiven names c m → Adds names behind_sign (Part names c m) unknown (spell_apart m (in_brackets levels.Lowest))
+part {names} c absent f = forget (read (λ ts r. no_part names c r) empty)
+part {names} c (given t) f = forget (read (λ ts r. a_part names c t r) (spaced (expression c refl f (in_brackets levels.Lowest))))
+
+abbrev ForParts : Tables → Allowed → Maybe → Maybe → Maybe → Tokens → Type 0
+ForParts names c init test update = Says (ReadsInit c) (SameMaybe names init) ⨟ (Is (Sign semicolon) ⨟ (Part names c test ⨟ (Is (Sign semicolon) ⨟ Part names c update)))
+
+read_for : (names : Tables) (c : Allowed) (a : Atoms) (init test update : Maybe) {ts : Tokens} → ForParts names c init test update ts → Says (ReadsHead c (codes "for")) (SameHead names (λ s. tree.for_statement a init test update s)) ts
+read_for names c a init test update (i & (is k & (t & (is m & u)))) = record {
   reading = λ s. tree.for_statement (nothing_of 0) i.reading t.reading u.reading s;
-  reads = λ last before_else mark next ts s r. grammar.a_for (line_of i.last) (line_of t.last) refl i.reads t.reads u.reads r;
-  same = λ v s e. same_for i.reading t.reading u.reading (renamed_maybe names init) (renamed_maybe names test) (renamed_maybe names update) v (renamed names s) i.same t.same u.same e;
+  reads = λ last before_else mark next ts s r. grammar.a_for k m refl i.reads t.reads u.reads r;
+  same = λ v s e x. tree.for_statement (nothing_of 0) (i.same x) (t.same x) (u.same x) (e x);
 }
 
 abbrev for_items : Maybe → Maybe → Maybe → Items
 for_items init test update = spell_if_given init loop_head ⊕ (punctuator semicolon ⊕ (spell_apart test (in_brackets levels.Lowest) ⊕ (punctuator semicolon ⊕ spell_apart update (in_brackets levels.Lowest))))
 
 for_inside : {names : Tables} (c : Allowed) (a : Atoms) (init test update : Maybe) → InitOf names c init → PrintedIfGiven names c test → PrintedIfGiven names c update → InsideAt names (ReadsHead c (codes "for")) (SameHead names (λ s. tree.for_statement a init test update s)) (for_items init test update)
-for_inside c a init test update f g h p l z y k =
-    let p1 : Pen = layout (spell_if_given init loop_head) p in
-    let p2 : Pen = layout (punctuator semicolon) p1 in
-    let p3 : Pen = layout (spell_apart test (in_brackets levels.Lowest)) p2 in
-    let p4 : Pen = layout (punctuator semicolon) p3 in
-    let i = f p l z y k in
-    let v = wrote_semicolon p1 p2 i.last refl refl i.writes.knows in
-    let t = good_part c test g p2 (After (Sign semicolon)) i.semicolon tt v.knows in
-    let w = wrote_semicolon p3 p4 t.last refl refl t.writes.knows in
-    let u = good_part c update h p4 (After (Sign semicolon)) t.semicolon tt w.knows in
-    three_parts a init test update i v t w u
+for_inside {names} c a init test update f g h = gives_inside (for_items init test update) (read (λ ts r. read_for names c a init test update r) (inside (spell_if_given init loop_head) refl f ⨾ (semicolon_sign ⨾ (part c test g ⨾ (semicolon_sign ⨾ part c update h)))))
 
 pub good_for : {names : Tables} (c : Allowed) (a : Atoms) (init test update : Maybe) (s : Tree) → InitOf names c init → PrintedIfGiven names c test → PrintedIfGiven names c update → EmptyAlone names s → Stated names c s → Stated names c (tree.for_statement a init test update s)
 good_for {names} c a init test update s g h i m f = stated_among refl (headed_line c (codes "for") for_spelled (λ t. tree.for_statement a init test update t) s (ends_open s) (for_items init test update) (body_of s) (for_inside c a init test update g h i) (good_body c s m f))
@@ -133,10 +122,6 @@ left_items false t = spell t (left_place (type_of t))
 
 abbrev pub LeftOf : Tables → Allowed → Tree → Type 0
 LeftOf names c t = (before_of : Bool) → LeftAt names c before_of (left_items before_of t) t
-
--- a name is bound whether `in` may stand or not
-bound_anywhere : {c d : Allowed} {ts : Tokens} {b : Tree} → ReadsBinding c ts b → ReadsBinding d ts b
-bound_anywhere (grammar.a_bound_name e h) = grammar.a_bound_name e h
 
 kind_declares : (kind : VariableDeclarationKind) → declaring kind ≡ declaration_word kind
 kind_declares kinds.Const = refl
@@ -165,7 +150,7 @@ declared_left {names} c a d b before_of m n f p l z y k =
       writes = wrote_both o (wrote_both s.writes g.writes);
       semicolon = g.semicolon;
       reading = u;
-      reads = subst (λ x. ReadsLeft (with_in c) before_of (piece (line_of l) (Word x) g.tokens) u) (kind_declares kind) (grammar.a_declared_name kind (bound_anywhere g.reads));
+      reads = subst (λ x. ReadsLeft (with_in c) before_of (piece (line_of l) (Word x) g.tokens) u) (kind_declares kind) (grammar.a_declared_name kind (freed_binding g.reads));
       same = same_declared a d g.tree (renamed names b) m n g.same;
     }
 
@@ -242,6 +227,20 @@ left_target {c = c} (family.a_reference {a} h) s f true = name_left c a h
 left_target {c = c} {t} (family.a_named_member m v h) s f true = target_left c true t s (λ e. refl) f
 left_target {c = c} {t} (family.a_computed_member m v w) s f true = target_left c true t s (λ e. refl) f
 left_target v s f true = absurd (both_ways false refl s)
+
+-- a pattern of targets, which begins with a bracket
+pattern_inside : {names : Tables} {b : Bracket} {t : Tree} (c : Allowed) (before_of : Bool) → PatternOf names c b t → LeftAt names c before_of (spell t (in_brackets levels.Comma)) t
+pattern_inside {b = b} c before_of f p l z y k =
+    let g = f (in_brackets levels.Comma) p l z k in
+    record { last = Open false; tokens = group (line_of l) b g.inside done; writes = g.writes; semicolon = g.semicolon; reading = g.reading; reads = grammar.a_left_pattern g.reads; same = g.same }
+
+pub left_array : {names : Tables} (c : Allowed) (a : Atoms) (es : Trees) (rest : Maybe) → PatternOf names c Square (tree.array_target a es rest) → LeftOf names c (tree.array_target a es rest)
+left_array c a es rest f true = pattern_inside c true f
+left_array c a es rest f false = pattern_inside c false f
+
+pub left_object : {names : Tables} (c : Allowed) (a : Atoms) (ps : Trees) (rest : Maybe) → PatternOf names c Brace (tree.object_target a ps rest) → LeftOf names c (tree.object_target a ps rest)
+left_object c a ps rest f true = pattern_inside c true f
+left_object c a ps rest f false = pattern_inside c false f
 
 -- ---- over keys and over values
 

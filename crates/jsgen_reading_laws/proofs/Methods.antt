@@ -1,7 +1,6 @@
 -- Methods and accessors of objects: a word, a key, and behind it parameters and a body.
-use Rattle.std.proofs.Common.{◌≡◌, ℕ, Bool, true, false, ◌||◌, codes, List, refl, sym, ap, ◌∙◌, subst}
+use Rattle.std.proofs.Common.{◌≡◌, Bool, true, false, ◌||◌, codes, refl, sym, ap, ◌∙◌}
 use Rattle.jsgen_syntax.specs.declared.precedence.Precedence.TheVariants as levels
-use Rattle.jsgen_syntax.specs.Name.{spells_name}
 use Rattle.jsgen_tree.specs.Job.{Tables}
 use Rattle.jsgen_tree.specs.Inside.{is_method}
 use Rattle.jsgen_tree.specs.Tree.{Tree, Maybe, absent, given, Trees, no_trees, more, Atoms}
@@ -11,25 +10,25 @@ use Rattle.jsgen_tree.specs.declared.collections.PropertyKind.{PropertyKind}
 use Rattle.jsgen_tree.specs.declared.collections.PropertyKind.TheVariants as property_kinds
 use Rattle.jsgen_tree.specs.declared.functions.FunctionKind.TheVariants as kinds
 use Rattle.jsgen_model.specs.Punctuator.{Round, Brace, star}
-use Rattle.jsgen_model.specs.Tokens.{Tokens, done, piece, group, ◌⧺◌, Word}
-use Rattle.jsgen_model.specs.Items.{Items, nothing, ◌⊕◌, word, punctuator, soft_space}
-use Rattle.jsgen_model.specs.Layout.{Pen, layout}
+use Rattle.jsgen_model.specs.Tokens.{Tokens, done, group, ◌⧺◌, Word}
+use Rattle.jsgen_model.specs.Items.{Items, nothing, ◌⊕◌, brackets, punctuator}
+use Rattle.jsgen_model.specs.Layout.{layout}
 use Rattle.jsgen_model.specs.Grammar.{Allowed, ReadsKey, ReadsProperty, ReadsParameters, ReadsBody, with_in, in_function, method_of}
 use Rattle.jsgen_model.specs.Grammar as grammar
 use Rattle.jsgen_model.specs.Normal.{normal, nothing_of, property_values, is_written_as_method, is_computed, is_proto_shorthand}
 use Rattle.jsgen_model.specs.Renamed.{renamed}
-use Rattle.jsgen_place.specs.Place.{in_brackets}
+use Rattle.jsgen_place.specs.declared.place.Place.{Place}
+use Rattle.jsgen_place.specs.Place.{in_brackets, within_statement}
 use Rattle.jsgen_model.specs.Spell.{spell, needs_brackets, key_items, accessor_word, items_if, key_word}
 use Rattle.jsgen_token_laws.proofs.Characters.{letters_spelled}
-use Rattle.jsgen_token_laws.proofs.Last.{Last, Open, After, line_of, Begun, Knows}
-use Rattle.jsgen_token_laws.proofs.Writes.{Writes, wrote_both}
-use Rattle.jsgen_token_laws.proofs.Steps.{wrote_word, soft_space_written}
+use Rattle.jsgen_token_laws.proofs.Last.{Open, line_of}
 use Rattle.jsgen_reading_laws.proofs.Families.{IsSynchronous}
 use Rattle.jsgen_reading_laws.proofs.Unrenamed.{signed_as_it_was}
-use Rattle.jsgen_reading_laws.proofs.Lists.{Element}
-use Rattle.jsgen_reading_laws.proofs.Properties.{GoodKey, KeyOf, PropertyOf, property_spelled, read_computed}
+use Rattle.jsgen_reading_laws.proofs.Adds.{a_start, End, is_good_for, at_member, behind_token, after_group, Is, is, Within, within, ◌⨟◌, ◌&◌, Says, Adds, ◌⨾◌, read, laid, past, keyword, spaced, before_space}
+use Rattle.jsgen_reading_laws.proofs.Parts.{Reads, gives_element}
+use Rattle.jsgen_reading_laws.proofs.Properties.{KeyOf, key_stretch, PropertyOf, property_spelled, read_computed}
 use Rattle.jsgen_reading_laws.proofs.Properties as properties
-use Rattle.jsgen_reading_laws.proofs.Functions.{GroupOf, BodyOf, GoodMethod, ReadsNone, ReadsOne, method_items, good_method_items, same_function}
+use Rattle.jsgen_reading_laws.proofs.Functions.{GroupOf, BodyOf, ReadsNone, ReadsOne, function_parameters, method_items, same_function}
 
 -- ---- what is spelled
 
@@ -59,57 +58,34 @@ same_method a kind b k v x y e m d f g =
 
 -- ---- a key, and what is behind it
 
-record KeyedMethod (names : Tables) (R : Tokens → Trees → Maybe → Type 0) (p : Pen) (l : Last) (q : Pen) (c : Allowed) (brackets : Bool) (x t u : Tree) : Type 0 where
-  key_tokens : Tokens
-  next : Bool
-  mark : Bool
-  head : Tokens
-  inside : Tokens
-  writes : Writes names p l q (Open false) (key_tokens ⧺ group next Round head (group mark Brace inside done))
-  semicolon : q.pending_semicolon ≡ false
-  key : Tree
-  items : Trees
-  rest : Maybe
-  directives : Trees
-  statements : Trees
-  reads_key : ReadsKey c brackets key_tokens key
-  reads_head : R head items rest
-  reads_body : ReadsBody in_function true inside directives statements
-  same_key : normal key ≡ normal (renamed names x)
-  same_head : normal (tree.formal_parameters (nothing_of 0) items rest) ≡ normal (renamed names t)
-  same_body : normal (tree.function_body (nothing_of 0) directives statements) ≡ normal (renamed names u)
+-- parameters in parentheses, and a body
+abbrev pub Head : Tables → (Tokens → Trees → Maybe → Type 0) → Tree → Tokens → Type 0
+Head names R t = Says {X = Trees × Maybe} (λ ts x. R ts x.0 x.1) (λ x. normal (tree.formal_parameters (nothing_of 0) x.0 x.1) ≡ normal (renamed names t))
 
-keyed_parts : {names : Tables} {R : Tokens → Trees → Maybe → Type 0} {p p1 q : Pen} {l : Last} {c : Allowed} {brackets : Bool} (x t u : Tree) → (g : GoodKey names p l p1 c brackets x) → GoodMethod names R p1 g.last q t u → KeyedMethod names R p l q c brackets x t u
-keyed_parts x t u g r = record {
-  key_tokens = g.tokens;
-  next = line_of g.last;
-  mark = r.mark;
-  head = r.head;
-  inside = r.inside;
-  writes = wrote_both g.writes r.writes;
-  semicolon = r.semicolon;
-  key = g.tree;
-  items = r.items;
-  rest = r.rest;
-  directives = r.directives;
-  statements = r.statements;
-  reads_key = g.reads;
-  reads_head = r.reads_head;
-  reads_body = r.reads_body;
-  same_key = g.same;
-  same_head = r.same_head;
-  same_body = r.same_body;
-}
+abbrev pub Body : Tables → Tree → Tokens → Type 0
+Body names u = Says {X = Trees × Trees} (λ ts x. ReadsBody in_function true ts x.0 x.1) (λ x. normal (tree.function_body (nothing_of 0) x.0 x.1) ≡ normal (renamed names u))
 
-keyed : {names : Tables} {R : Tokens → Trees → Maybe → Type 0} (c : Allowed) (computed : Bool) (x t u : Tree) → KeyOf names c computed x → GroupOf names R t → BodyOf names u → (p : Pen) (l : Last) → p.pending_semicolon ≡ false → Begun l → Knows names p l → KeyedMethod names R p l (layout (key_at computed x ⊕ method_items t u (in_brackets levels.Comma)) p) (with_in c) (needs_brackets computed x) x t u
-keyed c computed x t u key f h p l z b k =
-    let p1 : Pen = layout (key_at computed x) p in
-    let g = key p l z b k in
-    let r = good_method_items t u f h (in_brackets levels.Comma) p1 g.last g.semicolon g.writes.knows in
-    keyed_parts x t u g r
+pub head_stretch : {names : Tables} {d : End} {R : Tokens → Trees → Maybe → Type 0} (t : Tree) (place : Place) → GroupOf names R t → Adds names d (Within Round (Head names R t)) behind_token (brackets Round (spell t (function_parameters place)))
+head_stretch t place f = record { from = λ p l z y k. let g = f place p l z k in record { last = Open false; tokens = group (line_of l) Round g.tokens done; writes = g.writes; ends = after_group; semicolon = g.semicolon; holds = within (line_of l) (record { reading = (g.items, g.rest); reads = g.reads; same = g.same }) } }
+
+pub body_stretch : {names : Tables} {d : End} (u : Tree) (place : Place) → BodyOf names u → Adds names d (Within Brace (Body names u)) behind_token (spell u place)
+body_stretch u place f = record { from = λ p l z y k. let g = f place p l z k in record { last = Open false; tokens = group (line_of l) Brace g.tokens done; writes = g.writes; ends = after_group; semicolon = g.semicolon; holds = within (line_of l) (record { reading = (g.directives, g.statements); reads = g.reads; same = g.same }) } }
+
+-- behind a key
+abbrev pub Behind : Tables → (Tokens → Trees → Maybe → Type 0) → Tree → Tree → Tokens → Type 0
+Behind names R t u = Within Round (Head names R t) ⨟ Within Brace (Body names u)
+
+pub behind_key : {names : Tables} {d : End} {R : Tokens → Trees → Maybe → Type 0} (t u : Tree) (place : Place) → GroupOf names R t → BodyOf names u → Adds names d (Behind names R t u) behind_token (method_items t u place)
+behind_key t u place f g = head_stretch t place f ⨾ spaced (body_stretch u within_statement g)
+
+abbrev KeyedMethod : Tables → Allowed → Bool → (Tokens → Trees → Maybe → Type 0) → Tree → Tree → Tree → Tokens → Type 0
+KeyedMethod names c boxed R x t u = Reads names (ReadsKey (with_in c) boxed) x ⨟ Behind names R t u
+
+keyed : {names : Tables} {d : End} {R : Tokens → Trees → Maybe → Type 0} (c : Allowed) (computed : Bool) (x t u : Tree) → is_good_for d a_start ≡ true → KeyOf names c computed x → GroupOf names R t → BodyOf names u → Adds names d (KeyedMethod names c (needs_brackets computed x) R x t u) behind_token (key_at computed x ⊕ method_items t u (in_brackets levels.Comma))
+keyed c computed x t u h key f g = key_stretch c (needs_brackets computed x) x h key ⨾ behind_key t u (in_brackets levels.Comma) f g
 
 -- the function's normal form
-same_value : (names : Tables) (b : Atoms) (t u : Tree) (ps : Trees) (rest : Maybe) (ds ss : Trees) → function_kind b ≡ kinds.Expression → IsSynchronous b → normal (tree.formal_parameters (nothing_of 0) ps rest) ≡ normal (renamed names t) → normal (tree.function_body (nothing_of 0) ds ss) ≡ normal (renamed names u) → normal (method_of ps rest ds ss) ≡ normal (renamed names (tree.function b absent t (given u)))
+pub same_value : (names : Tables) (b : Atoms) (t u : Tree) (ps : Trees) (rest : Maybe) (ds ss : Trees) → function_kind b ≡ kinds.Expression → IsSynchronous b → normal (tree.formal_parameters (nothing_of 0) ps rest) ≡ normal (renamed names t) → normal (tree.function_body (nothing_of 0) ds ss) ≡ normal (renamed names u) → normal (method_of ps rest ds ss) ≡ normal (renamed names (tree.function b absent t (given u)))
 same_value names b t u ps rest ds ss h n f g = same_function b kinds.Expression absent absent ps rest ds ss (renamed names t) (renamed names u) h n refl f g
 
 -- what is read as computed is printed so
@@ -124,84 +100,42 @@ GroupsOf names property_kinds.Init t = GroupOf names (ReadsParameters in_functio
 GroupsOf names property_kinds.Get t = GroupOf names ReadsNone t
 GroupsOf names property_kinds.Set t = GroupOf names ReadsOne t
 
-abbrev ElementOf : Tables → Allowed → Items → Tree → Type 0
-ElementOf names c items t = (p : Pen) (l : Last) → p.pending_semicolon ≡ false → Begun l → Knows names p l → Element names (ReadsProperty (with_in c)) p l (layout items p) t
+-- what is read of one, by what stands before its key
+abbrev Whole : Tables → Allowed → PropertyKind → Bool → Tree → Tree → Tree → Tokens → Type 0
+Whole names c property_kinds.Init boxed x t u = KeyedMethod names c boxed (ReadsParameters in_function) x t u
+Whole names c property_kinds.Get boxed x t u = Is (Word (codes "get")) ⨟ KeyedMethod names c boxed ReadsNone x t u
+Whole names c property_kinds.Set boxed x t u = Is (Word (codes "set")) ⨟ KeyedMethod names c boxed ReadsOne x t u
 
-plain_method : {names : Tables} (c : Allowed) (a b : Atoms) (x t u : Tree) → object_property_kind a ≡ property_kinds.Init → is_method (object_property_kind a) (object_property_method a) ≡ true → KeyOf names c (object_property_computed a) x → function_kind b ≡ kinds.Expression → IsSynchronous b → GroupOf names (ReadsParameters in_function) t → BodyOf names u → ElementOf names c (whole_items property_kinds.Init (object_property_computed a) x t u) (tree.object_property a x (tree.function b absent t (given u)))
-plain_method {names} c a b x t u e m key h n f g p l z y k =
-    let computed : Bool = object_property_computed a in
-    let r = keyed c computed x t u key f g p l z y k in
-    let brackets : Bool = needs_brackets computed x in
-    record {
-      last = Open false;
-      tokens = r.key_tokens ⧺ group r.next Round r.head (group r.mark Brace r.inside done);
-      writes = r.writes;
-      operand = tt;
-      semicolon = r.semicolon;
-      tree = tree.object_property (property_values property_kinds.Init true false brackets) r.key (method_of r.items r.rest r.directives r.statements);
-      reads = grammar.a_method r.next r.mark refl r.reads_key r.reads_head r.reads_body;
-      same = same_method a property_kinds.Init brackets r.key (method_of r.items r.rest r.directives r.statements) (renamed names x) (renamed names (tree.function b absent t (given u))) e m (same_computed names computed x r.reads_key) r.same_key (same_value names b t u r.items r.rest r.directives r.statements h n r.same_head r.same_body);
-    }
+whole : {names : Tables} (c : Allowed) (kind : PropertyKind) (computed : Bool) (x t u : Tree) → KeyOf names c computed x → GroupsOf names kind t → BodyOf names u → Adds names at_member (Whole names c kind (needs_brackets computed x) x t u) behind_token (whole_items kind computed x t u)
+whole c property_kinds.Init computed x t u key f g = past (λ p. refl) (keyed c computed x t u refl key f g)
+whole c property_kinds.Get computed x t u key f g = before_space (keyword (codes "get") (letters_spelled 103 (codes "et") refl)) ⨾ keyed c computed x t u refl key f g
+whole c property_kinds.Set computed x t u key f g = before_space (keyword (codes "set") (letters_spelled 115 (codes "et") refl)) ⨾ keyed c computed x t u refl key f g
 
--- behind the word of an accessor
-record Worded (names : Tables) (p : Pen) (l : Last) (w : List ℕ) : Type 0 where
-  last : Last
-  writes : Writes names p l (layout (word w ⊕ soft_space) p) last (piece (line_of l) (Word w) done)
-  begun : Begun last
-  semicolon : (layout (word w ⊕ soft_space) p).pending_semicolon ≡ false
-
-worded : {names : Tables} (w : List ℕ) → spells_name w ≡ true → (p : Pen) (l : Last) → p.pending_semicolon ≡ false → Knows names p l → Worded names p l w
-worded w h p l z k =
-    let o = wrote_word w p l h k in
-    let s = soft_space_written (layout (word w) p) (After (Word w)) o.knows in
-    record { last = s.last; writes = wrote_both o s.writes; begun = s.begun tt; semicolon = s.semicolon ∙ z }
-
-getter : {names : Tables} (c : Allowed) (a b : Atoms) (x t u : Tree) → object_property_kind a ≡ property_kinds.Get → is_method (object_property_kind a) (object_property_method a) ≡ true → KeyOf names c (object_property_computed a) x → function_kind b ≡ kinds.Expression → IsSynchronous b → GroupOf names ReadsNone t → BodyOf names u → ElementOf names c (whole_items property_kinds.Get (object_property_computed a) x t u) (tree.object_property a x (tree.function b absent t (given u)))
-getter {names} c a b x t u e m key h n f g p l z y k =
-    let computed : Bool = object_property_computed a in
-    let w = worded (codes "get") (letters_spelled 103 (codes "et") refl) p l z k in
-    let r = keyed c computed x t u key f g (layout (accessor_word property_kinds.Get) p) w.last w.semicolon w.begun w.writes.knows in
-    let brackets : Bool = needs_brackets computed x in
-    let none : normal (tree.formal_parameters (nothing_of 0) no_trees absent) ≡ normal (renamed names t) = (λ i. normal (tree.formal_parameters (nothing_of 0) (sym r.reads_head.1 i) (sym r.reads_head.2 i))) ∙ r.same_head in
-    record {
-      last = Open false;
-      tokens = piece (line_of l) (Word (codes "get")) (r.key_tokens ⧺ group r.next Round r.head (group r.mark Brace r.inside done));
-      writes = wrote_both w.writes r.writes;
-      operand = tt;
-      semicolon = r.semicolon;
-      tree = tree.object_property (property_values property_kinds.Get false false brackets) r.key (method_of no_trees absent r.directives r.statements);
-      reads = grammar.a_getter r.next r.mark (ap (λ d. r.key_tokens ⧺ group r.next Round d (group r.mark Brace r.inside done)) r.reads_head.0) r.reads_key r.reads_body;
-      same = same_method a property_kinds.Get brackets r.key (method_of no_trees absent r.directives r.statements) (renamed names x) (renamed names (tree.function b absent t (given u))) e m (same_computed names computed x r.reads_key) r.same_key (same_value names b t u no_trees absent r.directives r.statements h n none r.same_body);
-    }
-
-setter : {names : Tables} (c : Allowed) (a b : Atoms) (x t u : Tree) → object_property_kind a ≡ property_kinds.Set → is_method (object_property_kind a) (object_property_method a) ≡ true → KeyOf names c (object_property_computed a) x → function_kind b ≡ kinds.Expression → IsSynchronous b → GroupOf names ReadsOne t → BodyOf names u → ElementOf names c (whole_items property_kinds.Set (object_property_computed a) x t u) (tree.object_property a x (tree.function b absent t (given u)))
-setter {names} c a b x t u e m key h n f g p l z y k =
-    let computed : Bool = object_property_computed a in
-    let w = worded (codes "set") (letters_spelled 115 (codes "et") refl) p l z k in
-    let r = keyed c computed x t u key f g (layout (accessor_word property_kinds.Set) p) w.last w.semicolon w.begun w.writes.knows in
-    let brackets : Bool = needs_brackets computed x in
-    let one : Trees = more r.reads_head.0 no_trees in
-    let alone : normal (tree.formal_parameters (nothing_of 0) one absent) ≡ normal (renamed names t) = (λ i. normal (tree.formal_parameters (nothing_of 0) (sym r.reads_head.1 i) (sym r.reads_head.2 i))) ∙ r.same_head in
-    record {
-      last = Open false;
-      tokens = piece (line_of l) (Word (codes "set")) (r.key_tokens ⧺ group r.next Round r.head (group r.mark Brace r.inside done));
-      writes = wrote_both w.writes r.writes;
-      operand = tt;
-      semicolon = r.semicolon;
-      tree = tree.object_property (property_values property_kinds.Set false false brackets) r.key (method_of one absent r.directives r.statements);
-      reads = grammar.a_setter r.next r.mark refl r.reads_key r.reads_head.3 r.reads_body;
-      same = same_method a property_kinds.Set brackets r.key (method_of one absent r.directives r.statements) (renamed names x) (renamed names (tree.function b absent t (given u))) e m (same_computed names computed x r.reads_key) r.same_key (same_value names b t u one absent r.directives r.statements h n alone r.same_body);
-    }
+read_whole : (names : Tables) (c : Allowed) (a b : Atoms) (x t u : Tree) (kind : PropertyKind) → object_property_kind a ≡ kind → is_method (object_property_kind a) (object_property_method a) ≡ true → function_kind b ≡ kinds.Expression → IsSynchronous b → {ts : Tokens} → Whole names c kind (needs_brackets (object_property_computed a) x) x t u ts → Reads names (ReadsProperty (with_in c)) (tree.object_property a x (tree.function b absent t (given u))) ts
+read_whole names c a b x t u property_kinds.Init e m h n (k & (within i f & within j g)) =
+    let boxed : Bool = needs_brackets (object_property_computed a) x in
+    let v : Tree = method_of f.reading.0 f.reading.1 g.reading.0 g.reading.1 in
+    record { reading = tree.object_property (property_values property_kinds.Init true false boxed) k.reading v; reads = grammar.a_method i j refl k.reads f.reads g.reads; same = same_method a property_kinds.Init boxed k.reading v (renamed names x) (renamed names (tree.function b absent t (given u))) e m (same_computed names (object_property_computed a) x k.reads) k.same (same_value names b t u f.reading.0 f.reading.1 g.reading.0 g.reading.1 h n f.same g.same) }
+read_whole names c a b x t u property_kinds.Get e m h n (is o & (◌&◌ {a = d} k (within i f & within {ts = w} j g))) =
+    let boxed : Bool = needs_brackets (object_property_computed a) x in
+    let v : Tree = method_of no_trees absent g.reading.0 g.reading.1 in
+    let none : normal (tree.formal_parameters (nothing_of 0) no_trees absent) ≡ normal (renamed names t) = (λ i. normal (tree.formal_parameters (nothing_of 0) (sym f.reads.1 i) (sym f.reads.2 i))) ∙ f.same in
+    record { reading = tree.object_property (property_values property_kinds.Get false false boxed) k.reading v; reads = grammar.a_getter i j (ap (λ y. d ⧺ group i Round y (group j Brace w done)) f.reads.0) k.reads g.reads; same = same_method a property_kinds.Get boxed k.reading v (renamed names x) (renamed names (tree.function b absent t (given u))) e m (same_computed names (object_property_computed a) x k.reads) k.same (same_value names b t u no_trees absent g.reading.0 g.reading.1 h n none g.same) }
+read_whole names c a b x t u property_kinds.Set e m h n (is o & (k & (within i f & within j g))) =
+    let boxed : Bool = needs_brackets (object_property_computed a) x in
+    let one : Trees = more f.reads.0 no_trees in
+    let v : Tree = method_of one absent g.reading.0 g.reading.1 in
+    let alone : normal (tree.formal_parameters (nothing_of 0) one absent) ≡ normal (renamed names t) = (λ i. normal (tree.formal_parameters (nothing_of 0) (sym f.reads.1 i) (sym f.reads.2 i))) ∙ f.same in
+    record { reading = tree.object_property (property_values property_kinds.Set false false boxed) k.reading v; reads = grammar.a_setter i j refl k.reads f.reads.3 g.reads; same = same_method a property_kinds.Set boxed k.reading v (renamed names x) (renamed names (tree.function b absent t (given u))) e m (same_computed names (object_property_computed a) x k.reads) k.same (same_value names b t u one absent g.reading.0 g.reading.1 h n alone g.same) }
 
 -- without a word of its function
 unworded : (a b : Atoms) (x t u : Tree) → IsSynchronous b → properties.method_items a x (tree.function b absent t (given u)) ≡ accessor_word (object_property_kind a) ⊕ ((nothing ⊕ nothing) ⊕ (key_at (object_property_computed a) x ⊕ method_items t u (in_brackets levels.Comma)))
 unworded a b x t u n = λ i. accessor_word (object_property_kind a) ⊕ ((items_if (n.0 i) (key_word (codes "async")) ⊕ items_if (n.1 i) (punctuator star)) ⊕ (key_at (object_property_computed a) x ⊕ method_items t u (in_brackets levels.Comma)))
 
 pub good_method : {names : Tables} (c : Allowed) (a b : Atoms) (x t u : Tree) → is_method (object_property_kind a) (object_property_method a) ≡ true → KeyOf names c (object_property_computed a) x → function_kind b ≡ kinds.Expression → IsSynchronous b → GroupsOf names (object_property_kind a) t → BodyOf names u → PropertyOf names c (tree.object_property a x (tree.function b absent t (given u)))
-good_method {names} c a b x t u m key h n f g p l z y k =
-    subst (λ q. Element names (ReadsProperty (with_in c)) p l q (tree.object_property a x (tree.function b absent t (given u)))) (sym (property_spelled p a x (tree.function b absent t (given u)) true m ∙ ap (λ i. layout i p) (unworded a b x t u n))) (by (object_property_kind a) refl f p l z y k)
-  where
-    by : (kind : PropertyKind) → object_property_kind a ≡ kind → GroupsOf names kind t → ElementOf names c (whole_items kind (object_property_computed a) x t u) (tree.object_property a x (tree.function b absent t (given u)))
-    by property_kinds.Init e f = plain_method c a b x t u e m key h n f g
-    by property_kinds.Get e f = getter c a b x t u e m key h n f g
-    by property_kinds.Set e f = setter c a b x t u e m key h n f g
+good_method {names} c a b x t u m key h n f g =
+    let v : Tree = tree.object_property a x (tree.function b absent t (given u)) in
+    let kind : PropertyKind = object_property_kind a in
+    gives_element (spell v (in_brackets levels.Comma)) v refl
+    (laid (whole_items kind (object_property_computed a) x t u) (spell v (in_brackets levels.Comma)) (λ p e. property_spelled p a x (tree.function b absent t (given u)) true m ∙ ap (λ i. layout i p) (unworded a b x t u n))
+    (read (λ ts r. read_whole names c a b x t u kind refl m h n r) (whole c kind (object_property_computed a) x t u key f g)))

@@ -2,10 +2,10 @@
 use Rattle.std.specs.Option.{option_map_or}
 use Rattle.std.proofs.Common.{◌≡◌, ℕ, List, [], Bool, true, false, ◌&&◌, ◌||◌, cond, ◌∷◌, Option, Some, None, is_some, option_and_then, if◌then◌else◌, refl, sym, ap, subst, ◌∙◌}
 use Rattle.jsgen_syntax.specs.declared.operator.LogicalOperator.{LogicalOperator}
-use Rattle.jsgen_tree.specs.Atom.{text, no_value, declaration_kind, binary_operator, logical_operator, unary_operator, update_operator, assignment_operator, flag}
+use Rattle.jsgen_tree.specs.Atom.{text, no_value, declaration_kind, binary_operator, logical_operator, unary_operator, update_operator, assignment_operator, flag, class_form, kind_of_import, with_keyword}
 use Rattle.jsgen_tree.specs.Tree.{Tree, node, Slots, no_slots, one, maybe, many, maybe_many, Maybe, absent, given, Trees, no_trees, more, hole, MaybeTrees, no_list, listed}
 use Rattle.jsgen_tree.specs.Places.{bare}
-use Rattle.jsgen_tree.specs.Values.{variable_declaration_kind, variable_declaration_declare, variable_declarator_definite, for_of_statement_is_await, static_member_expression_optional, computed_member_expression_optional, call_expression_optional, binary_expression_operator, logical_expression_operator, unary_expression_operator, update_expression_operator, update_expression_prefix, identifier_name_name, numeric_literal_kind, numeric_literal_negative, big_int_literal_value, object_property_kind, object_property_method, object_property_shorthand, object_property_computed, assignment_expression_operator, function_kind, function_is_async, function_generator, function_declare, formal_parameter_is_override, formal_parameter_readonly, formal_parameter_optional, arrow_function_expression_is_async, reg_exp_literal_pattern, reg_exp_literal_flags, method_definition_kind, method_definition_computed, method_definition_is_static, method_definition_is_override, method_definition_is_abstract, method_definition_optional, as_flag}
+use Rattle.jsgen_tree.specs.Values.{variable_declaration_kind, variable_declaration_declare, variable_declarator_definite, for_of_statement_is_await, static_member_expression_optional, computed_member_expression_optional, call_expression_optional, binary_expression_operator, logical_expression_operator, unary_expression_operator, update_expression_operator, update_expression_prefix, identifier_name_name, numeric_literal_kind, numeric_literal_negative, big_int_literal_value, object_property_kind, object_property_method, object_property_shorthand, object_property_computed, assignment_expression_operator, function_kind, function_is_async, function_generator, function_declare, formal_parameter_is_override, formal_parameter_readonly, formal_parameter_optional, arrow_function_expression_is_async, reg_exp_literal_pattern, reg_exp_literal_flags, method_definition_kind, method_definition_computed, method_definition_is_static, method_definition_is_override, method_definition_is_abstract, method_definition_optional, as_flag, assignment_target_property_property_computed, binding_property_computed, class_declare, class_is_abstract, class_kind, export_from_declaration_export_kind, export_named_declaration_export_kind, import_declaration_import_kind, private_field_expression_optional, property_definition_computed, property_definition_declare, property_definition_definite, property_definition_is_abstract, property_definition_is_override, property_definition_is_static, property_definition_optional, property_definition_readonly, with_clause_keyword, yield_expression_delegate}
 use Rattle.jsgen_tree.specs.Inside.{ends_open, written_name_in, is_proto, is_method, after_minus, unless_minus, behind_minus, is_negative_number}
 use Rattle.jsgen_tree.specs.declared.collections.PropertyKind.{PropertyKind}
 use Rattle.jsgen_tree.specs.declared.collections.PropertyKind.TheVariants as property_kinds
@@ -181,11 +181,13 @@ untagged_again pieces expressions e f = λ i. untagged (e i) (f i)
 
 text_again : (t : Tree) → normal t ≡ t → by_its_text (normal (by_its_text t)) ≡ by_its_text t
 text_again (tree.identifier_name a) e = refl
+text_again (tree.identifier_reference a) e = refl
 text_again t e = ap by_its_text e
 
 maybe_text_again : (m : Maybe) → normal_maybe m ≡ m → maybe_by_its_text (normal_maybe (maybe_by_its_text m)) ≡ maybe_by_its_text m
 maybe_text_again absent e = refl
 maybe_text_again (given (tree.identifier_name a)) e = refl
+maybe_text_again (given (tree.identifier_reference a)) e = refl
 maybe_text_again (given t) e = ap maybe_by_its_text e
 
 -- ---- the whole
@@ -194,46 +196,20 @@ mutual
   pub normal_again : (t : Tree) → normal (normal t) ≡ normal t
   normal_again (tree.program a comments hashbang directives body) = let h = normal_maybe_again hashbang in let e = normal_trees_again directives in let f = normal_trees_again body in λ i. tree.program (nothing_of 4) no_trees (h i) (e i) (f i)
   normal_again (tree.comment a) = refl
+  normal_again (tree.template_element a) = refl
   normal_again (tree.directive a) = refl
-  normal_again (tree.expression_statement a expression) = ap (λ e. tree.expression_statement (nothing_of 0) e) (normal_again expression)
-  normal_again (tree.variable_declaration a declarations) = let s = flag_again (variable_declaration_declare a) in let e = normal_trees_again declarations in λ i. tree.variable_declaration (bare (declaration_kind (variable_declaration_kind a) ∷ if_set (s i) ∷ [])) (e i)
-  normal_again (tree.variable_declarator a id init) = let s = flag_again (variable_declarator_definite a) in let e = normal_again id in let f = normal_maybe_again init in λ i. tree.variable_declarator (bare (if_set (s i) ∷ [])) (e i) (f i)
   normal_again (tree.binding_identifier a) = refl
   normal_again (tree.identifier_reference a) = refl
-  normal_again (tree.this_expression a) = refl
-  normal_again (tree.null_literal a) = refl
-  normal_again (tree.boolean_literal a) = refl
   normal_again (tree.numeric_literal a) = number_again (numeric_literal_negative a) (number_text (numeric_literal_kind a) a)
   normal_again (tree.big_int_literal a) = big_integer_again (big_int_literal_value a) (behind_minus (big_int_literal_value a)) refl
-  normal_again (tree.string_literal a) = refl
   normal_again (tree.parenthesized a expression) = normal_again expression
-  normal_again (tree.binary a left right) = let e = normal_again left in let f = normal_again right in λ i. tree.binary (bare (binary_operator (binary_expression_operator a) ∷ [])) (e i) (f i)
   normal_again (tree.logical a left right) = normal_chain_again (logical_expression_operator a) (normal left) (normal right) (normal_again left) (normal_again right)
-  normal_again (tree.block a body) = ap (λ ts. tree.block (nothing_of 0) ts) (normal_trees_again body)
   normal_again (tree.if_statement a test consequent alternate) = let e = normal_again test in let f = unbraced_again (normal consequent) (normal_again consequent) in let g = normal_maybe_again alternate in λ i. tree.if_statement (nothing_of 0) (e i) (f i) (g i)
-  normal_again (tree.empty_statement a) = refl
-  normal_again (tree.for_statement a init test update_child body) = let e = normal_maybe_again init in let f = normal_maybe_again test in let g = normal_maybe_again update_child in let h = normal_again body in λ i. tree.for_statement (nothing_of 0) (e i) (f i) (g i) (h i)
-  normal_again (tree.for_in_statement a left right body) = let e = normal_again left in let f = normal_again right in let g = normal_again body in λ i. tree.for_in_statement (nothing_of 0) (e i) (f i) (g i)
-  normal_again (tree.for_of_statement a left right body) = let s = flag_again (for_of_statement_is_await a) in let e = normal_again left in let f = normal_again right in let g = normal_again body in λ i. tree.for_of_statement (bare (if_set (s i) ∷ [])) (e i) (f i) (g i)
-  normal_again (tree.while_statement a test body) = let e = normal_again test in let f = normal_again body in λ i. tree.while_statement (nothing_of 0) (e i) (f i)
-  normal_again (tree.do_while_statement a body test) = let e = normal_again body in let f = normal_again test in λ i. tree.do_while_statement (nothing_of 0) (e i) (f i)
   normal_again (tree.label_identifier a) = refl
-  normal_again (tree.labeled_statement a label body) = let e = normal_again label in let f = normal_again body in λ i. tree.labeled_statement (nothing_of 0) (e i) (f i)
-  normal_again (tree.continue_statement a label) = ap (λ m. tree.continue_statement (nothing_of 0) m) (normal_maybe_again label)
-  normal_again (tree.break_statement a label) = ap (λ m. tree.break_statement (nothing_of 0) m) (normal_maybe_again label)
-  normal_again (tree.throw_statement a argument) = ap (λ e. tree.throw_statement (nothing_of 0) e) (normal_again argument)
-  normal_again (tree.debugger_statement a) = refl
-  normal_again (tree.switch_statement a discriminant cases) = let e = normal_again discriminant in let f = normal_trees_again cases in λ i. tree.switch_statement (nothing_of 0) (e i) (f i)
-  normal_again (tree.switch_case a test consequent) = let e = normal_maybe_again test in let f = normal_trees_again consequent in λ i. tree.switch_case (nothing_of 0) (e i) (f i)
-  normal_again (tree.try_statement a block_child handler finalizer) = let e = normal_again block_child in let f = normal_maybe_again handler in let g = normal_maybe_again finalizer in λ i. tree.try_statement (nothing_of 0) (e i) (f i) (g i)
-  normal_again (tree.catch_clause a param body) = let e = normal_maybe_again param in let f = normal_again body in λ i. tree.catch_clause (nothing_of 0) (e i) (f i)
   normal_again (tree.identifier_name a) = refl
   normal_again (tree.static_member a object property) = let e = normal_again object in let f = normal_again property in λ i. tree.static_member (link_values (static_member_expression_optional a)) (e i) (f i)
   normal_again (tree.computed_member a object expression) = let e = normal_again object in let f = normal_again expression in λ i. tree.computed_member (link_values (computed_member_expression_optional a)) (e i) (f i)
   normal_again (tree.call a callee arguments) = let e = normal_again callee in let f = normal_trees_again arguments in λ i. tree.call (call_values (call_expression_optional a)) (e i) (f i)
-  normal_again (tree.chain a element) = ap (λ e. tree.chain (nothing_of 0) e) (normal_again element)
-  normal_again (tree.array a elements) = ap (λ ts. tree.array (nothing_of 0) ts) (normal_trees_again elements)
-  normal_again (tree.object_expression a properties) = ap (λ ts. tree.object_expression (nothing_of 0) ts) (normal_trees_again properties)
   normal_again (tree.object_property a key value) =
       let e = normal_again key in
       let f = normal_again value in
@@ -244,22 +220,8 @@ mutual
       let h = computed_again (object_property_computed a) key e in
       let w = written_again kind method in
       λ i. tree.object_property (property_values kind (w i) (g i) (h i)) (e i) (f i)
-  normal_again (tree.spread a argument) = ap (λ e. tree.spread (nothing_of 0) e) (normal_again argument)
-  normal_again (tree.unary a argument) = ap (λ e. tree.unary (bare (unary_operator (unary_expression_operator a) ∷ [])) e) (normal_again argument)
-  normal_again (tree.update a argument) = ap (λ e. tree.update (bare (update_operator (update_expression_operator a) ∷ flag (update_expression_prefix a) ∷ [])) e) (normal_again argument)
-  normal_again (tree.new_expression a callee arguments) = let e = normal_again callee in let f = normal_trees_again arguments in λ i. tree.new_expression (nothing_of 1) (e i) (f i)
-  normal_again (tree.super a) = refl
-  normal_again (tree.new_target a) = refl
-  normal_again (tree.conditional a test consequent alternate) = let e = normal_again test in let f = normal_again consequent in let g = normal_again alternate in λ i. tree.conditional (nothing_of 0) (e i) (f i) (g i)
   normal_again (tree.sequence a expressions) = ap (λ ts. tree.sequence (nothing_of 0) ts) (flattened_again expressions)
-  normal_again (tree.assignment a left right) = let e = normal_again left in let f = normal_again right in λ i. tree.assignment (bare (assignment_operator (assignment_expression_operator a) ∷ [])) (e i) (f i)
-  normal_again (tree.formal_parameter a pattern initializer) = let s = flag_again (formal_parameter_is_override a) in let u = flag_again (formal_parameter_readonly a) in let v = flag_again (formal_parameter_optional a) in let e = normal_again pattern in let f = normal_maybe_again initializer in λ i. tree.formal_parameter (bare (if_set (s i) ∷ if_set (u i) ∷ if_set (v i) ∷ [])) (e i) (f i)
-  normal_again (tree.formal_parameter_rest a argument) = ap (λ e. tree.formal_parameter_rest (nothing_of 0) e) (normal_again argument)
-  normal_again (tree.formal_parameters a items rest) = let e = normal_trees_again items in let f = normal_maybe_again rest in λ i. tree.formal_parameters (nothing_of 0) (e i) (f i)
-  normal_again (tree.arrow_function a params body) = let s = flag_again (arrow_function_expression_is_async a) in let e = normal_again params in let f = normal_again body in λ i. tree.arrow_function (bare (if_set (s i) ∷ no_value ∷ no_value ∷ [])) (e i) (f i)
   normal_again (tree.function a id params body) = let s = flag_again (function_is_async a) in let u = flag_again (function_generator a) in let v = flag_again (function_declare a) in let e = normal_maybe_again id in let f = normal_again params in let g = normal_maybe_again body in λ i. tree.function (function_values (function_kind a) (if_set (s i)) (if_set (u i)) (if_set (v i))) (e i) (f i) (g i)
-  normal_again (tree.function_body a directives statements) = let e = normal_trees_again directives in let f = normal_trees_again statements in λ i. tree.function_body (nothing_of 0) (e i) (f i)
-  normal_again (tree.return_statement a argument) = ap (λ m. tree.return_statement (nothing_of 0) m) (normal_maybe_again argument)
   normal_again (tree.reg_exp_literal a) = ap (λ w. tree.reg_exp_literal (bare (text w ∷ text (reg_exp_literal_flags a) ∷ []))) (pattern_again (reg_exp_literal_pattern a))
   normal_again (tree.method_definition a key value) =
       let k = method_kind_again (method_definition_kind a) in
@@ -271,7 +233,7 @@ mutual
       λ i. tree.method_definition (method_values (k i) (method_definition_computed a) (method_definition_is_static a) (if_set (s i)) (if_set (u i)) (if_set (v i))) (e i) (f i)
   normal_again (tree.target_property_identifier a binding init) = written_out_again (normal binding) (normal_maybe init) (normal_again binding) (normal_maybe_again init)
   normal_again (tree.template_literal a quasis expressions) = untagged_again (by_values quasis) (normal_trees expressions) (values_again quasis) (normal_trees_again expressions)
-  normal_again (tree.tagged_template a tag quasi) = let e = normal_again tag in let f = normal_quasi_again quasi in λ i. tree.tagged_template (bare a.values) (e i) (f i)
+  normal_again (tree.tagged_template a tag quasi) = let e = normal_again tag in let f = normal_quasi_again quasi in λ i. tree.tagged_template (nothing_of 0) (e i) (f i)
   normal_again (tree.import_specifier a imported local) = let e = text_again (normal imported) (normal_again imported) in let f = normal_again local in λ i. tree.import_specifier (bare a.values) (e i) (f i)
   normal_again (tree.export_specifier a local exported) =
       let e = text_again (normal local) (normal_again local) in
@@ -282,6 +244,80 @@ mutual
       let f = normal_again source in
       let g = normal_maybe_again with_clause_child in
       λ i. tree.export_all_declaration (bare a.values) (e i) (f i) (g i)
+  -- generated from tools/nodes/table.txt: rows
+  normal_again (tree.variable_declaration a declarations) = let s0 = flag_again (variable_declaration_declare a) in let e0 = normal_trees_again declarations in λ i. tree.variable_declaration (bare (declaration_kind (variable_declaration_kind a) ∷ if_set (s0 i) ∷ [])) (e0 i)
+  normal_again (tree.variable_declarator a id init) = let s0 = flag_again (variable_declarator_definite a) in let e0 = normal_again id in let e1 = normal_maybe_again init in λ i. tree.variable_declarator (bare (if_set (s0 i) ∷ [])) (e0 i) (e1 i)
+  normal_again (tree.expression_statement a expression) = let e0 = normal_again expression in λ i. tree.expression_statement (nothing_of 0) (e0 i)
+  normal_again (tree.block a body) = let e0 = normal_trees_again body in λ i. tree.block (nothing_of 0) (e0 i)
+  normal_again (tree.empty_statement a) = refl
+  normal_again (tree.this_expression a) = refl
+  normal_again (tree.null_literal a) = refl
+  normal_again (tree.boolean_literal a) = refl
+  normal_again (tree.string_literal a) = refl
+  normal_again (tree.binary a left right) = let e0 = normal_again left in let e1 = normal_again right in λ i. tree.binary (bare (binary_operator (binary_expression_operator a) ∷ [])) (e0 i) (e1 i)
+  normal_again (tree.chain a expression) = let e0 = normal_again expression in λ i. tree.chain (nothing_of 0) (e0 i)
+  normal_again (tree.spread a argument) = let e0 = normal_again argument in λ i. tree.spread (nothing_of 0) (e0 i)
+  normal_again (tree.array a elements) = let e0 = normal_trees_again elements in λ i. tree.array (nothing_of 0) (e0 i)
+  normal_again (tree.object_expression a properties) = let e0 = normal_trees_again properties in λ i. tree.object_expression (nothing_of 0) (e0 i)
+  normal_again (tree.unary a argument) = let e0 = normal_again argument in λ i. tree.unary (bare (unary_operator (unary_expression_operator a) ∷ [])) (e0 i)
+  normal_again (tree.new_target a) = refl
+  normal_again (tree.update a argument) = let e0 = normal_again argument in λ i. tree.update (bare (update_operator (update_expression_operator a) ∷ flag (update_expression_prefix a) ∷ [])) (e0 i)
+  normal_again (tree.new_expression a callee arguments) = let e0 = normal_again callee in let e1 = normal_trees_again arguments in λ i. tree.new_expression (nothing_of 1) (e0 i) (e1 i)
+  normal_again (tree.super a) = refl
+  normal_again (tree.import_meta a) = refl
+  normal_again (tree.conditional a test consequent alternate) = let e0 = normal_again test in let e1 = normal_again consequent in let e2 = normal_again alternate in λ i. tree.conditional (nothing_of 0) (e0 i) (e1 i) (e2 i)
+  normal_again (tree.assignment a left right) = let e0 = normal_again left in let e1 = normal_again right in λ i. tree.assignment (bare (assignment_operator (assignment_expression_operator a) ∷ [])) (e0 i) (e1 i)
+  normal_again (tree.formal_parameter a pattern initializer) = let s0 = flag_again (formal_parameter_is_override a) in let s1 = flag_again (formal_parameter_readonly a) in let s2 = flag_again (formal_parameter_optional a) in let e0 = normal_again pattern in let e1 = normal_maybe_again initializer in λ i. tree.formal_parameter (bare (if_set (s0 i) ∷ if_set (s1 i) ∷ if_set (s2 i) ∷ [])) (e0 i) (e1 i)
+  normal_again (tree.formal_parameter_rest a argument) = let e0 = normal_again argument in λ i. tree.formal_parameter_rest (nothing_of 0) (e0 i)
+  normal_again (tree.formal_parameters a items rest) = let e0 = normal_trees_again items in let e1 = normal_maybe_again rest in λ i. tree.formal_parameters (nothing_of 0) (e0 i) (e1 i)
+  normal_again (tree.function_body a directives statements) = let e0 = normal_trees_again directives in let e1 = normal_trees_again statements in λ i. tree.function_body (nothing_of 0) (e0 i) (e1 i)
+  normal_again (tree.arrow_function a params body) = let s0 = flag_again (arrow_function_expression_is_async a) in let e0 = normal_again params in let e1 = normal_again body in λ i. tree.arrow_function (bare (if_set (s0 i) ∷ no_value ∷ no_value ∷ [])) (e0 i) (e1 i)
+  normal_again (tree.await_expression a argument) = let e0 = normal_again argument in λ i. tree.await_expression (nothing_of 0) (e0 i)
+  normal_again (tree.yield_expression a argument) = let e0 = normal_maybe_again argument in λ i. tree.yield_expression (bare (flag (yield_expression_delegate a) ∷ [])) (e0 i)
+  normal_again (tree.import_call a source options) = let e0 = normal_again source in let e1 = normal_maybe_again options in λ i. tree.import_call (nothing_of 0) (e0 i) (e1 i)
+  normal_again (tree.for_statement a init test update body) = let e0 = normal_maybe_again init in let e1 = normal_maybe_again test in let e2 = normal_maybe_again update in let e3 = normal_again body in λ i. tree.for_statement (nothing_of 0) (e0 i) (e1 i) (e2 i) (e3 i)
+  normal_again (tree.for_in_statement a left right body) = let e0 = normal_again left in let e1 = normal_again right in let e2 = normal_again body in λ i. tree.for_in_statement (nothing_of 0) (e0 i) (e1 i) (e2 i)
+  normal_again (tree.for_of_statement a left right body) = let s0 = flag_again (for_of_statement_is_await a) in let e0 = normal_again left in let e1 = normal_again right in let e2 = normal_again body in λ i. tree.for_of_statement (bare (if_set (s0 i) ∷ [])) (e0 i) (e1 i) (e2 i)
+  normal_again (tree.while_statement a test body) = let e0 = normal_again test in let e1 = normal_again body in λ i. tree.while_statement (nothing_of 0) (e0 i) (e1 i)
+  normal_again (tree.do_while_statement a body test) = let e0 = normal_again body in let e1 = normal_again test in λ i. tree.do_while_statement (nothing_of 0) (e0 i) (e1 i)
+  normal_again (tree.labeled_statement a label body) = let e0 = normal_again label in let e1 = normal_again body in λ i. tree.labeled_statement (nothing_of 0) (e0 i) (e1 i)
+  normal_again (tree.continue_statement a label) = let e0 = normal_maybe_again label in λ i. tree.continue_statement (nothing_of 0) (e0 i)
+  normal_again (tree.break_statement a label) = let e0 = normal_maybe_again label in λ i. tree.break_statement (nothing_of 0) (e0 i)
+  normal_again (tree.return_statement a argument) = let e0 = normal_maybe_again argument in λ i. tree.return_statement (nothing_of 0) (e0 i)
+  normal_again (tree.throw_statement a argument) = let e0 = normal_again argument in λ i. tree.throw_statement (nothing_of 0) (e0 i)
+  normal_again (tree.debugger_statement a) = refl
+  normal_again (tree.switch_statement a discriminant cases) = let e0 = normal_again discriminant in let e1 = normal_trees_again cases in λ i. tree.switch_statement (nothing_of 0) (e0 i) (e1 i)
+  normal_again (tree.switch_case a test consequent) = let e0 = normal_maybe_again test in let e1 = normal_trees_again consequent in λ i. tree.switch_case (nothing_of 0) (e0 i) (e1 i)
+  normal_again (tree.try_statement a block handler finalizer) = let e0 = normal_again block in let e1 = normal_maybe_again handler in let e2 = normal_maybe_again finalizer in λ i. tree.try_statement (nothing_of 0) (e0 i) (e1 i) (e2 i)
+  normal_again (tree.catch_clause a param body) = let e0 = normal_maybe_again param in let e1 = normal_again body in λ i. tree.catch_clause (nothing_of 0) (e0 i) (e1 i)
+  normal_again (tree.object_pattern a properties rest) = let e0 = normal_trees_again properties in let e1 = normal_maybe_again rest in λ i. tree.object_pattern (nothing_of 0) (e0 i) (e1 i)
+  normal_again (tree.binding_property a key value) = let e0 = normal_again key in let e1 = normal_again value in λ i. tree.binding_property (bare (flag (binding_property_computed a) ∷ [])) (e0 i) (e1 i)
+  normal_again (tree.binding_rest_element a argument) = let e0 = normal_again argument in λ i. tree.binding_rest_element (nothing_of 0) (e0 i)
+  normal_again (tree.array_pattern a elements rest) = let e0 = normal_trees_again elements in let e1 = normal_maybe_again rest in λ i. tree.array_pattern (nothing_of 0) (e0 i) (e1 i)
+  normal_again (tree.assignment_pattern a left right) = let e0 = normal_again left in let e1 = normal_again right in λ i. tree.assignment_pattern (nothing_of 0) (e0 i) (e1 i)
+  normal_again (tree.array_target a elements rest) = let e0 = normal_trees_again elements in let e1 = normal_maybe_again rest in λ i. tree.array_target (nothing_of 0) (e0 i) (e1 i)
+  normal_again (tree.object_target a properties rest) = let e0 = normal_trees_again properties in let e1 = normal_maybe_again rest in λ i. tree.object_target (nothing_of 0) (e0 i) (e1 i)
+  normal_again (tree.target_with_default a binding init) = let e0 = normal_again binding in let e1 = normal_again init in λ i. tree.target_with_default (nothing_of 0) (e0 i) (e1 i)
+  normal_again (tree.target_property a the_name binding) = let e0 = normal_again the_name in let e1 = normal_again binding in λ i. tree.target_property (bare (flag (assignment_target_property_property_computed a) ∷ [])) (e0 i) (e1 i)
+  normal_again (tree.target_rest a target) = let e0 = normal_again target in λ i. tree.target_rest (nothing_of 0) (e0 i)
+  normal_again (tree.private_identifier a) = refl
+  normal_again (tree.private_member a object field) = let e0 = normal_again object in let e1 = normal_again field in λ i. tree.private_member (bare (flag (private_field_expression_optional a) ∷ [])) (e0 i) (e1 i)
+  normal_again (tree.private_in a left right) = let e0 = normal_again left in let e1 = normal_again right in λ i. tree.private_in (nothing_of 0) (e0 i) (e1 i)
+  normal_again (tree.class a id heritage body) = let s0 = flag_again (class_declare a) in let s1 = flag_again (class_is_abstract a) in let e0 = normal_maybe_again id in let e1 = normal_maybe_again heritage in let e2 = normal_again body in λ i. tree.class (bare (class_form (class_kind a) ∷ if_set (s0 i) ∷ if_set (s1 i) ∷ [])) (e0 i) (e1 i) (e2 i)
+  normal_again (tree.class_body a body) = let e0 = normal_trees_again body in λ i. tree.class_body (nothing_of 0) (e0 i)
+  normal_again (tree.static_block a body) = let e0 = normal_trees_again body in λ i. tree.static_block (nothing_of 0) (e0 i)
+  normal_again (tree.property_definition a key value) = let s0 = flag_again (property_definition_declare a) in let s1 = flag_again (property_definition_is_abstract a) in let s2 = flag_again (property_definition_is_override a) in let s3 = flag_again (property_definition_readonly a) in let s4 = flag_again (property_definition_optional a) in let s5 = flag_again (property_definition_definite a) in let e0 = normal_again key in let e1 = normal_maybe_again value in λ i. tree.property_definition (bare (flag (property_definition_computed a) ∷ if_set (s0 i) ∷ if_set (s1 i) ∷ flag (property_definition_is_static a) ∷ if_set (s2 i) ∷ if_set (s3 i) ∷ if_set (s4 i) ∷ if_set (s5 i) ∷ [])) (e0 i) (e1 i)
+  normal_again (tree.hashbang a) = refl
+  normal_again (tree.import_declaration a specifiers source with_clause) = let e0 = normal_maybe_trees_again specifiers in let e1 = normal_again source in let e2 = normal_maybe_again with_clause in λ i. tree.import_declaration (bare (kind_of_import (import_declaration_import_kind a) ∷ [])) (e0 i) (e1 i) (e2 i)
+  normal_again (tree.import_default_specifier a local) = let e0 = normal_again local in λ i. tree.import_default_specifier (nothing_of 0) (e0 i)
+  normal_again (tree.import_namespace_specifier a local) = let e0 = normal_again local in λ i. tree.import_namespace_specifier (nothing_of 0) (e0 i)
+  normal_again (tree.with_clause a entries) = let e0 = normal_trees_again entries in λ i. tree.with_clause (bare (with_keyword (with_clause_keyword a) ∷ [])) (e0 i)
+  normal_again (tree.import_attribute a key value) = let e0 = normal_again key in let e1 = normal_again value in λ i. tree.import_attribute (nothing_of 0) (e0 i) (e1 i)
+  normal_again (tree.export_declaration a declaration) = let e0 = normal_again declaration in λ i. tree.export_declaration (nothing_of 0) (e0 i)
+  normal_again (tree.export_named_declaration a specifiers) = let e0 = normal_trees_again specifiers in λ i. tree.export_named_declaration (bare (kind_of_import (export_named_declaration_export_kind a) ∷ [])) (e0 i)
+  normal_again (tree.export_from_declaration a specifiers source with_clause) = let e0 = normal_trees_again specifiers in let e1 = normal_again source in let e2 = normal_maybe_again with_clause in λ i. tree.export_from_declaration (bare (kind_of_import (export_from_declaration_export_kind a) ∷ [])) (e0 i) (e1 i) (e2 i)
+  normal_again (tree.export_default_declaration a declaration) = let e0 = normal_again declaration in λ i. tree.export_default_declaration (nothing_of 0) (e0 i)
+  -- end of what is generated: rows
   normal_again (node type a slots) = ap (λ s. node type (bare a.values) s) (normal_slots_again slots)
 
   normal_quasi_again : (t : Tree) → normal_quasi (normal_quasi t) ≡ normal_quasi t

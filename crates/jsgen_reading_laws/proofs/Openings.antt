@@ -11,9 +11,9 @@ use Rattle.jsgen_syntax.specs.declared.operator.UpdateOperator.TheVariants as up
 use Rattle.jsgen_syntax.specs.declared.operator.AssignmentOperator.{AssignmentOperator}
 use Rattle.jsgen_syntax.specs.declared.operator.AssignmentOperator.TheVariants as assignment_operators
 use Rattle.jsgen_tree.specs.Tree.{Tree}
-use Rattle.jsgen_model.specs.Punctuator.{dot, question_dot, comma, star_star, and_and, or_or, nullish, question, arrow, semicolon, Round, Square}
+use Rattle.jsgen_model.specs.Punctuator.{dot, question_dot, comma, star_star, and_and, or_or, nullish, question, arrow, semicolon, equal, Round, Square}
 use Rattle.jsgen_model.specs.Tokens.{Tokens, done, piece, group, ◌⧺◌, Word, Quoted, Sign}
-use Rattle.jsgen_model.specs.Grammar.{Allowed, Level, ReadsExpression, ReadsArrowParameters, ReadsChain, ReadsChainBase, operator_piece, unary_piece, update_sign, assignment_sign, may_precede_of}
+use Rattle.jsgen_model.specs.Grammar.{Allowed, Level, ReadsExpression, ReadsArrowParameters, ReadsChain, ReadsChainBase, ReadsPattern, operator_piece, unary_piece, update_sign, assignment_sign, may_precede_of}
 use Rattle.jsgen_model.specs.Grammar as grammar
 use Rattle.jsgen_model.specs.Normal.{normal}
 use Rattle.jsgen_reading_laws.proofs.Good.{is_word_alone}
@@ -71,12 +71,17 @@ parameters_open : {c : Allowed} {ts : Tokens} {t : Tree} → ReadsArrowParameter
 parameters_open (grammar.a_parameter_name {w} {v} e h) = free_no_let w v e h
 parameters_open (grammar.grouped_parameters r) = tt
 
+pattern_opens : {c : Allowed} {ts : Tokens} {t : Tree} → ReadsPattern c ts t → Opens ts t
+pattern_opens (grammar.an_array_target r) = tt
+pattern_opens (grammar.an_object_target r) = tt
+
 -- what a chain begins with is what it goes on from
 mutual
   pub opens : {c : Allowed} {g : Level} {ts : Tokens} {t : Tree} → ReadsExpression c g ts t → Opens ts t
   opens (grammar.an_assignment r) = opens r
   opens (grammar.a_sequence {a = a} {t = t} m e r s) = opens_behind _ a (piece m (Sign comma) _) t _ e (opens r) tt
   opens (grammar.an_assignment_to {a = a} {t = t} o m e r s w n) = opens_behind _ a (piece m (Sign (assignment_sign o)) _) t _ e (opens r) (assignment_goes o m _)
+  opens (grammar.an_assignment_to_pattern {a = a} {t = t} m e r s) = opens_behind _ a (piece m (Sign equal) _) t _ e (pattern_opens r) tt
   opens (grammar.a_conditional r) = opens r
   opens (grammar.a_short_circuit r) = opens r
   opens (grammar.a_logical_or r) = opens r

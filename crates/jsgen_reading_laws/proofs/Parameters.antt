@@ -32,7 +32,7 @@ use Rattle.jsgen_reading_laws.proofs.Families as family
 use Rattle.jsgen_reading_laws.proofs.Names.{free_spelled, name_begins}
 use Rattle.jsgen_reading_laws.proofs.Good.{GoodAs, begins_all, unwritten_round}
 use Rattle.jsgen_reading_laws.proofs.Lists.{Elements, ElementAt, GivesMore, JoinsOne, JoinsFirst, none_behind, one_behind, first_and_others}
-use Rattle.jsgen_reading_laws.proofs.Bindings.{Bound, PrintedIfGiven, Holds, good_held}
+use Rattle.jsgen_reading_laws.proofs.Bindings.{Bound, PrintedIfGiven, Holds, HoldsAlone, good_held}
 
 -- ---- one parameter
 
@@ -42,7 +42,6 @@ same_parameter a b u m n h i j e f = λ x. tree.formal_parameter (bare (if_set (
 parameter_holds : {names : Tables} (c : Allowed) (a : Atoms) → formal_parameter_is_override a ≡ false → formal_parameter_readonly a ≡ false → formal_parameter_optional a ≡ false → Holds names c (ReadsParameter c) (λ b m. tree.formal_parameter a b m)
 parameter_holds {names} c a h i j = record {
   reading = λ b m. tree.formal_parameter (nothing_of 3) b m;
-  alone = λ ts b r. grammar.a_parameter r;
   with_value = λ mark x v b e r s. grammar.with_initializer mark refl r s;
   same = λ b u m n e f. same_parameter a b (renamed names u) m (renamed_maybe names n) h i j e f;
 }
@@ -50,8 +49,14 @@ parameter_holds {names} c a h i j = record {
 abbrev pub ParameterOf : Tables → Allowed → Tree → Type 0
 ParameterOf names c t = (place : Place) → ElementAt names (ReadsParameter (under place c)) place t
 
+-- a binding of any kind is a parameter by itself
+parameter_alone : (names : Tables) (c : Allowed) (a : Atoms) (b : Tree) (m : Maybe) (h : formal_parameter_is_override a ≡ false) (i : formal_parameter_readonly a ≡ false) (j : formal_parameter_optional a ≡ false) → HoldsAlone (parameter_holds {names = names} c a h i j) b m
+unfolding parameter_holds
+parameter_alone names c a b absent h i j = λ ts u r e. grammar.a_parameter r
+parameter_alone names c a b (given v) h i j = tt
+
 pub good_parameter : {names : Tables} (c : Allowed) (a : Atoms) (b : Tree) (m : Maybe) → formal_parameter_is_override a ≡ false → formal_parameter_readonly a ≡ false → formal_parameter_optional a ≡ false → Bound names c b → PrintedIfGiven names c m → ParameterOf names c (tree.formal_parameter a b m)
-good_parameter c a b m h i j f v place = good_held c (ReadsParameter (under place c)) (λ x n. tree.formal_parameter a x n) b m place (parameter_holds (under place c) a h i j) f v
+good_parameter c a b m h i j f v place = good_held c (ReadsParameter (under place c)) (λ x n. tree.formal_parameter a x n) b m place (parameter_holds (under place c) a h i j) (parameter_alone _ (under place c) a b m h i j) f v
 
 -- ---- the one that takes the rest
 
@@ -175,6 +180,8 @@ name_alone {names} (family.all_parameters (family.first_parameter (family.a_para
 name_alone (family.all_parameters (family.first_parameter (family.a_parameter h i j (family.a_bound_name f) family.no_value) family.no_parameter) (family.a_rest r)) e = absurd (both_ways false refl e)
 name_alone (family.all_parameters (family.first_parameter (family.a_parameter h i j (family.a_bound_name f) family.no_value) (family.first_parameter v w)) r) e = absurd (both_ways false refl e)
 name_alone (family.all_parameters (family.first_parameter (family.a_parameter h i j (family.a_bound_name f) (family.a_value v)) w) r) e = absurd (both_ways false refl e)
+name_alone (family.all_parameters (family.first_parameter (family.a_parameter h i j (family.an_array_pattern f g) v) w) r) e = absurd (both_ways false refl e)
+name_alone (family.all_parameters (family.first_parameter (family.a_parameter h i j (family.an_object_pattern f g) v) w) r) e = absurd (both_ways false refl e)
 name_alone (family.all_parameters family.no_parameter r) e = absurd (both_ways false refl e)
 
 bare_parameter : {names : Tables} (c : Allowed) (t : Tree) → NameAlone names t → (place at : Place) (p : Pen) (l : Last) → p.pending_semicolon ≡ false → Knows names p l → (g : GoodAs names (ReadsArrowParameters (under at c)) p l (layout (spell t (parameters_place place)) p) t) × (line_of g.last ≡ false)

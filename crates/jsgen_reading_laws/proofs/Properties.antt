@@ -27,7 +27,7 @@ use Rattle.jsgen_tree.specs.declared.collections.PropertyKind.TheVariants as kin
 use Rattle.jsgen_model.specs.declared.fault.TreeFault.{TreeFault}
 use Rattle.jsgen_model.specs.Punctuator.{colon, ellipsis, Square, opening}
 use Rattle.jsgen_model.specs.Numbers.{takes_no_dot, is_big_integer}
-use Rattle.jsgen_model.specs.Tokens.{Tokens, done, piece, group, ◌⧺◌, Word, Number, Quoted, Sign}
+use Rattle.jsgen_model.specs.Tokens.{Tokens, done, piece, group, Word, Number, Quoted, Sign}
 use Rattle.jsgen_model.specs.Items.{Items, ◌⊕◌, where_same, number, string, punctuator, soft_space, nothing, before_it}
 use Rattle.jsgen_model.specs.Layout.{Pen, Style, other_end, are_same, layout, written, chosen_quote, but_backticks, with_name}
 use Rattle.jsgen_model.specs.Grammar.{Allowed, ReadsExpression, ReadsKey, ReadsProperty, with_in}
@@ -38,16 +38,18 @@ use Rattle.jsgen_place.specs.declared.place.Place.{Place}
 use Rattle.jsgen_place.specs.Place.{in_brackets}
 use Rattle.jsgen_model.specs.Spell.{spell, key_text, needs_brackets, key_items, accessor_word, method_or_property, method_words, spell_method, signed, number_items, big_text, big_integer_items, before_value, before_expression, items_unless, unless_said, is_function}
 use Rattle.jsgen_model.specs.Valid.{named_faults, shorthand_faults}
-use Rattle.jsgen_token_laws.proofs.Last.{Last, Open, After, line_of, Operand, Begun, begun_ready, Knows}
+use Rattle.jsgen_token_laws.proofs.Last.{Last, Open, After, line_of, Operand, Ready, Knows}
 use Rattle.jsgen_token_laws.proofs.Writes.{Writes, wrote_both}
-use Rattle.jsgen_token_laws.proofs.Steps.{printed_as_written, wrote_name, wrote_written_name, wrote_quoted, wrote_punctuator, wrote_dots, within_brackets, brackets_written, soft_space_written, Soft}
+use Rattle.jsgen_token_laws.proofs.Steps.{printed_as_written, wrote_name, wrote_written_name, wrote_quoted, wrote_dots, within_brackets, brackets_written}
 use Rattle.jsgen_reading_laws.proofs.Families.{IsExpression, IsKey, has_value}
 use Rattle.jsgen_reading_laws.proofs.Faultless.{none_unless}
 use Rattle.jsgen_reading_laws.proofs.Families as family
 use Rattle.jsgen_reading_laws.proofs.Names.{free_spelled}
 use Rattle.jsgen_reading_laws.proofs.Literals.{Numeral, whole_numeral, raw_numeral, big_numeral, big_whole, good_number}
 use Rattle.jsgen_reading_laws.proofs.Levels.{from_primary}
-use Rattle.jsgen_reading_laws.proofs.Good.{Good, Printed}
+use Rattle.jsgen_reading_laws.proofs.Adds.{a_start, End, is_good_for, behind_operand, Is, is, ◌⨟◌, ◌&◌, Adds, ◌⨾◌, read, laid, sign, spaced}
+use Rattle.jsgen_reading_laws.proofs.Parts.{Reads, operand_ends, expression, gives_element}
+use Rattle.jsgen_reading_laws.proofs.Good.{Printed}
 use Rattle.jsgen_reading_laws.proofs.Marks.{mark_if_laid, comments_laid}
 use Rattle.jsgen_reading_laws.proofs.Lists.{Element, ElementAt}
 use Rattle.jsgen_reading_laws.proofs.Asked.{asked}
@@ -67,8 +69,8 @@ pub record GoodKey (names : Tables) (p : Pen) (l : Last) (q : Pen) (c : Allowed)
   pub same : normal tree ≡ normal (renamed names t)
 
 -- in brackets or alone
-abbrev KeyAt : Tables → Allowed → Bool → Tree → Type 0
-KeyAt names c brackets t = (p : Pen) (l : Last) → p.pending_semicolon ≡ false → Begun l → Knows names p l → GoodKey names p l (layout (key_items brackets t (spell t (in_brackets levels.Comma))) p) (with_in c) brackets t
+abbrev pub KeyAt : Tables → Allowed → Bool → Tree → Type 0
+KeyAt names c brackets t = (p : Pen) (l : Last) → p.pending_semicolon ≡ false → Ready l → Knows names p l → GoodKey names p l (layout (key_items brackets t (spell t (in_brackets levels.Comma))) p) (with_in c) brackets t
 
 abbrev pub KeyOf : Tables → Allowed → Bool → Tree → Type 0
 KeyOf names c computed t = KeyAt names c (needs_brackets computed t) t
@@ -163,11 +165,11 @@ good_computed_key {names} {c} {t} v f p l z b k =
 -- ---- numbers
 
 -- a number alone
-numeral_key : {names : Tables} (c : Allowed) (dot : Bool) (w : List ℕ) (t u : Tree) → Numeral names dot w u → normal (renamed names t) ≡ u → (p : Pen) (l : Last) → p.pending_semicolon ≡ false → Begun l → Knows names p l → GoodKey names p l (layout (number dot w) p) (with_in c) false t
+numeral_key : {names : Tables} (c : Allowed) (dot : Bool) (w : List ℕ) (t u : Tree) → Numeral names dot w u → normal (renamed names t) ≡ u → (p : Pen) (l : Last) → p.pending_semicolon ≡ false → Ready l → Knows names p l → GoodKey names p l (layout (number dot w) p) (with_in c) false t
 numeral_key c dot w t u n e p l z b k = record {
   last = _;
   tokens = piece (line_of l) (Number w) done;
-  writes = n.writes p l (begun_ready l b) k;
+  writes = n.writes p l b k;
   operand = tt;
   semicolon = z;
   tree = n.reading;
@@ -181,10 +183,10 @@ positive_key {names} c a h m = by (numeric_literal_kind a) refl h
     form : (kind : NumericKind) → numeric_literal_kind a ≡ kind → normal (tree.numeric_literal a) ≡ tree.numeric_literal (by_text (number_text kind a))
     form kind e = ap (λ x. minus_before x (tree.numeric_literal (by_text (number_text (numeric_literal_kind a) a)))) m ∙ ap (λ x. tree.numeric_literal (by_text (number_text x a))) e
 
-    bare : (dot : Bool) (w : List ℕ) → normal (tree.numeric_literal a) ≡ tree.numeric_literal (by_text w) → Numeral names dot w (tree.numeric_literal (by_text w)) → (p : Pen) (l : Last) → p.pending_semicolon ≡ false → Begun l → Knows names p l → GoodKey names p l (layout (signed dot (numeric_literal_negative a) w (in_brackets levels.Comma)) p) (with_in c) false (tree.numeric_literal a)
+    bare : (dot : Bool) (w : List ℕ) → normal (tree.numeric_literal a) ≡ tree.numeric_literal (by_text w) → Numeral names dot w (tree.numeric_literal (by_text w)) → (p : Pen) (l : Last) → p.pending_semicolon ≡ false → Ready l → Knows names p l → GoodKey names p l (layout (signed dot (numeric_literal_negative a) w (in_brackets levels.Comma)) p) (with_in c) false (tree.numeric_literal a)
     bare dot w e n p l z b k = subst (λ x. GoodKey names p l (layout (signed dot x w (in_brackets levels.Comma)) p) (with_in c) false (tree.numeric_literal a)) (sym m) (numeral_key c dot w (tree.numeric_literal a) _ n e p l z b k)
 
-    by : (kind : NumericKind) → numeric_literal_kind a ≡ kind → has_value kind a ≡ true → (p : Pen) (l : Last) → p.pending_semicolon ≡ false → Begun l → Knows names p l → GoodKey names p l (layout (number_items kind a (in_brackets levels.Comma)) p) (with_in c) false (tree.numeric_literal a)
+    by : (kind : NumericKind) → numeric_literal_kind a ≡ kind → has_value kind a ≡ true → (p : Pen) (l : Last) → p.pending_semicolon ≡ false → Ready l → Knows names p l → GoodKey names p l (layout (number_items kind a (in_brackets levels.Comma)) p) (with_in c) false (tree.numeric_literal a)
     by Whole e h = bare true (decimal (numeric_literal_digits a)) (form Whole e) (whole_numeral (numeric_literal_digits a) h)
     by Raw e h = bare (not (takes_no_dot (numeric_literal_text a))) (numeric_literal_text a) (form Raw e) (raw_numeral (numeric_literal_text a) h)
 
@@ -202,7 +204,7 @@ good_big_integer_key {names} c a h m = by (behind_minus (big_int_literal_value a
     v : List ℕ
     v = big_int_literal_value a
 
-    by : (o : Option (List ℕ)) → behind_minus v ≡ o → is_some o ≡ false → (p : Pen) (l : Last) → p.pending_semicolon ≡ false → Begun l → Knows names p l → GoodKey names p l (layout (big_integer_items a.span v o (in_brackets levels.Comma)) p) (with_in c) false (tree.big_int_literal a)
+    by : (o : Option (List ℕ)) → behind_minus v ≡ o → is_some o ≡ false → (p : Pen) (l : Last) → p.pending_semicolon ≡ false → Ready l → Knows names p l → GoodKey names p l (layout (big_integer_items a.span v o (in_brackets levels.Comma)) p) (with_in c) false (tree.big_int_literal a)
     by (Some w) e m = absurd (both_ways true m refl)
     by None e m = numeral_key c false (big_text v) (tree.big_int_literal a) _ (big_numeral v (big_whole v None h e)) (ap (big_integer v) e)
 
@@ -375,7 +377,7 @@ good_short_property {names} c a b v m d f h value p l z y k =
     })
 
 -- an expression has no written name
-no_written_name : {names : Tables} {c : Allowed} {t : Tree} → IsExpression names c t → written_name_in t ≡ None
+pub no_written_name : {names : Tables} {c : Allowed} {t : Tree} → IsExpression names c t → written_name_in t ≡ None
 no_written_name (family.a_reference h) = refl
 no_written_name v = refl
 
@@ -412,30 +414,27 @@ read_computed (grammar.a_number_key n) = refl
 read_computed (grammar.a_big_integer_key e) = refl
 read_computed (grammar.a_computed_key r) = refl
 
-keyed_parts : {names : Tables} (c : Allowed) (a : Atoms) (computed : Bool) (x v : Tree) {p p1 p2 p3 q : Pen} {l : Last} → is_method (object_property_kind a) (object_property_method a) ≡ false → object_property_computed a ≡ computed → is_short names (object_property_shorthand a) x v ≡ false → (g : GoodKey names p l p1 (with_in c) (needs_brackets computed x) x) (o : Writes names p1 g.last p2 (After (Sign colon)) (piece (line_of g.last) (Sign colon) done)) (n : Soft names p2 (After (Sign colon)) p3) → Good names p3 n.last q (with_in c) grammar.Assignment v → Element names (ReadsProperty (with_in c)) p l q (tree.object_property a x v)
-keyed_parts {names} c a computed x v m d s g o n e = record {
-  last = e.last;
-  tokens = g.tokens ⧺ piece (line_of g.last) (Sign colon) e.tokens;
-  writes = wrote_both g.writes (wrote_both o (wrote_both n.writes e.writes));
-  operand = e.operand;
-  semicolon = e.semicolon;
-  tree = tree.object_property (property_values kinds.Init false false (needs_brackets computed x)) g.tree e.tree;
-  reads = grammar.a_property (line_of g.last) refl g.reads e.reads;
-  same = same_property a false (needs_brackets computed x) g.tree e.tree (renamed names x) (renamed names v) m (no_shorthand g.tree ∙ sym (ap (λ o. option_map_or is_proto o false && object_property_shorthand a) (written_as_it_was names x) ∙ not_said (object_property_shorthand a) (written_name_in x) (printed_in names v) s)) (read_computed g.reads ∙ sym (ap (λ b. object_property_computed a || b) (signed_as_it_was names x) ∙ ap (λ y. needs_brackets y x) d)) g.same e.same;
+-- a key as a stretch
+pub key_stretch : {names : Tables} {d : End} (c : Allowed) (brackets : Bool) (x : Tree) → is_good_for d a_start ≡ true → KeyAt names c brackets x → Adds names d (Reads names (ReadsKey (with_in c) brackets) x) behind_operand (key_items brackets x (spell x (in_brackets levels.Comma)))
+key_stretch c brackets x h f = record { from = λ p l z y k. let g = f p l z (y a_start h) k in record { last = g.last; tokens = g.tokens; writes = g.writes; ends = operand_ends g.last g.operand; semicolon = g.semicolon; holds = record { reading = g.tree; reads = g.reads; same = g.same } } }
+
+abbrev Keyed : Tables → Allowed → Bool → Tree → Tree → Tokens → Type 0
+Keyed names c brackets x v = Reads names (ReadsKey (with_in c) brackets) x ⨟ (Is (Sign colon) ⨟ Reads names (ReadsExpression (with_in c) grammar.Assignment) v)
+
+read_keyed : (names : Tables) (c : Allowed) (a : Atoms) (computed : Bool) (x v : Tree) → is_method (object_property_kind a) (object_property_method a) ≡ false → object_property_computed a ≡ computed → is_short names (object_property_shorthand a) x v ≡ false → {ts : Tokens} → Keyed names c (needs_brackets computed x) x v ts → Reads names (ReadsProperty (with_in c)) (tree.object_property a x v) ts
+read_keyed names c a computed x v m d s (k & (is mark & e)) = record {
+  reading = tree.object_property (property_values kinds.Init false false (needs_brackets computed x)) k.reading e.reading;
+  reads = grammar.a_property mark refl k.reads e.reads;
+  same = same_property a false (needs_brackets computed x) k.reading e.reading (renamed names x) (renamed names v) m (no_shorthand k.reading ∙ sym (ap (λ o. option_map_or is_proto o false && object_property_shorthand a) (written_as_it_was names x) ∙ not_said (object_property_shorthand a) (written_name_in x) (printed_in names v) s)) (read_computed k.reads ∙ sym (ap (λ b. object_property_computed a || b) (signed_as_it_was names x) ∙ ap (λ y. needs_brackets y x) d)) k.same e.same;
 }
 
 good_keyed_property : {names : Tables} (c : Allowed) (a : Atoms) (computed : Bool) (x v : Tree) → is_method (object_property_kind a) (object_property_method a) ≡ false → object_property_computed a ≡ computed → is_short names (object_property_shorthand a) x v ≡ false → KeyOf names c computed x → Printed names c v → PropertyOf names c (tree.object_property a x v)
-good_keyed_property {names} c a computed x v m d s key value p l z b k =
+good_keyed_property {names} c a computed x v m d s key value =
     let key_at : Bool → Items = λ y. key_items (needs_brackets y x) x (spell x (in_brackets levels.Comma)) in
-    let p1 : Pen = layout (key_at computed) p in
-    let p2 : Pen = layout (punctuator colon) p1 in
-    let p3 : Pen = layout soft_space p2 in
-    let g = key p l z b k in
-    let o = wrote_punctuator colon p1 g.last tt tt g.operand g.writes.knows in
-    let n = soft_space_written p2 (After (Sign colon)) o.knows in
-    let e = value (in_brackets levels.Comma) p3 n.last (n.semicolon ∙ g.semicolon) (n.ready tt) n.writes.knows in
-    let laid = property_laid p a x v false m k.tables s ∙ ap (λ y. layout (spell v (in_brackets levels.Comma)) (layout (key_at y ⊕ (punctuator colon ⊕ soft_space)) p)) d in
-    subst (λ r. Element names (ReadsProperty (with_in c)) p l r (tree.object_property a x v)) (sym laid) (keyed_parts c a computed x v m d s g o n e)
+    let items : Items = key_at computed ⊕ (punctuator colon ⊕ (soft_space ⊕ spell v (in_brackets levels.Comma))) in
+    gives_element (spell (tree.object_property a x v) (in_brackets levels.Comma)) (tree.object_property a x v) refl
+    (laid items (spell (tree.object_property a x v) (in_brackets levels.Comma)) (λ p t. property_laid p a x v false m t s ∙ ap (λ y. layout (spell v (in_brackets levels.Comma)) (layout (key_at y ⊕ (punctuator colon ⊕ soft_space)) p)) d)
+    (read (λ ts r. read_keyed names c a computed x v m d s r) (key_stretch c (needs_brackets computed x) x refl key ⨾ (sign colon tt tt tt refl ⨾ spaced (expression c refl value (in_brackets levels.Comma))))))
 
 -- ---- either
 

@@ -19,8 +19,9 @@ use Rattle.jsgen_model.specs.Normal.{nothing_of}
 use Rattle.jsgen_model.specs.Lay.{lay}
 use Rattle.jsgen_model.specs.Spell.{spell, spell_body, spell_directives, first_pen, printed, text_bytes}
 use Rattle.jsgen_model.specs.Valid.{IsValid, surroundings_of}
-use Rattle.jsgen_model.specs.Plain.{IsPlain, IsQuiet}
-use Rattle.jsgen_model.specs.Reading.{IsReadAs}
+use Rattle.jsgen_model.specs.Plain.{IsCore, IsPlain, IsQuiet}
+use Rattle.jsgen_model.specs.Reading.{HasReading, IsReadAs}
+use Rattle.jsgen_model.proofs.PlainPrograms.{plain_is_core}
 use Rattle.jsgen_mark_laws.proofs.Quiet.{same_text}
 use Rattle.jsgen_token_laws.proofs.Last.{Open, is_indent}
 use Rattle.jsgen_token_laws.proofs.Writes.{wrote_both, all_tokens}
@@ -64,8 +65,9 @@ read_as options tables t (family.a_program {a} {comments} {directives} {body} v 
       same = λ i. tree.program (nothing_of 4) no_trees absent (b.same.0 i) (b.same.1 i);
     }
 
-pub printed_is_read : (job : JobData) → type_of job.program ≡ types.Program → IsValid job → IsPlain job.program → IsQuiet job → IsReadAs (printed job) job
-printed_is_read job s v p q =
+-- the tokens of every core program are plain so far, since none of core's types prints another
+core_is_read_as : (job : JobData) → type_of job.program ≡ types.Program → IsValid job → IsCore job.program → IsQuiet job → IsReadAs (printed job) job
+core_is_read_as job s v p q =
     let items : Items = spell job.program among_statements in
     let whole : printed job ≡ (lay items (first_pen job)).code = ap (λ (pen : Pen). pen.code) (no_licence job q (lay items (first_pen job))) in
     let same = whole ∙ (same_text items (first_pen job) (no_comment job q) refl (quiet_annotations job q) ∙ (λ i. (layout items (record (first_pen job) { store = no_comment job q i; annotations = no_annotation job q i })).code)) in
@@ -75,13 +77,35 @@ printed_is_read job s v p q =
 on_bytes : (text : List ℕ) (job : JobData) → IsReadAs text job → IsReadAs (chars (encode_utf8_all text)) job
 on_bytes text job r = subst (λ x. IsReadAs x job) (sym (chars-encodes text (tokens_scalars text r.tokens r.are_tokens))) r
 
-pub bytes_are_read : (job : JobData) → type_of job.program ≡ types.Program → IsValid job → IsPlain job.program → IsQuiet job → IsReadAs (chars (text_bytes job)) job
-bytes_are_read job s v p q = on_bytes (printed job) job (printed_is_read job s v p q)
+core_bytes_are_read_as : (job : JobData) → type_of job.program ≡ types.Program → IsValid job → IsCore job.program → IsQuiet job → IsReadAs (chars (text_bytes job)) job
+core_bytes_are_read_as job s v p q = on_bytes (printed job) job (core_is_read_as job s v p q)
+
+-- ---- of core
+
+has_reading : (text : List ℕ) (job : JobData) → IsReadAs text job → HasReading text job
+has_reading text job r = record { tokens = r.tokens; are_tokens = r.are_tokens; reading = r.reading; reads = r.reads; same = r.same }
+
+pub core_is_read : (job : JobData) → type_of job.program ≡ types.Program → IsValid job → IsCore job.program → IsQuiet job → HasReading (printed job) job
+core_is_read job s v p q = has_reading (printed job) job (core_is_read_as job s v p q)
+
+pub core_bytes_are_read : (job : JobData) → type_of job.program ≡ types.Program → IsValid job → IsCore job.program → IsQuiet job → HasReading (chars (text_bytes job)) job
+core_bytes_are_read job s v p q = has_reading (chars (text_bytes job)) job (core_bytes_are_read_as job s v p q)
 
 -- for bytes that are known to be the text's
-pub read_back : (job : JobData) (bytes : List ℕ) → bytes ≡ text_bytes job → type_of job.program ≡ types.Program → IsValid job → IsPlain job.program → IsQuiet job → IsReadAs (chars bytes) job
-read_back job bytes e s v p q = subst (λ b. IsReadAs (chars b) job) (sym e) (bytes_are_read job s v p q)
+pub core_read_back : (job : JobData) (bytes : List ℕ) → bytes ≡ text_bytes job → type_of job.program ≡ types.Program → IsValid job → IsCore job.program → IsQuiet job → HasReading (chars bytes) job
+core_read_back job bytes e s v p q = subst (λ b. HasReading (chars b) job) (sym e) (core_bytes_are_read job s v p q)
 
 -- the bytes are a text in UTF-8
-pub text_is_utf8 : (job : JobData) → type_of job.program ≡ types.Program → IsValid job → IsPlain job.program → IsQuiet job → IsUtf8 (text_bytes job)
-text_is_utf8 job s v p q = let r = printed_is_read job s v p q in (printed job, (tokens_scalars (printed job) r.tokens r.are_tokens, refl))
+pub text_is_utf8 : (job : JobData) → type_of job.program ≡ types.Program → IsValid job → IsCore job.program → IsQuiet job → IsUtf8 (text_bytes job)
+text_is_utf8 job s v p q = let r = core_is_read job s v p q in (printed job, (tokens_scalars (printed job) r.tokens r.are_tokens, refl))
+
+-- ---- of what is plain
+
+pub printed_is_read : (job : JobData) → type_of job.program ≡ types.Program → IsValid job → IsPlain job.program → IsQuiet job → IsReadAs (printed job) job
+printed_is_read job s v p q = core_is_read_as job s v (plain_is_core job.program p) q
+
+pub bytes_are_read : (job : JobData) → type_of job.program ≡ types.Program → IsValid job → IsPlain job.program → IsQuiet job → IsReadAs (chars (text_bytes job)) job
+bytes_are_read job s v p q = core_bytes_are_read_as job s v (plain_is_core job.program p) q
+
+pub read_back : (job : JobData) (bytes : List ℕ) → bytes ≡ text_bytes job → type_of job.program ≡ types.Program → IsValid job → IsPlain job.program → IsQuiet job → IsReadAs (chars bytes) job
+read_back job bytes e s v p q = subst (λ b. IsReadAs (chars b) job) (sym e) (bytes_are_read job s v p q)

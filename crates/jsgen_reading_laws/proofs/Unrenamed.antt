@@ -1,10 +1,10 @@
 -- What stays as it is where names are printed by tables; and without tables all does.
 use Rattle.std.specs.Option.{option_map_or}
 use Rattle.std.proofs.Common.{◌≡◌, None, false, not, ◌&&◌, ◌||◌, [], ◌∷◌, refl, ap}
-use Rattle.jsgen_tree.specs.Atom.{no_value, text, units, declaration_kind, binary_operator, logical_operator, unary_operator, update_operator, assignment_operator, flag}
+use Rattle.jsgen_tree.specs.Atom.{no_value, text, units, declaration_kind, binary_operator, logical_operator, unary_operator, update_operator, assignment_operator, flag, class_form, kind_of_import, with_keyword}
 use Rattle.jsgen_tree.specs.Tree.{Tree, node, Slots, no_slots, one, maybe, many, maybe_many, Maybe, absent, given, Trees, no_trees, more, hole, MaybeTrees, no_list, listed, Atoms}
 use Rattle.jsgen_tree.specs.Places.{bare}
-use Rattle.jsgen_tree.specs.Values.{variable_declaration_kind, variable_declaration_declare, variable_declarator_definite, for_of_statement_is_await, static_member_expression_optional, computed_member_expression_optional, call_expression_optional, binary_expression_operator, logical_expression_operator, unary_expression_operator, update_expression_operator, update_expression_prefix, object_property_kind, object_property_method, object_property_shorthand, object_property_computed, assignment_expression_operator, function_kind, function_is_async, function_generator, function_declare, formal_parameter_is_override, formal_parameter_readonly, formal_parameter_optional, arrow_function_expression_is_async, method_definition_kind, method_definition_computed, method_definition_is_static, method_definition_is_override, method_definition_is_abstract, method_definition_optional}
+use Rattle.jsgen_tree.specs.Values.{variable_declaration_kind, variable_declaration_declare, variable_declarator_definite, for_of_statement_is_await, static_member_expression_optional, computed_member_expression_optional, call_expression_optional, binary_expression_operator, logical_expression_operator, unary_expression_operator, update_expression_operator, update_expression_prefix, object_property_kind, object_property_method, object_property_shorthand, object_property_computed, assignment_expression_operator, function_kind, function_is_async, function_generator, function_declare, formal_parameter_is_override, formal_parameter_readonly, formal_parameter_optional, arrow_function_expression_is_async, method_definition_kind, method_definition_computed, method_definition_is_static, method_definition_is_override, method_definition_is_abstract, method_definition_optional, assignment_target_property_property_computed, binding_property_computed, class_declare, class_is_abstract, class_kind, export_from_declaration_export_kind, export_named_declaration_export_kind, import_declaration_import_kind, private_field_expression_optional, property_definition_computed, property_definition_declare, property_definition_definite, property_definition_is_abstract, property_definition_is_override, property_definition_is_static, property_definition_optional, property_definition_readonly, with_clause_keyword, yield_expression_delegate}
 use Rattle.jsgen_tree.specs.Inside.{written_name_in, is_proto, is_method, is_negative_number}
 use Rattle.jsgen_tree.specs.Job.{Tables, no_tables}
 use Rattle.jsgen_tree.specs.Nodes as tree
@@ -86,73 +86,33 @@ mutual
   pub unrenamed : (t : Tree) → normal (renamed no_tables t) ≡ normal t
   unrenamed (tree.program a comments hashbang directives body) = let h = unrenamed_maybe hashbang in let e = unrenamed_trees directives in let f = unrenamed_trees body in λ i. tree.program (nothing_of 4) no_trees (h i) (e i) (f i)
   unrenamed (tree.comment a) = refl
+  unrenamed (tree.template_element a) = refl
   unrenamed (tree.directive a) = refl
-  unrenamed (tree.expression_statement a expression) = ap (λ e. tree.expression_statement (nothing_of 0) e) (unrenamed expression)
-  unrenamed (tree.variable_declaration a declarations) = ap (λ ts. tree.variable_declaration (bare (declaration_kind (variable_declaration_kind a) ∷ if_set (variable_declaration_declare a) ∷ [])) ts) (unrenamed_trees declarations)
-  unrenamed (tree.variable_declarator a id init) = let e = unrenamed id in let f = unrenamed_maybe init in λ i. tree.variable_declarator (bare (if_set (variable_declarator_definite a) ∷ [])) (e i) (f i)
   unrenamed (tree.binding_identifier a) = refl
   unrenamed (tree.identifier_reference a) = refl
-  unrenamed (tree.this_expression a) = refl
-  unrenamed (tree.null_literal a) = refl
-  unrenamed (tree.boolean_literal a) = refl
   unrenamed (tree.numeric_literal a) = refl
   unrenamed (tree.big_int_literal a) = refl
-  unrenamed (tree.string_literal a) = refl
   unrenamed (tree.parenthesized a expression) = unrenamed expression
-  unrenamed (tree.binary a left right) = let e = unrenamed left in let f = unrenamed right in λ i. tree.binary (bare (binary_operator (binary_expression_operator a) ∷ [])) (e i) (f i)
   unrenamed (tree.logical a left right) = let e = unrenamed left in let f = unrenamed right in λ i. chain (bare (logical_operator (logical_expression_operator a) ∷ [])) (joined (links (logical_expression_operator a) (e i)) (links (logical_expression_operator a) (f i)))
-  unrenamed (tree.block a body) = ap (λ ts. tree.block (nothing_of 0) ts) (unrenamed_trees body)
   unrenamed (tree.if_statement a test consequent alternate) = let e = unrenamed test in let f = ap unbraced (unrenamed consequent) in let g = unrenamed_maybe alternate in λ i. tree.if_statement (nothing_of 0) (e i) (f i) (g i)
-  unrenamed (tree.empty_statement a) = refl
-  unrenamed (tree.for_statement a init test update_child body) = let e = unrenamed_maybe init in let f = unrenamed_maybe test in let g = unrenamed_maybe update_child in let h = unrenamed body in λ i. tree.for_statement (nothing_of 0) (e i) (f i) (g i) (h i)
-  unrenamed (tree.for_in_statement a left right body) = let e = unrenamed left in let f = unrenamed right in let g = unrenamed body in λ i. tree.for_in_statement (nothing_of 0) (e i) (f i) (g i)
-  unrenamed (tree.for_of_statement a left right body) = let e = unrenamed left in let f = unrenamed right in let g = unrenamed body in λ i. tree.for_of_statement (bare (if_set (for_of_statement_is_await a) ∷ [])) (e i) (f i) (g i)
-  unrenamed (tree.while_statement a test body) = let e = unrenamed test in let f = unrenamed body in λ i. tree.while_statement (nothing_of 0) (e i) (f i)
-  unrenamed (tree.do_while_statement a body test) = let e = unrenamed body in let f = unrenamed test in λ i. tree.do_while_statement (nothing_of 0) (e i) (f i)
   unrenamed (tree.label_identifier a) = refl
-  unrenamed (tree.labeled_statement a label body) = let e = unrenamed label in let f = unrenamed body in λ i. tree.labeled_statement (nothing_of 0) (e i) (f i)
-  unrenamed (tree.continue_statement a label) = ap (λ m. tree.continue_statement (nothing_of 0) m) (unrenamed_maybe label)
-  unrenamed (tree.break_statement a label) = ap (λ m. tree.break_statement (nothing_of 0) m) (unrenamed_maybe label)
-  unrenamed (tree.throw_statement a argument) = ap (λ e. tree.throw_statement (nothing_of 0) e) (unrenamed argument)
-  unrenamed (tree.debugger_statement a) = refl
-  unrenamed (tree.switch_statement a discriminant cases) = let e = unrenamed discriminant in let f = unrenamed_trees cases in λ i. tree.switch_statement (nothing_of 0) (e i) (f i)
-  unrenamed (tree.switch_case a test consequent) = let e = unrenamed_maybe test in let f = unrenamed_trees consequent in λ i. tree.switch_case (nothing_of 0) (e i) (f i)
-  unrenamed (tree.try_statement a block_child handler finalizer) = let e = unrenamed block_child in let f = unrenamed_maybe handler in let g = unrenamed_maybe finalizer in λ i. tree.try_statement (nothing_of 0) (e i) (f i) (g i)
-  unrenamed (tree.catch_clause a param body) = let e = unrenamed_maybe param in let f = unrenamed body in λ i. tree.catch_clause (nothing_of 0) (e i) (f i)
   unrenamed (tree.identifier_name a) = refl
   unrenamed (tree.static_member a object property) = let e = unrenamed object in let f = unrenamed property in λ i. tree.static_member (link_values (static_member_expression_optional a)) (e i) (f i)
   unrenamed (tree.computed_member a object expression) = let e = unrenamed object in let f = unrenamed expression in λ i. tree.computed_member (link_values (computed_member_expression_optional a)) (e i) (f i)
   unrenamed (tree.call a callee arguments) = let e = unrenamed callee in let f = unrenamed_trees arguments in λ i. tree.call (call_values (call_expression_optional a)) (e i) (f i)
-  unrenamed (tree.chain a element) = ap (λ e. tree.chain (nothing_of 0) e) (unrenamed element)
-  unrenamed (tree.array a elements) = ap (λ ts. tree.array (nothing_of 0) ts) (unrenamed_trees elements)
-  unrenamed (tree.object_expression a properties) = ap (λ ts. tree.object_expression (nothing_of 0) ts) (unrenamed_trees properties)
   unrenamed (tree.object_property a key value) =
       let e = unrenamed key in
       let f = unrenamed value in
       let g = ap (λ o. not (is_method (object_property_kind a) (object_property_method a)) && option_map_or is_proto o false && object_property_shorthand a) (written_as_it_was no_tables key) in
       let h = ap (λ b. object_property_computed a || b) (signed_as_it_was no_tables key) in
       λ i. tree.object_property (property_values (object_property_kind a) (is_written_as_method (object_property_kind a) (object_property_method a)) (g i) (h i)) (e i) (f i)
-  unrenamed (tree.spread a argument) = ap (λ e. tree.spread (nothing_of 0) e) (unrenamed argument)
-  unrenamed (tree.unary a argument) = ap (λ e. tree.unary (bare (unary_operator (unary_expression_operator a) ∷ [])) e) (unrenamed argument)
-  unrenamed (tree.update a argument) = ap (λ e. tree.update (bare (update_operator (update_expression_operator a) ∷ flag (update_expression_prefix a) ∷ [])) e) (unrenamed argument)
-  unrenamed (tree.new_expression a callee arguments) = let e = unrenamed callee in let f = unrenamed_trees arguments in λ i. tree.new_expression (nothing_of 1) (e i) (f i)
-  unrenamed (tree.super a) = refl
-  unrenamed (tree.new_target a) = refl
-  unrenamed (tree.conditional a test consequent alternate) = let e = unrenamed test in let f = unrenamed consequent in let g = unrenamed alternate in λ i. tree.conditional (nothing_of 0) (e i) (f i) (g i)
   unrenamed (tree.sequence a expressions) = ap (λ ts. tree.sequence (nothing_of 0) (flattened ts)) (unrenamed_trees expressions)
-  unrenamed (tree.assignment a left right) = let e = unrenamed left in let f = unrenamed right in λ i. tree.assignment (bare (assignment_operator (assignment_expression_operator a) ∷ [])) (e i) (f i)
-  unrenamed (tree.formal_parameter a pattern initializer) = let e = unrenamed pattern in let f = unrenamed_maybe initializer in λ i. tree.formal_parameter (bare (if_set (formal_parameter_is_override a) ∷ if_set (formal_parameter_readonly a) ∷ if_set (formal_parameter_optional a) ∷ [])) (e i) (f i)
-  unrenamed (tree.formal_parameter_rest a argument) = ap (λ e. tree.formal_parameter_rest (nothing_of 0) e) (unrenamed argument)
-  unrenamed (tree.formal_parameters a items rest) = let e = unrenamed_trees items in let f = unrenamed_maybe rest in λ i. tree.formal_parameters (nothing_of 0) (e i) (f i)
-  unrenamed (tree.arrow_function a params body) = let e = unrenamed params in let f = unrenamed body in λ i. tree.arrow_function (bare (if_set (arrow_function_expression_is_async a) ∷ no_value ∷ no_value ∷ [])) (e i) (f i)
   unrenamed (tree.function a id params body) = let e = unrenamed_maybe id in let f = unrenamed params in let g = unrenamed_maybe body in λ i. tree.function (function_values (function_kind a) (if_set (function_is_async a)) (if_set (function_generator a)) (if_set (function_declare a))) (e i) (f i) (g i)
-  unrenamed (tree.function_body a directives statements) = let e = unrenamed_trees directives in let f = unrenamed_trees statements in λ i. tree.function_body (nothing_of 0) (e i) (f i)
-  unrenamed (tree.return_statement a argument) = ap (λ m. tree.return_statement (nothing_of 0) m) (unrenamed_maybe argument)
   unrenamed (tree.reg_exp_literal a) = refl
   unrenamed (tree.method_definition a key value) = let e = unrenamed key in let f = unrenamed value in λ i. tree.method_definition (method_values (as_method (method_definition_kind a)) (method_definition_computed a) (method_definition_is_static a) (if_set (method_definition_is_override a)) (if_set (method_definition_is_abstract a)) (if_set (method_definition_optional a))) (e i) (f i)
   unrenamed (tree.target_property_identifier a binding init) = written_out_again a binding init (unrenamed binding) (unrenamed_maybe init)
   unrenamed (tree.template_literal a quasis expressions) = let e = same_values quasis in let f = unrenamed_trees expressions in λ i. untagged (e i) (f i)
-  unrenamed (tree.tagged_template a tag quasi) = let e = unrenamed tag in let f = unrenamed_quasi quasi in λ i. tree.tagged_template (bare a.values) (e i) (f i)
+  unrenamed (tree.tagged_template a tag quasi) = let e = unrenamed tag in let f = unrenamed_quasi quasi in λ i. tree.tagged_template (nothing_of 0) (e i) (f i)
   unrenamed (tree.import_specifier a imported local) = let e = unrenamed imported in let f = unrenamed local in λ i. tree.import_specifier (bare a.values) (by_its_text (e i)) (f i)
   unrenamed (tree.export_specifier a local exported) = let e = unrenamed local in let f = unrenamed exported in λ i. tree.export_specifier (bare a.values) (by_its_text (e i)) (by_its_text (f i))
   unrenamed (tree.export_all_declaration a exported source with_clause_child) =
@@ -160,6 +120,80 @@ mutual
       let f = unrenamed source in
       let g = unrenamed_maybe with_clause_child in
       λ i. tree.export_all_declaration (bare a.values) (maybe_by_its_text (e i)) (f i) (g i)
+  -- generated from tools/nodes/table.txt: rows
+  unrenamed (tree.variable_declaration a declarations) = let e0 = unrenamed_trees declarations in λ i. tree.variable_declaration (bare (declaration_kind (variable_declaration_kind a) ∷ if_set (variable_declaration_declare a) ∷ [])) (e0 i)
+  unrenamed (tree.variable_declarator a id init) = let e0 = unrenamed id in let e1 = unrenamed_maybe init in λ i. tree.variable_declarator (bare (if_set (variable_declarator_definite a) ∷ [])) (e0 i) (e1 i)
+  unrenamed (tree.expression_statement a expression) = let e0 = unrenamed expression in λ i. tree.expression_statement (nothing_of 0) (e0 i)
+  unrenamed (tree.block a body) = let e0 = unrenamed_trees body in λ i. tree.block (nothing_of 0) (e0 i)
+  unrenamed (tree.empty_statement a) = refl
+  unrenamed (tree.this_expression a) = refl
+  unrenamed (tree.null_literal a) = refl
+  unrenamed (tree.boolean_literal a) = refl
+  unrenamed (tree.string_literal a) = refl
+  unrenamed (tree.binary a left right) = let e0 = unrenamed left in let e1 = unrenamed right in λ i. tree.binary (bare (binary_operator (binary_expression_operator a) ∷ [])) (e0 i) (e1 i)
+  unrenamed (tree.chain a expression) = let e0 = unrenamed expression in λ i. tree.chain (nothing_of 0) (e0 i)
+  unrenamed (tree.spread a argument) = let e0 = unrenamed argument in λ i. tree.spread (nothing_of 0) (e0 i)
+  unrenamed (tree.array a elements) = let e0 = unrenamed_trees elements in λ i. tree.array (nothing_of 0) (e0 i)
+  unrenamed (tree.object_expression a properties) = let e0 = unrenamed_trees properties in λ i. tree.object_expression (nothing_of 0) (e0 i)
+  unrenamed (tree.unary a argument) = let e0 = unrenamed argument in λ i. tree.unary (bare (unary_operator (unary_expression_operator a) ∷ [])) (e0 i)
+  unrenamed (tree.new_target a) = refl
+  unrenamed (tree.update a argument) = let e0 = unrenamed argument in λ i. tree.update (bare (update_operator (update_expression_operator a) ∷ flag (update_expression_prefix a) ∷ [])) (e0 i)
+  unrenamed (tree.new_expression a callee arguments) = let e0 = unrenamed callee in let e1 = unrenamed_trees arguments in λ i. tree.new_expression (nothing_of 1) (e0 i) (e1 i)
+  unrenamed (tree.super a) = refl
+  unrenamed (tree.import_meta a) = refl
+  unrenamed (tree.conditional a test consequent alternate) = let e0 = unrenamed test in let e1 = unrenamed consequent in let e2 = unrenamed alternate in λ i. tree.conditional (nothing_of 0) (e0 i) (e1 i) (e2 i)
+  unrenamed (tree.assignment a left right) = let e0 = unrenamed left in let e1 = unrenamed right in λ i. tree.assignment (bare (assignment_operator (assignment_expression_operator a) ∷ [])) (e0 i) (e1 i)
+  unrenamed (tree.formal_parameter a pattern initializer) = let e0 = unrenamed pattern in let e1 = unrenamed_maybe initializer in λ i. tree.formal_parameter (bare (if_set (formal_parameter_is_override a) ∷ if_set (formal_parameter_readonly a) ∷ if_set (formal_parameter_optional a) ∷ [])) (e0 i) (e1 i)
+  unrenamed (tree.formal_parameter_rest a argument) = let e0 = unrenamed argument in λ i. tree.formal_parameter_rest (nothing_of 0) (e0 i)
+  unrenamed (tree.formal_parameters a items rest) = let e0 = unrenamed_trees items in let e1 = unrenamed_maybe rest in λ i. tree.formal_parameters (nothing_of 0) (e0 i) (e1 i)
+  unrenamed (tree.function_body a directives statements) = let e0 = unrenamed_trees directives in let e1 = unrenamed_trees statements in λ i. tree.function_body (nothing_of 0) (e0 i) (e1 i)
+  unrenamed (tree.arrow_function a params body) = let e0 = unrenamed params in let e1 = unrenamed body in λ i. tree.arrow_function (bare (if_set (arrow_function_expression_is_async a) ∷ no_value ∷ no_value ∷ [])) (e0 i) (e1 i)
+  unrenamed (tree.await_expression a argument) = let e0 = unrenamed argument in λ i. tree.await_expression (nothing_of 0) (e0 i)
+  unrenamed (tree.yield_expression a argument) = let e0 = unrenamed_maybe argument in λ i. tree.yield_expression (bare (flag (yield_expression_delegate a) ∷ [])) (e0 i)
+  unrenamed (tree.import_call a source options) = let e0 = unrenamed source in let e1 = unrenamed_maybe options in λ i. tree.import_call (nothing_of 0) (e0 i) (e1 i)
+  unrenamed (tree.for_statement a init test update body) = let e0 = unrenamed_maybe init in let e1 = unrenamed_maybe test in let e2 = unrenamed_maybe update in let e3 = unrenamed body in λ i. tree.for_statement (nothing_of 0) (e0 i) (e1 i) (e2 i) (e3 i)
+  unrenamed (tree.for_in_statement a left right body) = let e0 = unrenamed left in let e1 = unrenamed right in let e2 = unrenamed body in λ i. tree.for_in_statement (nothing_of 0) (e0 i) (e1 i) (e2 i)
+  unrenamed (tree.for_of_statement a left right body) = let e0 = unrenamed left in let e1 = unrenamed right in let e2 = unrenamed body in λ i. tree.for_of_statement (bare (if_set (for_of_statement_is_await a) ∷ [])) (e0 i) (e1 i) (e2 i)
+  unrenamed (tree.while_statement a test body) = let e0 = unrenamed test in let e1 = unrenamed body in λ i. tree.while_statement (nothing_of 0) (e0 i) (e1 i)
+  unrenamed (tree.do_while_statement a body test) = let e0 = unrenamed body in let e1 = unrenamed test in λ i. tree.do_while_statement (nothing_of 0) (e0 i) (e1 i)
+  unrenamed (tree.labeled_statement a label body) = let e0 = unrenamed label in let e1 = unrenamed body in λ i. tree.labeled_statement (nothing_of 0) (e0 i) (e1 i)
+  unrenamed (tree.continue_statement a label) = let e0 = unrenamed_maybe label in λ i. tree.continue_statement (nothing_of 0) (e0 i)
+  unrenamed (tree.break_statement a label) = let e0 = unrenamed_maybe label in λ i. tree.break_statement (nothing_of 0) (e0 i)
+  unrenamed (tree.return_statement a argument) = let e0 = unrenamed_maybe argument in λ i. tree.return_statement (nothing_of 0) (e0 i)
+  unrenamed (tree.throw_statement a argument) = let e0 = unrenamed argument in λ i. tree.throw_statement (nothing_of 0) (e0 i)
+  unrenamed (tree.debugger_statement a) = refl
+  unrenamed (tree.switch_statement a discriminant cases) = let e0 = unrenamed discriminant in let e1 = unrenamed_trees cases in λ i. tree.switch_statement (nothing_of 0) (e0 i) (e1 i)
+  unrenamed (tree.switch_case a test consequent) = let e0 = unrenamed_maybe test in let e1 = unrenamed_trees consequent in λ i. tree.switch_case (nothing_of 0) (e0 i) (e1 i)
+  unrenamed (tree.try_statement a block handler finalizer) = let e0 = unrenamed block in let e1 = unrenamed_maybe handler in let e2 = unrenamed_maybe finalizer in λ i. tree.try_statement (nothing_of 0) (e0 i) (e1 i) (e2 i)
+  unrenamed (tree.catch_clause a param body) = let e0 = unrenamed_maybe param in let e1 = unrenamed body in λ i. tree.catch_clause (nothing_of 0) (e0 i) (e1 i)
+  unrenamed (tree.object_pattern a properties rest) = let e0 = unrenamed_trees properties in let e1 = unrenamed_maybe rest in λ i. tree.object_pattern (nothing_of 0) (e0 i) (e1 i)
+  unrenamed (tree.binding_property a key value) = let e0 = unrenamed key in let e1 = unrenamed value in λ i. tree.binding_property (bare (flag (binding_property_computed a) ∷ [])) (e0 i) (e1 i)
+  unrenamed (tree.binding_rest_element a argument) = let e0 = unrenamed argument in λ i. tree.binding_rest_element (nothing_of 0) (e0 i)
+  unrenamed (tree.array_pattern a elements rest) = let e0 = unrenamed_trees elements in let e1 = unrenamed_maybe rest in λ i. tree.array_pattern (nothing_of 0) (e0 i) (e1 i)
+  unrenamed (tree.assignment_pattern a left right) = let e0 = unrenamed left in let e1 = unrenamed right in λ i. tree.assignment_pattern (nothing_of 0) (e0 i) (e1 i)
+  unrenamed (tree.array_target a elements rest) = let e0 = unrenamed_trees elements in let e1 = unrenamed_maybe rest in λ i. tree.array_target (nothing_of 0) (e0 i) (e1 i)
+  unrenamed (tree.object_target a properties rest) = let e0 = unrenamed_trees properties in let e1 = unrenamed_maybe rest in λ i. tree.object_target (nothing_of 0) (e0 i) (e1 i)
+  unrenamed (tree.target_with_default a binding init) = let e0 = unrenamed binding in let e1 = unrenamed init in λ i. tree.target_with_default (nothing_of 0) (e0 i) (e1 i)
+  unrenamed (tree.target_property a the_name binding) = let e0 = unrenamed the_name in let e1 = unrenamed binding in λ i. tree.target_property (bare (flag (assignment_target_property_property_computed a) ∷ [])) (e0 i) (e1 i)
+  unrenamed (tree.target_rest a target) = let e0 = unrenamed target in λ i. tree.target_rest (nothing_of 0) (e0 i)
+  unrenamed (tree.private_identifier a) = refl
+  unrenamed (tree.private_member a object field) = let e0 = unrenamed object in let e1 = unrenamed field in λ i. tree.private_member (bare (flag (private_field_expression_optional a) ∷ [])) (e0 i) (e1 i)
+  unrenamed (tree.private_in a left right) = let e0 = unrenamed left in let e1 = unrenamed right in λ i. tree.private_in (nothing_of 0) (e0 i) (e1 i)
+  unrenamed (tree.class a id heritage body) = let e0 = unrenamed_maybe id in let e1 = unrenamed_maybe heritage in let e2 = unrenamed body in λ i. tree.class (bare (class_form (class_kind a) ∷ if_set (class_declare a) ∷ if_set (class_is_abstract a) ∷ [])) (e0 i) (e1 i) (e2 i)
+  unrenamed (tree.class_body a body) = let e0 = unrenamed_trees body in λ i. tree.class_body (nothing_of 0) (e0 i)
+  unrenamed (tree.static_block a body) = let e0 = unrenamed_trees body in λ i. tree.static_block (nothing_of 0) (e0 i)
+  unrenamed (tree.property_definition a key value) = let e0 = unrenamed key in let e1 = unrenamed_maybe value in λ i. tree.property_definition (bare (flag (property_definition_computed a) ∷ if_set (property_definition_declare a) ∷ if_set (property_definition_is_abstract a) ∷ flag (property_definition_is_static a) ∷ if_set (property_definition_is_override a) ∷ if_set (property_definition_readonly a) ∷ if_set (property_definition_optional a) ∷ if_set (property_definition_definite a) ∷ [])) (e0 i) (e1 i)
+  unrenamed (tree.hashbang a) = refl
+  unrenamed (tree.import_declaration a specifiers source with_clause) = let e0 = unrenamed_maybe_trees specifiers in let e1 = unrenamed source in let e2 = unrenamed_maybe with_clause in λ i. tree.import_declaration (bare (kind_of_import (import_declaration_import_kind a) ∷ [])) (e0 i) (e1 i) (e2 i)
+  unrenamed (tree.import_default_specifier a local) = let e0 = unrenamed local in λ i. tree.import_default_specifier (nothing_of 0) (e0 i)
+  unrenamed (tree.import_namespace_specifier a local) = let e0 = unrenamed local in λ i. tree.import_namespace_specifier (nothing_of 0) (e0 i)
+  unrenamed (tree.with_clause a entries) = let e0 = unrenamed_trees entries in λ i. tree.with_clause (bare (with_keyword (with_clause_keyword a) ∷ [])) (e0 i)
+  unrenamed (tree.import_attribute a key value) = let e0 = unrenamed key in let e1 = unrenamed value in λ i. tree.import_attribute (nothing_of 0) (e0 i) (e1 i)
+  unrenamed (tree.export_declaration a declaration) = let e0 = unrenamed declaration in λ i. tree.export_declaration (nothing_of 0) (e0 i)
+  unrenamed (tree.export_named_declaration a specifiers) = let e0 = unrenamed_trees specifiers in λ i. tree.export_named_declaration (bare (kind_of_import (export_named_declaration_export_kind a) ∷ [])) (e0 i)
+  unrenamed (tree.export_from_declaration a specifiers source with_clause) = let e0 = unrenamed_trees specifiers in let e1 = unrenamed source in let e2 = unrenamed_maybe with_clause in λ i. tree.export_from_declaration (bare (kind_of_import (export_from_declaration_export_kind a) ∷ [])) (e0 i) (e1 i) (e2 i)
+  unrenamed (tree.export_default_declaration a declaration) = let e0 = unrenamed declaration in λ i. tree.export_default_declaration (nothing_of 0) (e0 i)
+  -- end of what is generated: rows
   unrenamed (node type a slots) = ap (λ s. node type (bare a.values) s) (unrenamed_slots slots)
 
   unrenamed_quasi : (t : Tree) → normal_quasi (renamed no_tables t) ≡ normal_quasi t

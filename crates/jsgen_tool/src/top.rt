@@ -1,8 +1,8 @@
 // The top call: from the words of a command to its status.
 ghost use Rattle.std.specs.Prelude.{◌≡◌, ◌↔◌, ◌+◌, [], ◌∷◌, map, string_bytes, IsTrue, IfSome};
 ghost use Rattle.jsgen_tree.specs.Job.{JobData};
-ghost use Rattle.jsgen_model.specs.Plain.{IsPlain, IsQuiet};
-ghost use Rattle.jsgen_tool.specs.Headline.{HoldsJob, Prints};
+ghost use Rattle.jsgen_model.specs.Plain.{IsCore, IsPlain, IsQuiet};
+ghost use Rattle.jsgen_tool.specs.Headline.{CorePrints, HoldsJob, Prints};
 ghost use Rattle.jsgen_jobs.specs.Job.{AnswersBy, Tells};
 ghost use Rattle.jsgen_jobs.specs.MapText.{map_bytes};
 ghost use Rattle.jsgen_jobs.specs.LegalText.{legal_bytes};
@@ -208,6 +208,12 @@ pub fn run<P: PrintJobs, S: Source, K: Sink>(
     ensures prints { IsPrint words.now → (job : JobData) → HoldsJob (S.left source.old) job →
         IsPlain job.program → IsQuiet job →
         Prints (Rose (S.faults source.old) (S.faults source.new)) (Rose (K.faults out.old) (K.faults out.new))
+        job (K.got out.old) (K.got out.new) result }
+
+    // So is that of any such job that is core, plain or not: its text has a reading as its program.
+    ensures core_prints { IsPrint words.now → (job : JobData) → HoldsJob (S.left source.old) job →
+        IsCore job.program → IsQuiet job →
+        CorePrints (Rose (S.faults source.old) (S.faults source.new)) (Rose (K.faults out.old) (K.faults out.new))
         job (K.got out.old) (K.got out.new) result }
 
     // Want of memory is `Status::Memory`, and no fault of the job.

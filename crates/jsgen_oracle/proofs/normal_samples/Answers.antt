@@ -214,5 +214,6 @@ returns c = record {
   name_of_an_import = refl;
   name_of_an_export = refl;
   other_name_of_an_export = apart _ _ refl refl;
-  exported_or_passed_on = apart _ _ refl refl;
+  exported_by_text = refl;
+  exported_or_passed_on = λ e. absurd (cc);
 }

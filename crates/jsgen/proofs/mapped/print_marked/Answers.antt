@@ -1,4 +1,4 @@
-use Rattle.std.proofs.Common.{◌≡◌, ℕ, List, Bor, map, string_bytes, ap, sym, ◌∙◌}
+use Rattle.std.proofs.Common.{◌≡◌, ℕ, List, Bor, map, string_bytes, ap, ◌∙◌}
 use Rattle.std.specs.Str.{encode_utf8_all}
 use Rattle.jsgen_tree.specs.Plain.{program_plain}
 use Rattle.jsgen_place.specs.Place.{among_statements}

@@ -1,5 +1,5 @@
 use Rattle.std.proofs.Common.{inl}
-use Rattle.jsgen_tool.proofs.Promise.{due, prints}
+use Rattle.jsgen_tool.proofs.Promise.{core_prints, due, prints}
 use Rattle.jsgen_tool.proofs.top.run.Goals as goal
 
 -- in one record, so that a wrong answer is refused at its first clause
@@ -18,6 +18,8 @@ returns g c = record {
       due c.work-status.result _ _ _ _ _ (λ usage. c.work-status.ensures.usage.0 usage is_command) c.work-status.ensures.read c.work-status.ensures.write c.work-status.ensures.input unread;
   prints = λ is_print job holds plain quiet.
       prints c.work-status.result _ _ _ _ _ _ _ job (λ usage. c.work-status.ensures.usage.0 usage (inl (inl is_print))) c.work-status.ensures.read c.work-status.ensures.write c.work-status.ensures.input (c.work-status.ensures.output is_print) holds plain quiet;
+  core_prints = λ is_print job holds core quiet.
+      core_prints c.work-status.result _ _ _ _ _ _ _ job (λ usage. c.work-status.ensures.usage.0 usage (inl (inl is_print))) c.work-status.ensures.read c.work-status.ensures.write c.work-status.ensures.input (c.work-status.ensures.output is_print) holds core quiet;
   memory = c.work-status.ensures.memory;
   said = c.say.ensures;
   taken = c.work-status.ensures.taken;

@@ -11,7 +11,8 @@ use Rattle.jsgen.specs.Codegen.{job_for}
 use Rattle.jsgen_model.specs.Spell.{printed}
 use Rattle.jsgen_model.proofs.PlainPrograms.{program_is_formed}
 use Rattle.jsgen_comment_laws.proofs.Laws.{comments_stand}
-use Rattle.jsgen_reading_laws.proofs.Reading.{read_back}
+use Rattle.jsgen_reading_laws.proofs.Reading.{core_read_back, read_back}
+use Rattle.jsgen_one_reading.proofs.Meaning.{read_only}
 use Rattle.jsgen.specs.Commented.{HasComments}
 use Rattle.jsgen.proofs.Built.{Built, apart_is, built, mapped_map, mapped_text, plain_text}
 use Rattle.jsgen.proofs.Maps.{if_any, if_ok, names_stand_in, source_is, source_is_short}
@@ -48,6 +49,18 @@ returns-in-Some-clause-reads c =
     let source = source_is c.args.program.now (options_plain c.args.self.options) (tables_plain c.args.self.tables) in
     if_ok c.print_mapped.result (λ printed is plain quiet. read_back job (string_bytes printed.code) (is ∙ mapped_text job c.in_ok-end.end (pen_of c.with_comments-printer.result) _ (begun_mapped c) source) refl c.requires.valid plain quiet) c.print_mapped.ensures.code
 
+pub returns-in-Some-clause-one_reading : goal.returns-in-Some-clause-one_reading
+returns-in-Some-clause-one_reading c =
+    let job = job_for c.args.self (program_plain c.args.program.now) in
+    let source = source_is c.args.program.now (options_plain c.args.self.options) (tables_plain c.args.self.tables) in
+    if_ok c.print_mapped.result (λ printed is plain quiet. read_only job (string_bytes printed.code) (is ∙ mapped_text job c.in_ok-end.end (pen_of c.with_comments-printer.result) _ (begun_mapped c) source) refl c.requires.valid plain quiet) c.print_mapped.ensures.code
+
+pub returns-in-Some-clause-core_reads : goal.returns-in-Some-clause-core_reads
+returns-in-Some-clause-core_reads c =
+    let job = job_for c.args.self (program_plain c.args.program.now) in
+    let source = source_is c.args.program.now (options_plain c.args.self.options) (tables_plain c.args.self.tables) in
+    if_ok c.print_mapped.result (λ printed is core quiet. core_read_back job (string_bytes printed.code) (is ∙ mapped_text job c.in_ok-end.end (pen_of c.with_comments-printer.result) _ (begun_mapped c) source) refl c.requires.valid core quiet) c.print_mapped.ensures.code
+
 pub returns-in-Some-clause-map : goal.returns-in-Some-clause-map
 returns-in-Some-clause-map c =
     let job = job_for c.args.self (program_plain c.args.program.now) in
@@ -69,6 +82,18 @@ returns-clause-reads c =
     let job = job_for c.args.self (program_plain c.args.program.now) in
     let source = source_is c.args.program.now (options_plain c.args.self.options) (tables_plain c.args.self.tables) in
     if_ok c.print_unmapped.result (λ printed is plain quiet. read_back job (string_bytes printed.code) (is ∙ plain_text job c.in_ok-end.end (pen_of c.with_comments-printer.result) _ (begun_plain c) source) refl c.requires.valid plain quiet) c.print_unmapped.ensures.code
+
+pub returns-clause-one_reading : goal.returns-clause-one_reading
+returns-clause-one_reading c =
+    let job = job_for c.args.self (program_plain c.args.program.now) in
+    let source = source_is c.args.program.now (options_plain c.args.self.options) (tables_plain c.args.self.tables) in
+    if_ok c.print_unmapped.result (λ printed is plain quiet. read_only job (string_bytes printed.code) (is ∙ plain_text job c.in_ok-end.end (pen_of c.with_comments-printer.result) _ (begun_plain c) source) refl c.requires.valid plain quiet) c.print_unmapped.ensures.code
+
+pub returns-clause-core_reads : goal.returns-clause-core_reads
+returns-clause-core_reads c =
+    let job = job_for c.args.self (program_plain c.args.program.now) in
+    let source = source_is c.args.program.now (options_plain c.args.self.options) (tables_plain c.args.self.tables) in
+    if_ok c.print_unmapped.result (λ printed is core quiet. core_read_back job (string_bytes printed.code) (is ∙ plain_text job c.in_ok-end.end (pen_of c.with_comments-printer.result) _ (begun_plain c) source) refl c.requires.valid core quiet) c.print_unmapped.ensures.code
 
 pub returns-clause-licences : goal.returns-clause-licences
 returns-clause-licences c = if_ok c.print_unmapped.result (λ printed is. is ∙ apart_is (job_for c.args.self (program_plain c.args.program.now)) c.in_ok-end.end (pen_of c.with_comments-printer.result) (begun_plain c)) c.print_unmapped.ensures.apart

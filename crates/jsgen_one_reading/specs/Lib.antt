@@ -1,0 +1,6 @@
+pub mod States
+pub mod Steps
+pub mod Brackets
+pub mod Ends
+pub mod Reader
+pub mod Law

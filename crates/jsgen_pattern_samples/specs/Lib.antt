@@ -1,0 +1,4 @@
+pub mod ReadPatterns
+pub mod TargetPatterns
+pub mod HeadPatterns
+pub mod RefusedPatterns

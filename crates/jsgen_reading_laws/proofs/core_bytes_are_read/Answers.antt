@@ -1,0 +1,5 @@
+use Rattle.jsgen_reading_laws.proofs.Reading as reading
+use Rattle.jsgen_reading_laws.proofs.core_bytes_are_read.Goals as goal
+
+pub returns : goal.returns
+returns c = reading.core_bytes_are_read

@@ -1,0 +1,88 @@
+// The texts of tests/readings.json, and those that crates/jsgen_pattern_samples proves something of, beside what two parsers say of them:
+// acorn and V8 each read a text as a module, or don't, as ECMA-262 does. Neither knows of the grammar, so where that reads something else
+// it is the data that says so and why.
+import assert from "node:assert/strict";
+import { spawnSync } from "node:child_process";
+import { test } from "node:test";
+import { packageOrNull } from "../../estree/packages.mjs";
+import { parsed } from "../../estree/parser.mjs";
+import { cases, columns, samplesByFile } from "./texts.mjs";
+
+// Texts that the grammar doesn't read, as no tree stands for them: in parentheses the target gives the function no name (13.15.2, 13.15.5.4).
+const WITHOUT_TREE = ["(a)=function(){};", "[(a)=function(){}]=b;", "[(a)=()=>b]=c;"];
+
+const samples = Object.values(samplesByFile)
+  .flat()
+  .map(([text, byGrammar]) => [text, WITHOUT_TREE.includes(text) ? "module" : byGrammar]);
+
+// What acorn reads by mistake: an object with a name with a default is nothing but a pattern (13.2.5.1), so no member of it is taken.
+const MISTAKES_OF_ACORN = ["[{a = 1}.b] = c;", "[{a=b}.c]=d;"];
+
+// And what both read by mistake: the parameter of a setter is one, and no list of them that may end in a comma (15.4).
+const MISTAKES_OF_BOTH = ["({set a([b],){}});"];
+
+// what a child process runs, which alone has the flag for modules from texts: "" for a text that is compiled, or V8's message
+const COMPILE = `
+  const { SourceTextModule } = require("node:vm");
+  const answer = (text) => {
+    try {
+      new SourceTextModule(text);
+      return "";
+    } catch (error) {
+      if (error.name !== "SyntaxError") throw error;
+      return error.message;
+    }
+  };
+  console.log(JSON.stringify(JSON.parse(require("node:fs").readFileSync(0, "utf8")).map(answer)));
+`;
+
+function messagesOfV8(texts) {
+  const child = spawnSync(process.execPath, ["--experimental-vm-modules", "--no-warnings", "-e", COMPILE], { input: JSON.stringify(texts), encoding: "utf8" });
+  assert.equal(child.status, 0, child.stderr);
+  return JSON.parse(child.stdout);
+}
+
+function messageOfAcorn(text) {
+  try {
+    parsed(text);
+    return "";
+  } catch (error) {
+    assert.equal(error.name, "SyntaxError");
+    return error.message;
+  }
+}
+
+const messagesOfAcorn = (texts) => texts.map(messageOfAcorn);
+
+// The texts of which a parser doesn't say what is told of them, each with its message.
+function differences(told, messagesOf) {
+  const messages = messagesOf(told.map(([text]) => text));
+  return told.map(([text, reading], at) => ({ text, reading, message: messages[at] })).filter(({ reading, message }) => (message === "") !== (reading === "module"));
+}
+
+const textsOf = (differing) => differing.map(({ text }) => text);
+
+test("each case is a text, a reading, a hazard, and maybe another reading with a reason", () => {
+  assert.equal(columns.length, 5);
+  assert.equal(new Set(cases.map(([text]) => text)).size, cases.length, "a text stands twice");
+  for (const row of cases) {
+    const [text, reading, hazard, byGrammar, reason] = row;
+    assert.ok(row.every((cell) => typeof cell === "string" && cell !== ""), text);
+    assert.ok([3, 5].includes(row.length), text);
+    assert.ok(["module", "none"].includes(reading), text);
+    if (row.length === 5) assert.ok(["module", "none"].includes(byGrammar) && byGrammar !== reading && reason !== hazard, text);
+  }
+});
+
+test("each sample is found", () => {
+  const counts = Object.entries(samplesByFile).map(([name, found]) => [name, found.length]);
+  assert.deepEqual(Object.fromEntries(counts), { ReadPatterns: 32, TargetPatterns: 24, HeadPatterns: 12, RefusedPatterns: 50 });
+});
+
+test("acorn reads what the data says", { skip: packageOrNull("acorn") === null && "acorn is not installed" }, () => {
+  assert.deepEqual(textsOf(differences([...cases, ...samples], messagesOfAcorn)), [...MISTAKES_OF_ACORN, ...MISTAKES_OF_BOTH]);
+});
+
+test("V8 reads what the data says", () => {
+  assert.deepEqual(textsOf(differences([...cases, ...samples], messagesOfV8)), MISTAKES_OF_BOTH);
+});
