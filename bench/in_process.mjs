@@ -6,8 +6,8 @@ import assert from "node:assert/strict";
 import { spawnSync } from "node:child_process";
 import { existsSync, readFileSync } from "node:fs";
 import { addon, printJob } from "../bindings/node/index.mjs";
-import { jobOf } from "../tools/estree/convert.mjs";
-import { packageOrNull } from "../tools/estree/packages.mjs";
+import { jobOf } from "../bindings/node/lib/convert.mjs";
+import { packageOrNull } from "../bindings/node/lib/packages.mjs";
 import { parsed } from "../tools/estree/parser.mjs";
 import { program, unbuilt } from "../tools/estree/program.mjs";
 

@@ -1,7 +1,7 @@
 // `node bench/real_job.mjs [minify] [FILE]`: a job of a real program, the file or the largest of node's own library that is a
 // module. Which file that is goes to standard error. The parser is the acorn that node has in it.
 import { readFileSync } from "node:fs";
-import { jobOf } from "../tools/estree/convert.mjs";
+import { jobOf } from "../bindings/node/lib/convert.mjs";
 
 const library = process.binding("natives");
 const acorn = {};

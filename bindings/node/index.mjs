@@ -2,9 +2,9 @@
 import { spawnSync } from "node:child_process";
 import { createRequire } from "node:module";
 import { fileURLToPath } from "node:url";
-import { jobOf } from "../../tools/estree/convert.mjs";
-import { licencesOf } from "../../tools/estree/licences.mjs";
-import { sourceMapOf } from "../../tools/estree/source_map.mjs";
+import { jobOf } from "./lib/convert.mjs";
+import { licencesOf } from "./lib/licences.mjs";
+import { sourceMapOf } from "./lib/source_map.mjs";
 import { JsgenError, errorOf, errorOfLine } from "./faults.mjs";
 
 export { JsgenError };

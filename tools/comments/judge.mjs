@@ -2,7 +2,7 @@
 // each set of options, by the program that the variable JSGEN names, or by ./jsgen, and the comments of the text are judged (README.md).
 // With --random, so are that many programs that are made up, with comments put in. What is wrong is told by file and set, the first ten.
 import { printed, run } from "../estree/command.mjs";
-import { jobOf } from "../estree/convert.mjs";
+import { jobOf } from "../../bindings/node/lib/convert.mjs";
 import { parsed } from "../estree/parser.mjs";
 import { randomProgram } from "../estree/random.mjs";
 import { Tally, tryAll } from "../estree/trials.mjs";

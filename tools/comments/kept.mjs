@@ -1,5 +1,5 @@
 // The comments of a source that are to be printed, and what the text of one is compared by.
-import { commentsOf } from "../estree/comments.mjs";
+import { commentsOf } from "../../bindings/node/lib/comments.mjs";
 
 const LINE_ENDS = /\r\n|[\n\r\u2028\u2029]/;
 const WHITE = /^[\s\u0085]+/;

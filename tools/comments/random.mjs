@@ -1,6 +1,6 @@
 // Comments put into a program between its tokens, fixed by a number.
 import { difference, normal } from "../estree/normal.mjs";
-import { packageNamed } from "../estree/packages.mjs";
+import { packageNamed } from "../../bindings/node/lib/packages.mjs";
 import { parsed } from "../estree/parser.mjs";
 
 const BLOCKS = [

@@ -1,6 +1,6 @@
 // What is wrong with the comments of a printed text, by the rules of README.md.
-import { commentsOf } from "../estree/comments.mjs";
-import { jobOf } from "../estree/convert.mjs";
+import { commentsOf } from "../../bindings/node/lib/comments.mjs";
+import { jobOf } from "../../bindings/node/lib/convert.mjs";
 import { difference, normal } from "../estree/normal.mjs";
 import { parsed } from "../estree/parser.mjs";
 import { commentsKept, isAnnotation, plain } from "./kept.mjs";

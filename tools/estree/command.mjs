@@ -3,8 +3,8 @@ import { spawnSync } from "node:child_process";
 import { writeFileSync } from "node:fs";
 import { basename, dirname, relative, resolve, sep } from "node:path";
 import { fileURLToPath } from "node:url";
-import { licenceFile } from "./licences.mjs";
-import { dataUrl, linked } from "./source_map.mjs";
+import { licenceFile } from "../../bindings/node/lib/licences.mjs";
+import { dataUrl, linked } from "../../bindings/node/lib/source_map.mjs";
 
 const JSGEN = process.env.JSGEN ?? fileURLToPath(new URL("../../jsgen", import.meta.url));
 const FLAGS = { "--minify": "minify", "--ascii-only": "ascii_only", "--single-quote": "single_quote" };

@@ -1,7 +1,7 @@
 // `node tools/estree/job.mjs [--minify] [--ascii-only] [--single-quote] < TREE`: the job of an ESTree tree in JSON.
 import { readFileSync } from "node:fs";
 import { Refused, optionsOf, run } from "./command.mjs";
-import { jobOf } from "./convert.mjs";
+import { jobOf } from "../../bindings/node/lib/convert.mjs";
 
 await run("node job.mjs [--minify] [--ascii-only] [--single-quote] < TREE.json", (words) => {
   const { options, others } = optionsOf(words);

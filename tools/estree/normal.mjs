@@ -1,6 +1,6 @@
 // The normal form of an ESTree tree: what two texts of one meaning have in common. It is written apart from the definitions
 // that jsgen is proved against (crates/jsgen_model/specs/Normal.antt), to compare with them.
-import { withoutParentheses } from "./texts.mjs";
+import { withoutParentheses } from "../../bindings/node/lib/texts.mjs";
 
 const LEFT_OUT = new Set(["type", "start", "end", "loc", "range", "raw", "extra", "sourceType", "comments", "tokens", "directive", "shorthand", "parent"]);
 

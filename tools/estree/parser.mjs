@@ -1,5 +1,5 @@
 // The parser `acorn`: the one that is installed for this folder or for node, or Debian's (packages.mjs).
-import { packageNamed } from "./packages.mjs";
+import { packageNamed } from "../../bindings/node/lib/packages.mjs";
 
 let acorn = null;
 

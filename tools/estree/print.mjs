@@ -3,10 +3,10 @@
 import { readFileSync } from "node:fs";
 import { basename } from "node:path";
 import { PRINTING, Refused, answered, isTaken, nameInMap, optionsOf, run, takenBehind, takenComments, write, writeLicences } from "./command.mjs";
-import { jobOf } from "./convert.mjs";
-import { licencesOf } from "./licences.mjs";
+import { jobOf } from "../../bindings/node/lib/convert.mjs";
+import { licencesOf } from "../../bindings/node/lib/licences.mjs";
 import { parsed } from "./parser.mjs";
-import { sourceMapOf } from "./source_map.mjs";
+import { sourceMapOf } from "../../bindings/node/lib/source_map.mjs";
 
 await run(`node print.mjs ${PRINTING}\n       [-o FILE] FILE`, (words) => {
   const isMapped = isTaken(words, "--source-map");

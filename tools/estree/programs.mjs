@@ -3,7 +3,7 @@ import { spawnSync } from "node:child_process";
 import { mkdtempSync, readdirSync, rmSync, statSync, writeFileSync } from "node:fs";
 import { tmpdir } from "node:os";
 import { join } from "node:path";
-import { jobOf, NotRead } from "./convert.mjs";
+import { jobOf, NotRead } from "../../bindings/node/lib/convert.mjs";
 import { parsed } from "./parser.mjs";
 
 /** The JavaScript files below a folder, or the file itself. */

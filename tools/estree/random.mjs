@@ -1,5 +1,5 @@
 // Programs that are made up, of all that jsgen reads by now, each fixed by a number.
-import { isField, isType, wordsOf } from "./reads.mjs";
+import { isField, isType, wordsOf } from "../../bindings/node/lib/reads.mjs";
 
 const NAMES = ["a", "b", "total", "$", "_x", "größe", "日本", "of", "async", "get", "undefined"];
 const KEYS = [...NAMES, "if", "class", "__proto__", "constructor"];

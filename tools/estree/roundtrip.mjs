@@ -5,13 +5,13 @@
 // that is made up, its number stands for the file), its set of options and what differs, the first ten of them.
 import { readFileSync } from "node:fs";
 import { Refused, numberBehind, printed, run } from "./command.mjs";
-import { jobOf } from "./convert.mjs";
+import { jobOf } from "../../bindings/node/lib/convert.mjs";
 import { firstDifference, normal } from "./normal.mjs";
 import { parsed } from "./parser.mjs";
 import { filesBelow, isModule, isTakenByV8 } from "./programs.mjs";
 import { randomProgram } from "./random.mjs";
-import { isField } from "./reads.mjs";
-import { LETTERS, SIGNS, renamedSource, renaming } from "./scopes.mjs";
+import { isField } from "../../bindings/node/lib/reads.mjs";
+import { LETTERS, SIGNS, renamedSource, renaming } from "../../bindings/node/lib/scopes.mjs";
 
 const SETS = {
   pretty: {},

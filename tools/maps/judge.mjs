@@ -2,9 +2,9 @@
 // with its source map, by the program that the variable JSGEN names, or by ./jsgen, and the map is judged (README.md). With --random, so
 // are that many programs that are made up. What is wrong is told by file and set of options, the first ten.
 import { Refused, answered, run } from "../estree/command.mjs";
-import { jobOf } from "../estree/convert.mjs";
+import { jobOf } from "../../bindings/node/lib/convert.mjs";
 import { parsed } from "../estree/parser.mjs";
-import { LETTERS, SIGNS, renaming } from "../estree/scopes.mjs";
+import { LETTERS, SIGNS, renaming } from "../../bindings/node/lib/scopes.mjs";
 import { Tally, tryAll } from "../estree/trials.mjs";
 import { faultsOf } from "./rules.mjs";
 

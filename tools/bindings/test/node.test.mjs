@@ -7,8 +7,8 @@ import { join } from "node:path";
 import { test } from "node:test";
 import { fileURLToPath } from "node:url";
 import { Worker } from "node:worker_threads";
-import { jobOf } from "../../estree/convert.mjs";
-import { packageOrNull } from "../../estree/packages.mjs";
+import { jobOf } from "../../../bindings/node/lib/convert.mjs";
+import { packageOrNull } from "../../../bindings/node/lib/packages.mjs";
 import { parsed } from "../../estree/parser.mjs";
 import { program, unbuilt, unmapped } from "../../estree/program.mjs";
 

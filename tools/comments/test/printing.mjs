@@ -1,6 +1,6 @@
 // Whether the program prints comments, and has the word `legal`, for tests.
 import { spawnSync } from "node:child_process";
-import { jobOf } from "../../estree/convert.mjs";
+import { jobOf } from "../../../bindings/node/lib/convert.mjs";
 import { parsed } from "../../estree/parser.mjs";
 import { program, unbuilt } from "../../estree/program.mjs";
 

@@ -1,10 +1,10 @@
 // Classes, patterns and targets as the rows of a job. These tests need no built program.
 import assert from "node:assert/strict";
 import { test } from "node:test";
-import { jobOf } from "../convert.mjs";
+import { jobOf } from "../../../bindings/node/lib/convert.mjs";
 import { parsed } from "../parser.mjs";
-import { isType } from "../reads.mjs";
-import { renaming } from "../scopes.mjs";
+import { isType } from "../../../bindings/node/lib/reads.mjs";
+import { renaming } from "../../../bindings/node/lib/scopes.mjs";
 
 function rowsOf(source, rest = {}) {
   return jobOf(parsed(source), { source, spans: false, ...rest }).rows;

@@ -1,8 +1,8 @@
 // The converter, over trees of acorn and over trees that are made by hand. These tests need no built program.
 import assert from "node:assert/strict";
 import { test } from "node:test";
-import { commentsOf } from "../comments.mjs";
-import { NotRead, jobOf } from "../convert.mjs";
+import { commentsOf } from "../../../bindings/node/lib/comments.mjs";
+import { NotRead, jobOf } from "../../../bindings/node/lib/convert.mjs";
 import { parsed } from "../parser.mjs";
 
 function rowsOf(source, rest = {}) {

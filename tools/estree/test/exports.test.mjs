@@ -3,7 +3,7 @@
 import assert from "node:assert/strict";
 import { spawnSync } from "node:child_process";
 import { test } from "node:test";
-import { jobOf } from "../convert.mjs";
+import { jobOf } from "../../../bindings/node/lib/convert.mjs";
 import { parsed } from "../parser.mjs";
 import { program, unbuilt } from "../program.mjs";
 

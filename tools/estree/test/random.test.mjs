@@ -1,7 +1,7 @@
 // The programs that are made up.
 import assert from "node:assert/strict";
 import { test } from "node:test";
-import { jobOf } from "../convert.mjs";
+import { jobOf } from "../../../bindings/node/lib/convert.mjs";
 import { parsed } from "../parser.mjs";
 import { randomProgram } from "../random.mjs";
 

@@ -1,10 +1,10 @@
 // What names stand for, and the tables that rename them. These tests need no built program.
 import assert from "node:assert/strict";
 import { test } from "node:test";
-import { jobOf } from "../convert.mjs";
+import { jobOf } from "../../../bindings/node/lib/convert.mjs";
 import { parsed } from "../parser.mjs";
 import { randomProgram } from "../random.mjs";
-import { LETTERS, SIGNS, renamedSource, renaming } from "../scopes.mjs";
+import { LETTERS, SIGNS, renamedSource, renaming } from "../../../bindings/node/lib/scopes.mjs";
 
 function renamed(source, letters) {
   return renamedSource(source, renaming(parsed(source), letters));

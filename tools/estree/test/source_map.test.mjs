@@ -7,11 +7,11 @@ import { tmpdir } from "node:os";
 import { join } from "node:path";
 import { test } from "node:test";
 import { fileURLToPath } from "node:url";
-import { jobOf } from "../convert.mjs";
-import { packageOrNull } from "../packages.mjs";
+import { jobOf } from "../../../bindings/node/lib/convert.mjs";
+import { packageOrNull } from "../../../bindings/node/lib/packages.mjs";
 import { parsed } from "../parser.mjs";
 import { program, unmapped } from "../program.mjs";
-import { dataUrl, linked, sourceMapOf } from "../source_map.mjs";
+import { dataUrl, linked, sourceMapOf } from "../../../bindings/node/lib/source_map.mjs";
 
 const here = (name) => fileURLToPath(new URL(name, import.meta.url));
 const { SourceMapConsumer } = packageOrNull("source-map") ?? {};

@@ -1,6 +1,6 @@
 // A printer for tests of the judge: it prints the source as it stands, with new names where tables have them, and marks each name.
 import { parsed } from "../../estree/parser.mjs";
-import { editsOf } from "../../estree/scopes.mjs";
+import { editsOf } from "../../../bindings/node/lib/scopes.mjs";
 import { Lines } from "../lines.mjs";
 
 /** What is printed, and the tokens of its map, each with the offsets `at` and `sourceAt` and a `name` or null. */

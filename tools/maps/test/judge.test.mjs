@@ -11,7 +11,7 @@ import { parsed } from "../../estree/parser.mjs";
 import { unmapped } from "../../estree/program.mjs";
 import { filesBelow } from "../../estree/programs.mjs";
 import { randomProgram } from "../../estree/random.mjs";
-import { LETTERS, SIGNS, renaming } from "../../estree/scopes.mjs";
+import { LETTERS, SIGNS, renaming } from "../../../bindings/node/lib/scopes.mjs";
 import { pairsOf } from "../pairs.mjs";
 import { faultsOf } from "../rules.mjs";
 import { echo, linesOf } from "./echo.mjs";

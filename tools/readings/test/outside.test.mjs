@@ -4,7 +4,7 @@
 import assert from "node:assert/strict";
 import { spawnSync } from "node:child_process";
 import { test } from "node:test";
-import { packageOrNull } from "../../estree/packages.mjs";
+import { packageOrNull } from "../../../bindings/node/lib/packages.mjs";
 import { parsed } from "../../estree/parser.mjs";
 import { cases, columns, samplesByFile } from "./texts.mjs";
 

@@ -1,7 +1,7 @@
 // What of the format of jobs is read by now: the types of rows, their fields and the words in these, by docs/job.schema.json.
 import { readFileSync } from "node:fs";
 
-const schema = JSON.parse(readFileSync(new URL("../../docs/job.schema.json", import.meta.url), "utf8"));
+const schema = JSON.parse(readFileSync(new URL("../../../docs/job.schema.json", import.meta.url), "utf8"));
 const types = new Set(schema.$defs.row.properties.type.enum);
 const known = new Map();
 
