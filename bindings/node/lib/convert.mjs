@@ -21,7 +21,12 @@ export class NotRead extends Error {
  * (./scopes.mjs) makes them of this tree. The source is put into the job where something asks for it: comments, or the option
  * `source_map_path`. Throws `NotRead` where the program has what jsgen doesn't read yet.
  */
-export function jobOf(program, { source, options = {}, spans = true, negative = false, comments = [], names = null } = {}) {
+export function jobOf(program, settings) {
+  return jobAndNodes(program, settings).job;
+}
+
+/** The same job, and beside it `nodes`: for each row the node that it stands for, or null where it stands for none. */
+export function jobAndNodes(program, { source, options = {}, spans = true, negative = false, comments = [], names = null } = {}) {
   for (const name of Object.keys(options)) {
     if (!isOption(name)) throw new NotRead(`the option ${name}`);
   }
@@ -29,7 +34,8 @@ export function jobOf(program, { source, options = {}, spans = true, negative = 
   const rows = new Rows(source, spans, negative, names);
   rows.program(program, comments, comments.length > 0 || (options.source_map_path ?? null) !== null);
   const tables = names ? { symbols: names.symbols, references: names.references, private: names.private } : {};
-  return { ...(Object.keys(options).length > 0 ? { options } : {}), ...tables, rows: rows.rows };
+  const job = { ...(Object.keys(options).length > 0 ? { options } : {}), ...tables, rows: rows.rows };
+  return { job, nodes: rows.nodes };
 }
 
 function startOf(node) {
@@ -85,6 +91,7 @@ function functionIn(node) {
 class Rows {
   constructor(source, spans, negative, names) {
     this.rows = [];
+    this.nodes = [];
     this.source = source;
     this.negative = negative;
     this.names = names;
@@ -114,6 +121,7 @@ class Rows {
       if (words && !words.includes(value)) this.refuse(`${name} ${value} of ${type}`, node);
       row[name] = value;
     }
+    this.nodes.push(node);
     return this.rows.push(row) - 1;
   }
 
