@@ -11,7 +11,7 @@ use Rattle.jsgen_tree.specs.Scoping.{tables_plain}
 use Rattle.jsgen_tree.specs.declared.scoping.Scoping.{Scoping}
 use Rattle.jsgen_tree.specs.declared.scoping.PrivateMappings.{PrivateMappings}
 use Rattle.jsgen_model.specs.Valid as valid
-use Rattle.jsgen_model.specs.Valid.{breaches, span_faults, source_faults, indent_faults, set_faults, child_places, in_slots, in_trees, height, greatest_height, fault_if, passes_levels, surroundings_of}
+use Rattle.jsgen_model.specs.Valid.{breaches, span_faults, program_faults, indent_faults, set_faults, child_places, in_slots, in_trees, height, greatest_height, fault_if, passes_levels, surroundings_of}
 use Rattle.jsgen_model.specs.declared.fault.TreeFault.{TreeFault}
 use Rattle.jsgen_model.specs.declared.fault.TreeFault.TheVariants as faults
 use Rattle.jsgen_rules.specs.Verdict.{verdict}
@@ -98,7 +98,7 @@ maybe_children_verdict around next set (listed ts) = children_verdict around nex
 
 -- the rules that a program breaks, in the order in which they are told: that of its height comes last
 abbrev pub told_in : valid.Surroundings → Tree → List TreeFault
-told_in around (node type a slots) = span_faults around a.span ++ (source_faults a.span around.source ++ (in_slots around (child_places around 0 (node type a slots)) 0 slots ++ indent_faults around.options (node type a slots)))
+told_in around (node type a slots) = span_faults around a.span ++ (program_faults a.span around.source around.options ++ (in_slots around (child_places around 0 (node type a slots)) 0 slots ++ indent_faults around.options (node type a slots)))
 
 -- what is told of a job: the first of them
 abbrev pub told : JobData → Result (Unit {0}) TreeFault

@@ -23,7 +23,8 @@ use Rattle.jsgen_tree.specs.declared.classes.MethodDefinitionKind.{MethodDefinit
 use Rattle.jsgen_tree.specs.declared.classes.MethodDefinitionKind.TheVariants as method_kinds
 use Rattle.jsgen_tree.specs.declared.statements.VariableDeclarationKind.{VariableDeclarationKind}
 use Rattle.jsgen_tree.specs.declared.statements.VariableDeclarationKind.TheVariants as kinds
-use Rattle.jsgen_tree.specs.Options.{Options}
+use Rattle.jsgen_tree.specs.Options as chosen
+use Rattle.jsgen_tree.specs.Options.{Legal, Options}
 use Rattle.jsgen_tree.specs.Job.{Scoping, Tables, JobData}
 use Rattle.jsgen_tree.specs.Named.{Named, looked_up, bound, printed_name}
 use Rattle.jsgen_tree.specs.Table.{child_sets}
@@ -38,6 +39,7 @@ use Rattle.jsgen_model.specs.Numbers.{is_raw_number, is_big_integer}
 use Rattle.jsgen_model.specs.RegularExpressions.{is_body, are_flags}
 use Rattle.jsgen_model.specs.Templates.{is_raw, is_cooked}
 use Rattle.jsgen_model.specs.Tokens.{has_line_end}
+use Rattle.jsgen_model.specs.Ends.{reference}
 use Rattle.jsgen_model.specs.Private.{classes_within, printed_private}
 pub use Rattle.jsgen_model.specs.Spans.{begins_character, is_offset, spans_characters, text_at}
 use Rattle.jsgen_model.specs.Resolved.{after, after_maybe, after_trees, after_maybe_trees}
@@ -489,7 +491,15 @@ is_comment comments.MultiLineBlock cs = begins_with (codes "/*") (λ rest. has_l
 abbrev pub comment_faults : List ℕ → Span → CommentKind → List TreeFault
 comment_faults source s kind = fault_if (not (spans_characters (encode_utf8_all source) s && is_comment kind (text_at (encode_utf8_all source) s))) (faults.Comment s.start)
 
--- ---- sources
+-- what names the file of the licences is a line's end and a comment on one line, whatever the path in it holds
+abbrev pub names_a_file : Legal → Bool
+names_a_file (chosen.linked path) = begins_with (codes "\n") (is_comment comments.SingleLineBlock) (reference path)
+names_a_file legal = true
+
+abbrev pub licence_faults : Span → Legal → List TreeFault
+licence_faults s legal = fault_if (not (names_a_file legal)) (faults.Comment s.start)
+
+-- ---- programs
 
 -- offsets of the source don't fit 32 bits
 abbrev pub is_too_long : List ℕ → Bool
@@ -497,6 +507,10 @@ is_too_long source = nat_lt 4294967295 (length (encode_utf8_all source))
 
 abbrev pub source_faults : Span → List ℕ → List TreeFault
 source_faults s source = fault_if (is_too_long source) (faults.Span s.start)
+
+-- what a program breaks by its source and by the options, its height aside
+abbrev pub program_faults : Span → List ℕ → Options → List TreeFault
+program_faults s source options = source_faults s source ++ licence_faults s options.comments.legal
 
 -- how many nodes stand on the longest way down: 1 without a child
 abbrev mutual
@@ -533,7 +547,7 @@ indent_faults options t = fault_if (if options.minify then false else passes_lev
 
 -- a row's rules of its own
 abbrev pub own_faults : Surroundings → Tree → List TreeFault
-own_faults around (tree.program a comments hashbang directives body) = source_faults a.span around.source ++ indent_faults around.options (tree.program a comments hashbang directives body)
+own_faults around (tree.program a comments hashbang directives body) = program_faults a.span around.source around.options ++ indent_faults around.options (tree.program a comments hashbang directives body)
 own_faults around (tree.comment a) = comment_faults around.source a.span (comment_kind a)
 own_faults around (tree.directive a) = directive_faults a.span (as_text (directive_directive a))
 own_faults around (tree.variable_declaration a declarations) = declaration_faults a.span declarations
