@@ -12,7 +12,7 @@ use Rattle.jsgen_tree.specs.Rows.{comment_row, directive_row, hashbang_row, in_s
 use Rattle.jsgen_tree.specs.Tree.{Atoms, Maybe, Trees, atoms_of, optional, trees}
 use Rattle.jsgen_tree.specs.declared.nodes.Node.{Node}
 use Rattle.jsgen_tree.specs.declared.statements.Program.{Program}
-use Rattle.jsgen_model.specs.Valid.{Surroundings, breaches, fault_if, is_too_long, own_faults, source_faults, span_faults, surroundings_of, IsValid}
+use Rattle.jsgen_model.specs.Valid.{Surroundings, breaches, fault_if, is_too_long, own_faults, source_faults, program_faults, span_faults, surroundings_of, IsValid}
 use Rattle.jsgen_model.specs.declared.fault.TreeFault.{TreeFault}
 use Rattle.jsgen_model.specs.declared.fault.TreeFault.TheVariants as faults
 use Rattle.jsgen_map.specs.Marks.{Mark, AreMarks, MapOf, token_of}
@@ -147,7 +147,7 @@ no_fault true f h = absurd (cc)
 source_fits : (around : Surroundings) (next : ℕ) (a : Atoms) (comments : Trees) (hashbang : Maybe) (directives body : Trees) → breaches around next (tree.program a comments hashbang directives body) ≡ [] → is_too_long around.source ≡ false
 source_fits around next a comments hashbang directives body h =
     let own = own_faults around (tree.program a comments hashbang directives body) in
-    no_fault (is_too_long around.source) (faults.Span a.span.start) (no_first (source_faults a.span around.source) _ (no_second (span_faults around a.span) own (no_first (span_faults around a.span ++ own) _ h)))
+    no_fault (is_too_long around.source) (faults.Span a.span.start) (no_first (source_faults a.span around.source) _ (no_first (program_faults a.span around.source around.options) _ (no_second (span_faults around a.span) own (no_first (span_faults around a.span ++ own) _ h))))
 
 short : (n : ℕ) → nat_lt 4294967295 n ≡ false → n < 2 ^ 32
 short n h = let l = ltb-false 4294967295 n h in omega (arith, l)

@@ -71,18 +71,18 @@ fn check_height(options: &CodegenOptions, span: Span, height: u64) -> Result<(),
     Ok(())
 }
 
-/// The first fault of a program's span, of its source and of its children, else of its height.
+/// The first fault of a program's span, of its own rules and of its children, else of its height.
 #[tactic(auto, unfolding(crate::specs::Verdict::surroundings_plain, crate::specs::Verdict::both, crate::specs::Verdict::ended, jsgen_rules::specs::Verdict::verdict))]
 pub fn check_program_parts(
     around: &Surroundings<'_>,
     span: Span,
-    source: Result<(), TreeFault>,
+    own: Result<(), TreeFault>,
     below: Result<u64, TreeFault>,
 ) -> Result<(), TreeFault>
-    ensures { result ≡ both (verdict (span_faults (surroundings_plain around.now None) span)) (both source (ended (options_plain around.now.options.now) span below)) }
+    ensures { result ≡ both (verdict (span_faults (surroundings_plain around.now None) span)) (both own (ended (options_plain around.now.options.now) span below)) }
 {
     check_span(around.is_mapped, around.source, span)?;
-    source?;
+    own?;
     let below = below?;
     check_height(around.options, span, below.saturating_add(1))
 }

@@ -1,10 +1,13 @@
 -- The machine is closed behind a text exactly where the first `*/` is its end.
-use Rattle.std.proofs.Common.{◌≡◌, ℕ, ◌+◌, ◌<◌, Bool, true, false, not, cond, ◌&&◌, ◌==◌, List, [], ◌∷◌, length, get_or, drop, refl, sym, ap, subst, ◌∙◌, arith}
+use Rattle.std.proofs.Common.{◌≡◌, ℕ, ◌+◌, ◌<◌, Bool, true, false, not, cond, ◌&&◌, ◌||◌, ◌==◌, List, [], ◌∷◌, ◌++◌, codes, length, get_or, drop, refl, sym, ap, subst, ◌∙◌, arith}
 use Rattle.std.proofs.lemmas.Bool.{eqb-true}
 use Rattle.std.proofs.lemmas.List.{at_drop_more, at_drop_all}
-use Rattle.jsgen_model.specs.Valid.{ends_at_close}
+use Rattle.jsgen_tree.specs.Options.{linked}
+use Rattle.jsgen_model.specs.Tokens.{is_line_terminator, has_line_end}
+use Rattle.jsgen_model.specs.Valid.{ends_at_close, names_a_file}
+use Rattle.jsgen_rules.specs.declared.comments.Close.{Close}
 use Rattle.jsgen_rules.specs.declared.comments.Close.TheVariants as closes
-use Rattle.jsgen_rules.specs.Close.{is_closed, star_or_open, run}
+use Rattle.jsgen_rules.specs.Close.{is_closed, star_or_open, step, run}
 
 passed : (cs : List ℕ) → is_closed (run closes.Passed cs) ≡ false
 passed [] = refl
@@ -45,6 +48,23 @@ from_both (c ∷ cs) =
 
 pub ends : (cs : List ℕ) → is_closed (run closes.Open cs) ≡ ends_at_close cs
 ends cs = (from_both cs).0
+
+-- ---- the comment that names a file
+
+run_behind : (state : Close) (xs ys : List ℕ) → run state (xs ++ ys) ≡ run (run state xs) ys
+run_behind state [] ys = refl
+run_behind state (x ∷ xs) ys = run_behind (step state x) xs ys
+
+no_line_behind : (xs : List ℕ) → has_line_end (xs ++ codes " */") ≡ has_line_end xs
+no_line_behind [] = refl
+no_line_behind (x ∷ xs) = ap (λ b. is_line_terminator x || b) (no_line_behind xs)
+
+-- behind the words before a path neither `*` nor `*/` stands, so that the path and what follows it tell
+pub names_file : (path : List ℕ) → names_a_file (linked path) ≡ (not (has_line_end path) && is_closed (step (step (step (run closes.Open path) 32) 42) 47))
+names_file path = ap (λ b. not b && ends_at_close (words ++ (path ++ codes " */"))) (no_line_behind path) ∙ ap (λ b. not (has_line_end path) && b) (sym (ends (words ++ (path ++ codes " */"))) ∙ ap is_closed (run_behind closes.Open path (codes " */")))
+  where
+    words : List ℕ
+    words = codes "! For license information please see "
 
 -- ---- a text, character by character
 

@@ -1,5 +1,5 @@
 -- What a raw text stands for, as the rule asks it.
-use Rattle.std.proofs.Common.{◌≡◌, ℕ, Bool, true, false, not, cond, ◌&&◌, ◌==◌, Option, Some, None, is_some, List, [], ◌∷◌, refl, sym, ap, ◌∙◌}
+use Rattle.std.proofs.Common.{◌≡◌, ℕ, Bool, true, false, not, cond, ◌&&◌, ◌==◌, Option, Some, None, is_some, List, [], ◌∷◌, refl, ap}
 use Rattle.std.proofs.lemmas.Bool.{and_parts, eqb-true}
 use Rattle.jsgen_syntax.specs.Escapes.{begins_with}
 use Rattle.jsgen_model.specs.Templates.{is_raw, is_escaped, are_same}

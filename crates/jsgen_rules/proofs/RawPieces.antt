@@ -2,7 +2,6 @@
 use Rattle.std.proofs.Common.{◌≡◌, ℕ, Bool, true, false, not, cond, ◌&&◌, ◌||◌, ◌==◌, List, [], ◌∷◌, refl}
 use Rattle.jsgen_syntax.specs.Escapes.{begins_with}
 use Rattle.jsgen_model.specs.Templates.{is_raw, is_escaped}
-use Rattle.jsgen_rules.specs.declared.templates.Raw.{Raw}
 use Rattle.jsgen_rules.specs.declared.templates.Raw.TheVariants as raws
 use Rattle.jsgen_rules.specs.Pieces.{may_end, in_characters, run}
 

@@ -3,14 +3,16 @@ ghost use Rattle.std.specs.Prelude.{◌≡◌, List, ℕ, Bool, true, false, not
 ghost use Rattle.std.specs.Option.{option_map_or};
 ghost use Rattle.std.specs.Str.{chars, encode_utf8_all};
 ghost use Rattle.jsgen_model.specs.Tokens.{has_line_end};
-ghost use Rattle.jsgen_model.specs.Valid.{begins_with, ends_at_close, is_comment, spans_characters, text_at, comment_faults};
-ghost use Rattle.jsgen_rules.specs.Close.{step, is_closed};
+ghost use Rattle.jsgen_tree.specs.Options.{linked, legal_plain};
+ghost use Rattle.jsgen_model.specs.Valid.{begins_with, ends_at_close, is_comment, names_a_file, spans_characters, text_at, comment_faults, licence_faults};
+ghost use Rattle.jsgen_rules.specs.declared.comments.Close.TheVariants as closes;
+ghost use Rattle.jsgen_rules.specs.Close.{step, run, is_closed};
 ghost use Rattle.jsgen_rules.specs.Verdict.{verdict};
 
 use crate::spans::spans_characters;
 use jsgen_model::TreeFault;
 use jsgen_syntax::{Span, is_line_terminator};
-use jsgen_tree::CommentKind;
+use jsgen_tree::{CommentKind, LegalComment};
 
 /// What stands before the next character, as far as it matters to `*/`.
 #[derive(Clone, Copy)]
@@ -43,15 +45,23 @@ impl Close {
     }
 }
 
-/// The first `*/` is the end of the text.
-fn ends_at_close(text: &str) -> bool
-    ensures { result ≡ ends_at_close (chars text.now) }
+/// What stands behind a text.
+fn close_behind(text: &str) -> Close
+    ensures { result ≡ run closes.Open (chars text.now) }
 {
     let mut state = Close::Open;
     for c in text.chars() {
         state = state.step(c);
     }
-    state.is_closed()
+    state
+}
+
+/// The first `*/` is the end of the text.
+#[tactic(auto, using(crate::proofs::Closes::ends))]
+fn ends_at_close(text: &str) -> bool
+    ensures { result ≡ ends_at_close (chars text.now) }
+{
+    close_behind(text).is_closed()
 }
 
 /// Whether a line ends in the text.
@@ -127,6 +137,26 @@ pub fn check_comment(source: &str, span: Span, kind: CommentKind) -> Result<(), 
 {
     if !is_comment_at(source, span, kind) {
         return Err(TreeFault::Comment { start: span.start });
+    }
+    Ok(())
+}
+
+/// A comment on one line can name the file of the licences by this path: neither a line nor a comment ends in it.
+#[tactic(auto, using(crate::proofs::Closes::names_file))]
+fn names_a_file(path: &str) -> bool
+    ensures { result ≡ names_a_file (linked (chars path.now)) }
+{
+    !has_line_end(path) && close_behind(path).step(' ').step('*').step('/').is_closed()
+}
+
+/// What names the file of the licences, where they have one that the code names, is a comment on one line.
+pub fn check_licence_path(legal: &LegalComment, span: Span) -> Result<(), TreeFault>
+    ensures { result ≡ verdict (licence_faults span (legal_plain legal.now)) }
+{
+    if let LegalComment::Linked(path) = legal {
+        if !names_a_file(path.as_str()) {
+            return Err(TreeFault::Comment { start: span.start });
+        }
     }
     Ok(())
 }

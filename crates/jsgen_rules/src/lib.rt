@@ -21,7 +21,7 @@ mod units;
 mod values;
 
 pub use classes::{as_property, class_fits, is_private};
-pub use comments::check_comment;
+pub use comments::{check_comment, check_licence_path};
 pub use functions::{
     check_await, check_function, check_return, check_yield, fits_accessor, fits_words,
     function_fits,
