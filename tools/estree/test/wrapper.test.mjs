@@ -222,3 +222,14 @@ test("--install puts the program, the header and the library into a folder, and 
     assert.deepEqual(calls().map((line) => line.split(" ")[1]), ["all", "all", "run", "lib", "doc", "doc"]);
   });
 });
+
+test("--install into a folder that can't be made ends with status 5", async () => {
+  await withWrapper("0", async (folder, env) => {
+    const library = join(folder, "crates", "jsgen_c", "out", "libjsgen_c.a");
+    mkdirSync(join(library, ".."), { recursive: true });
+    writeFileSync(library, "");
+    const call = started(folder, { ...env, KIT: folder }, ["--install", join(folder, "crates.txt")]);
+    assert.equal(await call.ended, 5, call.lines);
+    assert.match(call.lines, /mkdir: .*crates\.txt/);
+  });
+});
