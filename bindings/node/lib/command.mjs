@@ -57,7 +57,9 @@ export async function readText(path) {
   const text = bytes.toString();
   const back = Buffer.from(text);
   if (back.equals(bytes)) return text.replace(/^\uFEFF/, "");
-  const wrong = back.findIndex((byte, at) => byte !== bytes[at]);
+  // The first bytes of a sign may be the same.
+  let wrong = back.findIndex((byte, at) => byte !== bytes[at]);
+  while ((back[wrong] & 0xc0) === 0x80) wrong--;
   throw faultAt(path ?? "<stdin>", text, placeAt(text, back.subarray(0, wrong).toString().length), "the text is not UTF-8");
 }
 

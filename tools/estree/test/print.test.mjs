@@ -71,8 +71,9 @@ test("--help, -h and --version are answered on standard output", () => {
   const { status, out, err } = said(["--help"]);
   assert.deepEqual([status, err, said(["-h"]).out], [0, "", out]);
   assert.match(out, /^usage: node tools\/estree\/print\.mjs \[OPTION \.\.\] \[FILE \.\.\]\n/);
-  const options = "output out-dir minify ascii-only single-quote indent rename source-map no-comments no-normal no-jsdoc no-annotations normal jsdoc annotations legal help version";
-  for (const option of options.split(" ")) assert.match(out, new RegExp(`--${option}\\b`));
+  const layout = "minify ascii-only single-quote indent rename";
+  const comments = "no-comments no-normal no-jsdoc no-annotations normal jsdoc annotations legal";
+  for (const option of `output out-dir source-map help version ${layout} ${comments}`.split(" ")) assert.match(out, new RegExp(`--${option}\\b`));
   assert.match(said(["--version"]).out, /^jsgen-print \d+\.\d+\.\d+\n$/);
 });
 
@@ -252,6 +253,7 @@ test("an excerpt is as wide at the ends of a long line", () => {
 test("bytes that are no UTF-8 are told by line and column, and not read as others", () => {
   const { status, out, err } = said(["-"], { input: Buffer.concat([Buffer.from('a;\n"é\uFFFD'), Buffer.from([0xc3]), Buffer.from('";')]) });
   assert.deepEqual([status, out, err], [1, "", '<stdin>:2:4: the text is not UTF-8\n  "é\uFFFD\uFFFD";\n     ^\n']);
+  assert.match(said(["-"], { input: Buffer.from([0x61, 0xef, 0xbf]) }).err, /^<stdin>:1:2: the text is not UTF-8\n/);
 });
 
 test("a source that is nested too deeply for node is one line and status 6", () => {
