@@ -1,7 +1,8 @@
 // `node tools/comments/judge.mjs [--random COUNT [--seed NUMBER]] [FILE or DIRECTORY ..]`: each module is printed with its comments under
-// each set of options, by the program that the variable JSGEN names, or by ./jsgen, and the comments of the text are judged (README.md).
-// With --random, so are that many programs that are made up, with comments put in. What is wrong is told by file and set, the first ten.
-import { printed, run } from "../estree/command.mjs";
+// each set of options, by the program that the variable JSGEN names, or that is built here, and the comments of the text are judged
+// (README.md). With --random, so are that many programs that are made up, with comments put in. What is wrong is told by file and set,
+// the first ten.
+import { RANDOM, printed, run } from "../estree/command.mjs";
 import { jobOf } from "../../bindings/node/lib/convert.mjs";
 import { parsed } from "../estree/parser.mjs";
 import { randomProgram } from "../estree/random.mjs";
@@ -16,7 +17,7 @@ const SETS = {
   "minified, licences at the end": { minify: true, legal: "eof" },
 };
 
-await run("node judge.mjs [--random COUNT [--seed NUMBER]] [FILE or DIRECTORY ..]", (words) => {
+await run({ usage: "node judge.mjs [--random COUNT [--seed NUMBER]] [FILE or DIRECTORY ..]", options: RANDOM }, (values, paths) => {
   const tally = new Tally();
   const comments = { kept: 0, unprinted: 0 };
 
@@ -37,7 +38,7 @@ await run("node judge.mjs [--random COUNT [--seed NUMBER]] [FILE or DIRECTORY ..
     return faults[0];
   }
 
-  tryAll(words, tally, tryProgram, (seed) => withComments(randomProgram(seed), seed));
+  tryAll(values, paths, tally, tryProgram, (seed) => withComments(randomProgram(seed), seed));
   process.stdout.write(`${tally.summary("texts", `; ${comments.kept} comments kept, ${comments.unprinted} of them not printed`)}\n`);
   return tally.bad > 0 ? 1 : 0;
 });

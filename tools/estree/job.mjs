@@ -1,11 +1,22 @@
 // `node tools/estree/job.mjs [--minify] [--ascii-only] [--single-quote] < TREE`: the job of an ESTree tree in JSON.
-import { readFileSync } from "node:fs";
-import { Refused, optionsOf, run } from "./command.mjs";
+import { Ended, STATUS, faultOf, readText, writeOut } from "../../bindings/node/lib/command.mjs";
 import { jobOf } from "../../bindings/node/lib/convert.mjs";
+import { Refused, run } from "./command.mjs";
 
-await run("node job.mjs [--minify] [--ascii-only] [--single-quote] < TREE.json", (words) => {
-  const { options, others } = optionsOf(words);
+const FLAGS = { minify: { type: "boolean" }, "ascii-only": { type: "boolean" }, "single-quote": { type: "boolean" } };
+
+function treeIn(text) {
+  try {
+    const tree = JSON.parse(text);
+    if (typeof tree?.type !== "string") throw new Ended("<stdin>: no ESTree tree", STATUS.source);
+    return tree.type === "File" ? tree.program : tree;
+  } catch (error) {
+    throw faultOf(error, "<stdin>", text);
+  }
+}
+
+await run({ usage: "node job.mjs [--minify] [--ascii-only] [--single-quote] < TREE.json", options: FLAGS }, async (flags, others) => {
   if (others.length > 0) throw new Refused(`unknown word ${others[0]}`);
-  const tree = JSON.parse(readFileSync(0, "utf8"));
-  process.stdout.write(`${JSON.stringify(jobOf(tree.type === "File" ? tree.program : tree, { options }))}\n`);
+  const options = Object.fromEntries(Object.entries(flags).map(([name, value]) => [name.replace("-", "_"), value]));
+  await writeOut(`${JSON.stringify(jobOf(treeIn(await readText(null)), { options }))}\n`);
 });

@@ -4,7 +4,7 @@
 // With --random, so many programs that are made up are printed so too. A run that fails is told by its file and line (of a program
 // that is made up, its number stands for the file), its set of options and what differs, the first ten of them.
 import { readFileSync } from "node:fs";
-import { Refused, numberBehind, printed, run } from "./command.mjs";
+import { RANDOM, Refused, printed, run, seedsOf } from "./command.mjs";
 import { jobOf } from "../../bindings/node/lib/convert.mjs";
 import { firstDifference, normal } from "./normal.mjs";
 import { parsed } from "./parser.mjs";
@@ -162,17 +162,16 @@ function tryFile(tally, path) {
   else tally.passed++;
 }
 
-await run("node roundtrip.mjs [--random COUNT [--seed NUMBER]] [DIRECTORY ..]", (words) => {
-  const count = numberBehind(words, "--random", 0);
-  const seed = numberBehind(words, "--seed", 1);
-  if (count === 0 && words.length === 0) throw new Refused("a directory, or --random, is wanted");
+await run({ usage: "node roundtrip.mjs [--random COUNT [--seed NUMBER]] [DIRECTORY ..]", options: RANDOM }, (values, paths) => {
+  const seeds = seedsOf(values);
+  if (seeds.length === 0 && paths.length === 0) throw new Refused("a directory, or --random, is wanted");
   const tally = new Tally();
-  for (const path of words.flatMap((word) => [...filesBelow(word)])) {
+  for (const path of paths.flatMap((path) => [...filesBelow(path)])) {
     tryFile(tally, path);
     tally.progress();
   }
-  for (let at = 0; at < count; at++) {
-    tryProgram(tally, new Tried(`random ${seed + at}`, randomProgram(seed + at)));
+  for (const seed of seeds) {
+    tryProgram(tally, new Tried(`random ${seed}`, randomProgram(seed)));
     tally.progress();
   }
   if (process.stderr.isTTY) process.stderr.write("\n");

@@ -1,6 +1,6 @@
 // What the judges of maps and of comments have in common: they try the modules of files and folders, and programs that are made up.
 import { readFileSync } from "node:fs";
-import { Refused, numberBehind } from "./command.mjs";
+import { Refused, seedsOf } from "./command.mjs";
 import { filesBelow, isModule, isTakenByV8 } from "./programs.mjs";
 import { randomProgram } from "./random.mjs";
 
@@ -37,21 +37,20 @@ export class Tally {
 }
 
 /**
- * Hands the source of each module that the words name to `tryProgram`, with its place, and those of as many programs as `--random` says,
- * which `made` makes by their numbers.
+ * Hands the source of each module below the paths to `tryProgram`, with its place, and those of as many programs as `--random` says,
+ * which `made` makes by their numbers. The values are those of the options RANDOM (command.mjs).
  */
-export function tryAll(words, tally, tryProgram, made = randomProgram) {
-  const count = numberBehind(words, "--random", 0);
-  const seed = numberBehind(words, "--seed", 1);
-  if (count === 0 && words.length === 0) throw new Refused("a file, or --random, is wanted");
+export function tryAll(values, paths, tally, tryProgram, made = randomProgram) {
+  const seeds = seedsOf(values);
+  if (seeds.length === 0 && paths.length === 0) throw new Refused("a file, or --random, is wanted");
   const tryOne = (place, source) => {
     tally.programs++;
     tryProgram(place, source);
   };
-  for (const path of words.flatMap((word) => [...filesBelow(word)])) {
+  for (const path of paths.flatMap((path) => [...filesBelow(path)])) {
     const source = readFileSync(path, "utf8");
     if (isModule(source)) tryOne(path, source);
     else tally.passed++;
   }
-  for (let at = 0; at < count; at++) tryOne(`random ${seed + at}`, made(seed + at));
+  for (const seed of seeds) tryOne(`random ${seed}`, made(seed));
 }

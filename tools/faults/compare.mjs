@@ -2,18 +2,15 @@
 import { spawnSync } from "node:child_process";
 import { mkdirSync, writeFileSync } from "node:fs";
 import { join } from "node:path";
-import { fileURLToPath } from "node:url";
+import { program } from "../estree/command.mjs";
 import { damagedJob } from "./damaged.mjs";
 import { firstFault } from "./fault.mjs";
 import { readFormat } from "./format.mjs";
 import { parseJson } from "./json.mjs";
 
-const USAGE = `usage: tools/faults/compare N SEED [PROGRAM]          compares N jobs; PROGRAM is ./jsgen where none is given
+const USAGE = `usage: tools/faults/compare N SEED [PROGRAM]          compares N jobs; PROGRAM is the built one where none is given
        tools/faults/compare --write FOLDER N SEED    writes the N jobs to FOLDER, and runs nothing
 `;
-const JSGEN = fileURLToPath(new URL("../../jsgen", import.meta.url));
-const BUILT = fileURLToPath(new URL("../../crates/jsgen_cli/out/jsgen_cli", import.meta.url));
-const SIMPLEST = '{"rows":[{"type":"Program","kind":"module"}]}';
 const REFUSED = /^refused: (Place|Name|Literal|Template|Span|Comment|Indent) at \d+\n$/;
 const SHOWN = 20;
 const WIDE = 100n;
@@ -22,7 +19,7 @@ try {
   process.exitCode = main(process.argv.slice(2));
 } catch (error) {
   process.stderr.write(`${error.message}\n`);
-  process.exitCode = 2;
+  process.exitCode = error.status ?? 2;
 }
 
 function main(words) {
@@ -33,14 +30,7 @@ function main(words) {
     return 2;
   }
   const format = readFormat();
-  return folder === null ? compare(format, count, seed, words[2] ?? built()) : write(format, count, seed, folder);
-}
-
-// The program that `./jsgen` runs, which it builds first where that is to do.
-function built() {
-  const { status } = spawnSync(JSGEN, ["print"], { input: SIMPLEST, stdio: ["pipe", "ignore", "inherit"] });
-  if (status !== 0) throw new Error(`./jsgen print ended with status ${status}`);
-  return BUILT;
+  return folder === null ? compare(format, count, seed, words[2] ?? program()) : write(format, count, seed, folder);
 }
 
 function write(format, count, seed, folder) {

@@ -1,7 +1,7 @@
 // `node tools/maps/judge.mjs [--random COUNT [--seed NUMBER]] [FILE or DIRECTORY ..]`: each module is printed under each set of options
-// with its source map, by the program that the variable JSGEN names, or by ./jsgen, and the map is judged (README.md). With --random, so
-// are that many programs that are made up. What is wrong is told by file and set of options, the first ten.
-import { Refused, answered, run } from "../estree/command.mjs";
+// with its source map, by the program that the variable JSGEN names, or that is built here, and the map is judged (README.md). With
+// --random, so are that many programs that are made up. What is wrong is told by file and set of options, the first ten.
+import { RANDOM, Refused, answered, run } from "../estree/command.mjs";
 import { jobOf } from "../../bindings/node/lib/convert.mjs";
 import { parsed } from "../estree/parser.mjs";
 import { LETTERS, SIGNS, renaming } from "../../bindings/node/lib/scopes.mjs";
@@ -40,9 +40,9 @@ function jobOfSet(source, { options = {}, parentheses = false, letters = null })
   return jobOf(program, { source, options: { ...options, source_map_path: "source.js" }, names });
 }
 
-await run("node judge.mjs [--random COUNT [--seed NUMBER]] [FILE or DIRECTORY ..]", (words) => {
+await run({ usage: "node judge.mjs [--random COUNT [--seed NUMBER]] [FILE or DIRECTORY ..]", options: RANDOM }, (values, paths) => {
   const tally = new Tally();
-  tryAll(words, tally, (place, source) => tryProgram(tally, place, source));
+  tryAll(values, paths, tally, (place, source) => tryProgram(tally, place, source));
   process.stdout.write(`${tally.summary("maps")}\n`);
   return tally.bad > 0 ? 1 : 0;
 });

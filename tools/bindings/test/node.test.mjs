@@ -171,16 +171,15 @@ test("the command prints a file, and says why it doesn't", { skip }, () => {
   const folder = mkdtempSync(join(tmpdir(), "jsgen-node-"));
   try {
     const command = (words, input = "") => {
-      const ran = spawnSync(process.execPath, [here("../../../bindings/node/bin/jsgen.mjs"), ...words], { input });
+      const ran = spawnSync(process.execPath, [here("../../../bindings/node/bin/jsgen-print.mjs"), ...words], { input });
       return [ran.status, ran.stdout.toString(), ran.stderr.toString()];
     };
     writeFileSync(join(folder, "a.js"), SOURCE);
     assert.deepEqual(command(["--minify", join(folder, "a.js")]), [0, 'import{a}from"b";export class C extends a{#d=1}', ""]);
     assert.deepEqual(command(["-o", join(folder, "b.js")], "a()"), [0, "", ""]);
     assert.equal(readFileSync(join(folder, "b.js"), "utf8"), "a();\n");
-    assert.match(command([], "a(")[2], /^Unexpected token \(1:2\)\n$/);
-    assert.match(command(["--source-map", "a", "b"])[2], /^at most one file/);
-    assert.match(command(["-o"])[2], /^at most one file, and one behind -o, is wanted\nusage: jsgen /);
+    assert.deepEqual(command([], "a("), [1, "", "<stdin>:1:3: Unexpected token\n  a(\n    ^\n"]);
+    assert.match(command(["-o"])[2], /^jsgen-print: Option '-o, --output <value>' argument missing\nusage: jsgen-print /);
   } finally {
     rmSync(folder, { recursive: true });
   }
@@ -190,7 +189,7 @@ test("the command writes a map beside the code, or in it", { skip: withoutMaps }
   const folder = mkdtempSync(join(tmpdir(), "jsgen-node-"));
   try {
     const command = (words, input = "") => {
-      const ran = spawnSync(process.execPath, [here("../../../bindings/node/bin/jsgen.mjs"), "--source-map", ...words], { input, cwd: folder });
+      const ran = spawnSync(process.execPath, [here("../../../bindings/node/bin/jsgen-print.mjs"), "--source-map", ...words], { input, cwd: folder });
       return [ran.status, ran.stdout.toString(), ran.stderr.toString()];
     };
     writeFileSync(join(folder, "a.js"), "a()");

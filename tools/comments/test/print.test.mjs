@@ -10,7 +10,7 @@ import { parsed } from "../../estree/parser.mjs";
 import { uncommented, unlicensed } from "./printing.mjs";
 
 const here = (name) => fileURLToPath(new URL(name, import.meta.url));
-const COMMANDS = { print: here("../../estree/print.mjs"), jsgen: here("../../../bindings/node/bin/jsgen.mjs") };
+const COMMANDS = { "print.mjs": here("../../estree/print.mjs"), "jsgen-print": here("../../../bindings/node/bin/jsgen-print.mjs") };
 const SOURCE = "/** b */\n/*! c */\n// d\na;\n/* @vite-ignore */\ne; // f\n/*! c */\n";
 
 // The code that a command writes to standard output, and the files that it makes.
@@ -31,8 +31,12 @@ for (const command of Object.keys(COMMANDS)) {
   test(`${command} prints the comments that are wanted`, { skip: uncommented }, () => {
     const out = (...words) => ran(command, words).out;
     assert.equal(out(), "/** b */\n/*! c */\n// d\na;\n/* @vite-ignore */\ne;\n/*! c */\n");
-    assert.equal(out("--minify"), "/** b */\n/*! c */\n// d\na;\n/* @vite-ignore */\ne;\n/*! c */\n");
+    assert.equal(out("--minify"), "/*! c */\na;\n/* @vite-ignore */\ne;\n/*! c */\n");
+    assert.equal(out("--minify", "--jsdoc"), "/** b */\n/*! c */\na;\n/* @vite-ignore */\ne;\n/*! c */\n");
+    assert.equal(out("--minify", "--normal", "--jsdoc"), "/** b */\n/*! c */\n// d\na;\n/* @vite-ignore */\ne;\n/*! c */\n");
+    assert.equal(out("--minify", "--no-annotations", "--legal", "none"), "a;e;");
     assert.equal(out("--no-comments"), "a;\ne;\n");
+    assert.equal(out("--no-comments", "--annotations"), "a;\n/* @vite-ignore */\ne;\n");
     assert.equal(out("--no-comments", "--minify"), "a;e;");
     assert.equal(out("--no-normal"), "/** b */\n/*! c */\na;\n/* @vite-ignore */\ne;\n/*! c */\n");
     assert.equal(out("--no-jsdoc", "--no-annotations"), "/*! c */\n// d\na;\ne;\n/*! c */\n");

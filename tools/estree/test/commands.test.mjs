@@ -1,7 +1,7 @@
 // The commands. Those that print need the program, which `rt ci` or `./jsgen` builds; where it isn't built they are skipped.
 import assert from "node:assert/strict";
 import { spawnSync } from "node:child_process";
-import { chmodSync, existsSync, mkdtempSync, readFileSync, rmSync, writeFileSync } from "node:fs";
+import { chmodSync, mkdtempSync, rmSync, writeFileSync } from "node:fs";
 import { tmpdir } from "node:os";
 import { join } from "node:path";
 import { test } from "node:test";
@@ -37,66 +37,34 @@ test("job writes the job of a tree", () => {
   });
 });
 
-test("a word that is unknown, and a file that isn't there, are one line and the usage", () => {
-  assert.match(ran("job", ["--indent"]).err, /^unknown option --indent\nusage: node job\.mjs/);
-  assert.equal(ran("print", ["no/such/file.js"]).status, 1);
-  assert.match(ran("print", []).err, /^one file is wanted\nusage: /);
+test("what is wrong with words and input is one line, and the usage behind that of words", () => {
+  const usage = "usage: node job.mjs [--minify] [--ascii-only] [--single-quote] < TREE.json\n";
+  assert.deepEqual(ran("job", ["--indent"]), { status: 2, out: "", err: `Unknown option '--indent'\n${usage}` });
+  assert.deepEqual(ran("job", ["a"]), { status: 2, out: "", err: `unknown word a\n${usage}` });
+  assert.deepEqual(ran("job", ["--help"]), { status: 0, out: usage, err: "" });
+  assert.deepEqual(ran("job", [], "null"), { status: 1, out: "", err: "<stdin>: no ESTree tree\n" });
+  assert.match(ran("job", [], "{").err, /^<stdin>: .* in JSON .*\n$/);
+  assert.match(ran("roundtrip", ["--random", "x"]).err, /^--random wants a whole number\nusage: node roundtrip\.mjs /);
+  assert.match(ran("roundtrip", []).err, /^a directory, or --random, is wanted\nusage: /);
 });
 
-// What print writes, and the jobs that it gives to a program that answers each word with these lines.
-function printedBy(answers, source, words) {
-  return withFile(source, (file, folder) => {
-    const program = join(folder, "program");
-    const cases = Object.entries(answers).map(([word, text]) => `${word}) printf '${text}' ;;`);
-    writeFileSync(program, `#!/bin/sh\ncat > ${folder}/$1\ncase $1 in ${cases.join(" ")} *) echo usage >&2; exit 2 ;; esac\n`);
-    chmodSync(program, 0o755);
-    const ends = ran("print", [...words.map((word) => word.replace("FOLDER", folder)), file], "", program);
-    const read = (name) => (existsSync(join(folder, name)) ? readFileSync(join(folder, name), "utf8") : null);
-    return { ...ends, job: JSON.parse(read("print") ?? "null"), legal: read("legal"), code: read("code.js"), licences: read("code.txt") };
-  });
-}
-
-test("print hands on the comments, and which of them are wanted", () => {
-  const optionsOf = (...words) => printedBy({ print: "a;", legal: "" }, "// b\na", words).job.options;
-  const { job } = printedBy({ print: "a;" }, "// b\na", []);
-  assert.deepEqual(job.rows.at(-1).comments, [0]);
-  assert.equal(job.options, undefined);
-  assert.deepEqual(optionsOf("--no-comments"), { normal: false, jsdoc: false, annotation: false, legal: "none" });
-  assert.deepEqual(optionsOf("--no-comments", "--legal", "eof"), { normal: false, jsdoc: false, annotation: false, legal: "eof" });
-  assert.deepEqual(optionsOf("--no-normal", "--minify"), { minify: true, normal: false });
-  assert.deepEqual(optionsOf("--no-jsdoc", "--no-annotations"), { jsdoc: false, annotation: false });
-  assert.deepEqual(optionsOf("--legal", "inline"), { legal: "inline" });
-  assert.deepEqual(optionsOf("--legal", "external=FOLDER/a.txt"), { legal: "external" });
-  assert.deepEqual(optionsOf("--legal", "linked=FOLDER/a.txt", "-o", "FOLDER/b/../code.js"), { legal: "linked", legal_path: "a.txt" });
-  assert.match(optionsOf("--legal", "linked=FOLDER/a.txt").legal_path, /^\/.*\/a\.txt$/);
-  for (const wrong of [["--legal"], ["--legal", "linked"], ["--legal", "linked="], ["--legal", "all"], ["--legal", "eof=a"]]) {
-    assert.match(ran("print", [...wrong]).err, /^--legal wants none, inline, eof, linked=FILE or external=FILE\nusage: /);
+test("where the program isn't there nothing is built, and that is said", () => {
+  for (const command of ["roundtrip", "../maps/judge", "../comments/judge"]) {
+    assert.deepEqual(ran(command, ["--random", "1"], "", "/no/such"), { status: 70, out: "", err: "not built: JSGEN names no program that is there: /no/such\n" });
   }
-  assert.match(ran("print", ["--legal", "linked=a*/b"]).err, /^--legal linked=FILE takes no path that holds \*\/\nusage: /);
 });
 
-test("print writes the licences into a file of their own", () => {
-  const source = "/*! é */\na; /* @license\n b */";
-  const words = ["--legal", "linked=FOLDER/code.txt", "-o", "FOLDER/code.js"];
-  const both = printedBy({ print: "a;", legal: "0 9\\n13 30\\n" }, source, words);
-  assert.deepEqual([both.status, both.err, both.code, both.licences], [0, "", "a;", "/*! é */\n/* @license\n b */\n"]);
-  assert.deepEqual(JSON.parse(both.legal), both.job);
-  const none = printedBy({ print: "a;", legal: "" }, "a", words);
-  assert.deepEqual([none.status, none.code, none.licences], [0, "a;", null]);
-  const wordless = printedBy({ print: "a;" }, source, words);
-  assert.deepEqual([wordless.status, wordless.err, wordless.code, wordless.licences], [2, "usage\n", null, null]);
-});
-
-test("--help is the usage", () => {
-  const { status, out } = ran("print", ["--help"]);
-  assert.equal(status, 0);
-  assert.match(out, /^usage: node print\.mjs .*\n.*\[--no-comments\] .*\[--legal none\|inline\|eof\|linked=FILE\|external=FILE\]\n.* FILE\n$/);
-});
-
-test("print writes a source file, minified where that is asked", { skip: unbuilt }, () => {
-  withFile("const  a = f ( 1+2 , 'b' )", (file) => {
-    assert.equal(ran("print", [file]).out, 'const a = f(1 + 2, "b");\n');
-    assert.equal(ran("print", ["--minify", file]).out, "const a=f(1+2,`b`);");
+test("the program gets as much stack as there may be", () => {
+  withFile("", (file, folder) => {
+    const program = join(folder, "program");
+    writeFileSync(program, "#!/bin/sh\ncat > /dev/null\nulimit -S -s\nulimit -H -s\n");
+    chmodSync(program, 0o755);
+    const call = `import { printed } from ${JSON.stringify(new URL("../command.mjs", import.meta.url).href)}; process.stdout.write(printed({}).code);`;
+    const env = { ...process.env, JSGEN: program, CALL: call };
+    const { stdout } = spawnSync("sh", ["-c", `ulimit -S -s 4096; exec "${process.execPath}" --input-type=module -e "$CALL"`], { env });
+    const [soft, hard] = stdout.toString().split("\n");
+    assert.equal(soft, hard);
+    assert.notEqual(soft, "4096");
   });
 });
 

@@ -6,8 +6,11 @@ import { tmpdir } from "node:os";
 import { join } from "node:path";
 import { test } from "node:test";
 import { fileURLToPath } from "node:url";
+import { program, unbuilt } from "../program.mjs";
 
 const top = (name) => fileURLToPath(new URL(`../../../${name}`, import.meta.url));
+
+const HELP = "crates/jsgen_cli/src/help.rt";
 
 const TOOLCHAIN = `#!/usr/bin/env bash
 echo "$$ $1" >>"$CALLS"
@@ -31,6 +34,7 @@ async function withWrapper(pause, use) {
   try {
     for (const name of ["jsgen", "crates.txt"]) copyFileSync(top(name), join(folder, name));
     for (const crate of ["jsgen", "jsgen_tool", "jsgen_cli"]) mkdirSync(join(folder, "crates", crate, "src"), { recursive: true });
+    copyFileSync(top(HELP), join(folder, HELP));
     mkdirSync(join(folder, "bin"));
     writeFileSync(join(folder, "bin", "rt"), TOOLCHAIN);
     chmodSync(join(folder, "bin", "rt"), 0o755);
@@ -55,6 +59,90 @@ async function until(holds) {
   for (let turn = 0; turn < 400 && !holds(); turn++) await new Promise((resolve) => setTimeout(resolve, 25));
   assert.ok(holds());
 }
+
+// What the program says for `--help`, by its source.
+function helpOfProgram() {
+  return /^pub const HELP: &str = r#"(.*?)"#;$/ms.exec(readFileSync(top(HELP), "utf8"))[1];
+}
+
+test("the program's help is the text of its source", { skip: unbuilt }, (t) => {
+  for (const word of ["--help", "-h"]) {
+    const { status, stdout, stderr } = spawnSync(program(), [word]);
+    if (status === 2) return t.skip("the program answers no --help");
+    assert.deepEqual([status, stdout.toString(), stderr.toString()], [0, helpOfProgram(), ""]);
+  }
+});
+
+test("the job that the help shows is printed as it says", { skip: unbuilt }, () => {
+  const lines = helpOfProgram().split("\n");
+  const job = lines.filter((line) => line.startsWith("  {") || line.startsWith("  ]")).join("\n");
+  assert.match(helpOfProgram(), /This one gives "f;":/);
+  assert.equal(spawnSync(program(), ["print"], { input: job }).stdout.toString(), "f;");
+});
+
+test("--help, -h and --version are answered at once, on standard output", async () => {
+  await withWrapper("0", async (folder, env, calls) => {
+    const help = started(folder, env, ["--help"]);
+    assert.equal(await help.ended, 0);
+    const shared = helpOfProgram().replace(/jsgen (?=print|map|legal|check|--)/g, "./jsgen ");
+    assert.equal(help.code.slice(0, shared.length), shared);
+    for (const word of ["--unproved", "--built", "--install DIR", "--release DIR"]) assert.ok(help.code.slice(shared.length).includes(`./jsgen ${word}`), word);
+    const short = started(folder, env, ["-h"]);
+    assert.deepEqual([await short.ended, short.code, short.lines], [0, help.code, ""]);
+    const version = started(folder, env, ["--version"]);
+    assert.equal(await version.ended, 0);
+    assert.match(version.code, /^jsgen, jobs of format 1, /);
+    assert.deepEqual(calls().filter((line) => !line.endsWith(" version")), []);
+  });
+});
+
+test("no word and wrong words are the usage and status 2, and build nothing", async () => {
+  await withWrapper("0", async (folder, env, calls) => {
+    const wrong = [
+      [], [""], ["prin"], ["--helpp"], ["print", "a", "b"], ["print", ""], ["print", "--minify"], ["--help", "print"], ["--version", "a"], ["--built", "a"],
+      ["--install"], ["--install", ""], ["--install", "-x"], ["--release"], ["--release", ""], ["--release", "a", "b"],
+      ["--unproved"], ["--unproved", "a"], ["--unproved", "--help"], ["--unproved", "--install", "a"],
+    ];
+    for (const words of wrong) {
+      const call = started(folder, env, words);
+      const ends = [await call.ended, call.code, call.lines];
+      assert.deepEqual(ends, [2, "", "usage: ./jsgen print|map|legal|check [FILE] (./jsgen --help says more)\n"], words.join(" "));
+    }
+    for (const words of [["print", "no/such"], ["map", folder], ["--unproved", "check", "no/such"]]) {
+      const call = started(folder, env, words);
+      assert.deepEqual([await call.ended, call.code, call.lines], [4, "", `jsgen: no file to read: ${words.at(-1)}\n`]);
+    }
+    const built = started(folder, env, ["--built"]);
+    assert.deepEqual([await built.ended, built.code, built.lines], [1, "", ""]);
+    assert.deepEqual(calls(), []);
+  });
+});
+
+test("the file behind a word is the program's standard input", async () => {
+  await withWrapper("0", async (folder, env, calls) => {
+    const program = join(folder, "crates/jsgen_cli/out/jsgen_cli");
+    mkdirSync(join(program, ".."));
+    writeFileSync(program, '#!/bin/sh\necho "$@"; cat\n');
+    chmodSync(program, 0o755);
+    writeFileSync(join(folder, "a job"), "the job\n");
+    for (const word of ["print", "map", "legal", "check"]) {
+      const call = started(folder, env, [word, join(folder, "a job")]);
+      assert.deepEqual([await call.ended, call.code, call.lines], [0, `${word}\nthe job\n`, ""]);
+    }
+    assert.deepEqual(calls(), []);
+  });
+});
+
+test("--release hands over to the script of releases", async () => {
+  await withWrapper("0", async (folder, env, calls) => {
+    mkdirSync(join(folder, "tools/release"), { recursive: true });
+    writeFileSync(join(folder, "tools/release/release"), '#!/bin/sh\necho "$# $1"; exit 9\n');
+    chmodSync(join(folder, "tools/release/release"), 0o755);
+    const call = started(folder, env, ["--release", "a b"]);
+    assert.deepEqual([await call.ended, call.code, call.lines], [9, "1 a b\n", ""]);
+    assert.deepEqual(calls(), []);
+  });
+});
 
 test("eight calls at once make one build, and each prints", async () => {
   await withWrapper("2", async (folder, env, calls) => {
@@ -132,5 +220,16 @@ test("--install puts the program, the header and the library into a folder, and 
       assert.match(spawnSync("nm", [join(into, "lib", "libjsgen.a")]).stdout.toString(), /jsgen_print_job/);
     }
     assert.deepEqual(calls().map((line) => line.split(" ")[1]), ["all", "all", "run", "lib", "doc", "doc"]);
+  });
+});
+
+test("--install into a folder that can't be made ends with status 5", async () => {
+  await withWrapper("0", async (folder, env) => {
+    const library = join(folder, "crates", "jsgen_c", "out", "libjsgen_c.a");
+    mkdirSync(join(library, ".."), { recursive: true });
+    writeFileSync(library, "");
+    const call = started(folder, { ...env, KIT: folder }, ["--install", join(folder, "crates.txt")]);
+    assert.equal(await call.ended, 5, call.lines);
+    assert.match(call.lines, /mkdir: .*crates\.txt/);
   });
 });
