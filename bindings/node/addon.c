@@ -9,7 +9,7 @@
 
 // A call goes down the tree on its stack. The rows of a job are its levels at most, so the stack is so many bytes for each byte of the
 // job, and some more: README.md has what a level takes. It is reserved, and touched only as far as it is needed.
-#define STACK_FOR_BYTE ((size_t)128)
+#define STACK_FOR_BYTE ((size_t)160)
 #define STACK_BESIDE ((size_t)16 << 20)
 #define STACK_GUARD ((size_t)1 << 20)
 

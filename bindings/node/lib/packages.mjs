@@ -1,5 +1,6 @@
 // Packages of node that jsgen takes: those that the package brings or that are installed beside it, those installed for the folder of the
 // process, and Debian's (`node-NAME`).
+import { existsSync } from "node:fs";
 import Module, { createRequire } from "node:module";
 import { join } from "node:path";
 import { folders, load } from "../folders.mjs";
@@ -26,6 +27,12 @@ export function packageOrNull(name) {
     }
   }
   return null;
+}
+
+/** The folder of the package of this name, in the same order of places: null where it isn't there. */
+export function folderOf(name) {
+  const places = [...folders, process.cwd()].flatMap((folder) => createRequire(join(folder, "index.js")).resolve.paths(name));
+  return [...places, DEBIAN].map((place) => join(place, name)).find((folder) => existsSync(join(folder, "package.json"))) ?? null;
 }
 
 // Debian's packages find each other by a folder that only Debian's own node looks into, so it is one of node's while they are loaded.

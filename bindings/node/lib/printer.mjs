@@ -42,9 +42,18 @@ function bytesOf(job) {
 }
 
 function byAddon(word, bytes) {
-  const answer = addon[`${word}Job`](bytes);
+  const answer = answerOf(addon[`${word}Job`], bytes);
   if (answer.status !== 0) throw errorOf(answer);
   return answer.text;
+}
+
+// What the addon throws is that it has no thread for a job, or no string for its text.
+function answerOf(call, bytes) {
+  try {
+    return call(bytes);
+  } catch (error) {
+    throw new JsgenError(error.message, { status: CANNOT_RUN, cause: error });
+  }
 }
 
 function byProgram(word, bytes) {
@@ -53,7 +62,9 @@ function byProgram(word, bytes) {
   if (ran.error) throw new JsgenError(`the program can't be run: ${ran.error.message}`, { status: CANNOT_RUN, cause: ran.error });
   const line = ran.stderr.toString("utf8").trim();
   // By these statuses a shell tells that it can't start the program.
-  if (ran.status === 126 || ran.status === 127) throw new JsgenError(`the program can't be run: ${line}`, { status: CANNOT_RUN });
+  if (ran.status === 126 || ran.status === 127) {
+    throw new JsgenError(`the program can't be run: ${program} isn't there, or is no program`, { status: CANNOT_RUN });
+  }
   if (ran.status !== 0) throw errorOfLine(ran.status ?? ran.signal, line);
   return ran.stdout.toString("utf8");
 }
