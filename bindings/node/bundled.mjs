@@ -27,12 +27,12 @@ function bring(name, folder) {
   rmSync(target, { recursive: true, force: true });
   mkdirSync(dirname(target), { recursive: true });
   cpSync(folder, target, { recursive: true, dereference: true, filter: (path) => path !== join(folder, "node_modules") });
-  const hasLicence = readdirSync(target).some((file) => /^(licen[cs]e|copying|copyright)/i.test(file));
+  const hasLicence = readdirSync(target).some((file) => /^(licen[cs]e|copying)/i.test(file));
   const copyright = hasLicence ? null : debiansCopyright(folder);
-  if (copyright !== null) cpSync(copyright, join(target, "copyright"), { dereference: true });
+  if (copyright !== null) cpSync(copyright, join(target, "LICENSE"), { dereference: true });
 }
 
-// Debian keeps the licences of a package in a file of its own.
+// Debian keeps the licences of a package in a file elsewhere.
 function debiansCopyright(folder) {
   const { status, stdout } = spawnSync("dpkg", ["-S", folder], { encoding: "utf8" });
   if (status !== 0) return null;

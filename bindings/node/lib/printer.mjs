@@ -59,7 +59,8 @@ function answerOf(call, bytes) {
 function byProgram(word, bytes) {
   const program = programPath();
   const ran = spawnSync("/bin/sh", ["-c", STARTED, program, word], { input: bytes, maxBuffer: 2 ** 30 });
-  if (ran.error) throw new JsgenError(`the program can't be run: ${ran.error.message}`, { status: CANNOT_RUN, cause: ran.error });
+  // A program that ends before it has read the whole job says why by its status.
+  if (ran.error && ran.error.code !== "EPIPE") throw new JsgenError(`the program can't be run: ${ran.error.message}`, { status: CANNOT_RUN, cause: ran.error });
   const line = ran.stderr.toString("utf8").trim();
   // By these statuses a shell tells that it can't start the program.
   if (ran.status === 126 || ran.status === 127) {
