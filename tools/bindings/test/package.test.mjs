@@ -3,7 +3,7 @@ import assert from "node:assert/strict";
 import { spawnSync } from "node:child_process";
 import { copyFileSync, cpSync, existsSync, mkdirSync, mkdtempSync, readFileSync, readdirSync, rmSync, writeFileSync } from "node:fs";
 import { tmpdir } from "node:os";
-import { join } from "node:path";
+import { dirname, join, relative, resolve } from "node:path";
 import { after, test } from "node:test";
 import { fileURLToPath } from "node:url";
 import { packageOrNull } from "../../../bindings/node/lib/packages.mjs";
@@ -100,6 +100,17 @@ test("an addon that doesn't load says why, whatever program is there", { skip: w
   const { status, message } = ran(user, "a.mjs", program());
   assert.equal(status, 1);
   assert.match(message, /^the addon doesn't load: .*jsgen\.node: (file too short|invalid ELF header)/);
+});
+
+test("no module of the package reaches above its folder", () => {
+  const folder = top("bindings/node");
+  const modules = ["", "lib"].flatMap((part) => readdirSync(join(folder, part)).filter((file) => /\.mjs$/.test(file)).map((file) => join(folder, part, file)));
+  const packed = modules.filter((file) => !/\/(build|bundled)\.mjs$/.test(file));
+  for (const file of packed) {
+    const text = readFileSync(file, "utf8");
+    const paths = [...text.matchAll(/(?:from |import\(|new URL\()"(\.[^"]*)"/g)].map(([, path]) => resolve(dirname(file), path));
+    assert.deepEqual(paths.filter((path) => relative(folder, path).startsWith("..")), [], file);
+  }
 });
 
 test("in the package are its licence, those of what it bundles, and the declarations of what it exports", { skip: withoutAddon }, async () => {
