@@ -9,13 +9,6 @@ export class JsgenError extends Error {
     this.name = "JsgenError";
     Object.assign(this, details);
   }
-
-  /** The same error with what is known of its place, and the words that tell it in its message. */
-  at(words, place) {
-    const known = Object.fromEntries(Object.entries(place).filter(([, value]) => value !== undefined));
-    if (words !== "") this.message += ` (${words})`;
-    return Object.assign(this, known);
-  }
 }
 
 /** The error of a status other than 0 and of the numbers beside it. */

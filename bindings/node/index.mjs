@@ -49,9 +49,18 @@ export function print(program, settings = {}) {
   const tree = program.type === "File" ? program.program : program;
   const made = unlessTooDeep(() => jobAndNodes(tree, { source, names: settings.names ?? null, options, spans: source !== undefined, comments }));
   try {
-    return printed(JSON.stringify(made.job), options, settings);
+    return printed(textOf(made.job), options, settings);
   } catch (error) {
     throw error instanceof JsgenError ? placed(error, { ...made, comments, source }) : error;
+  }
+}
+
+// A text that is too long for a string is too long for a job.
+function textOf(job) {
+  try {
+    return JSON.stringify(job);
+  } catch (error) {
+    throw error instanceof RangeError ? new JsgenError("input too long", { status: 7, cause: error }) : error;
   }
 }
 
@@ -66,8 +75,9 @@ function printed(job, options, { source, sourceMap }) {
 // The error with the place of its fault, where one is known.
 function placed(error, made) {
   if (error.status !== 1 && error.status !== 3) return error;
-  const { words, ...place } = placeOfFault(error, { ...made, check: (job) => checkJob(JSON.stringify(job)) });
-  return error.at(words, place);
+  const { words, ...place } = placeOfFault(error, { ...made, check: (job) => checkJob(textOf(job)) });
+  if (words !== "") error.message += ` (${words})`;
+  return Object.assign(error, place);
 }
 
 // The converter and the tables of names go down the tree by calls.

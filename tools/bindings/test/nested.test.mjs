@@ -1,6 +1,7 @@
 // Jobs whose trees are as deep as a job's length allows or nearly, by the addon of the package bindings/node: the process lives, and they
 // print. Their texts are put together here, since the converter goes down a tree by calls.
 import assert from "node:assert/strict";
+import { spawnSync } from "node:child_process";
 import { test } from "node:test";
 import { Worker } from "node:worker_threads";
 
@@ -37,7 +38,7 @@ test(`${LEVELS} blocks one in another print`, { skip }, () => {
 });
 
 test(`${LEVELS} arrays one in another print`, { skip }, () => {
-  assert.equal(printJob(arrays(LEVELS)), `${"[".repeat(LEVELS)}this${"]".repeat(LEVELS)}`);
+  assert.equal(printJob(arrays(LEVELS)), `${"[".repeat(LEVELS)}this${"]".repeat(LEVELS)};`);
 });
 
 test(`${METHODS} methods one in another print, in a worker thread too`, { skip }, async () => {
@@ -49,4 +50,19 @@ test(`${METHODS} methods one in another print, in a worker thread too`, { skip }
   const workerData = { index: new URL("../../../bindings/node/index.mjs", import.meta.url).href, job: methods(METHODS) };
   const printed = await new Promise((done, fail) => new Worker(work, { eval: true, workerData }).on("message", done).on("error", fail));
   assert.equal(printed, code);
+});
+
+test("a call whose thread gets no stack throws, and the next one prints", { skip }, () => {
+  const work = `
+    import(process.argv[1]).then(({ printJob }) => {
+      const job = '{"rows":[{"type":"Program","kind":"module"}]}';
+      try {
+        printJob(job + " ".repeat(30_000_000));
+      } catch ({ name, message }) {
+        console.log(name + ": " + message + JSON.stringify(printJob(job)));
+      }
+    });`;
+  const index = new URL("../../../bindings/node/index.mjs", import.meta.url).href;
+  const { stdout, stderr } = spawnSync("sh", ["-c", 'ulimit -v 4000000; exec "$0" "$@"', process.execPath, "-e", work, index], { encoding: "utf8" });
+  assert.equal(stdout, 'JsgenError: no thread can be made that has the stack for this job""\n', stderr);
 });
