@@ -5,9 +5,10 @@
 import assert from "node:assert/strict";
 import { spawnSync } from "node:child_process";
 import { existsSync, readFileSync } from "node:fs";
-import { addon, printJob } from "../bindings/node/index.mjs";
+import { printJob } from "../bindings/node/index.mjs";
 import { jobOf } from "../bindings/node/lib/convert.mjs";
 import { packageOrNull } from "../bindings/node/lib/packages.mjs";
+import { addon } from "../bindings/node/lib/printer.mjs";
 import { parsed } from "../tools/estree/parser.mjs";
 import { program, unbuilt } from "../tools/estree/program.mjs";
 

@@ -13,7 +13,7 @@ if (!headers) {
   process.exit(1);
 }
 mkdirSync(here("build"), { recursive: true });
-const words = ["-O2", "-Wall", "-Wextra", "-Werror", "-fPIC", "-shared", `-I${headers}`, `-I${here("../c")}`, "-o", here("build/jsgen.node"), here("addon.c"), ...libraries()];
+const words = ["-O2", "-Wall", "-Wextra", "-Werror", "-fPIC", "-shared", "-pthread", `-I${headers}`, `-I${here("../c")}`, "-o", here("build/jsgen.node"), here("addon.c"), ...libraries()];
 const { status, error } = spawnSync("cc", words, { stdio: "inherit" });
 if (error) throw error;
 process.exit(status ?? 1);

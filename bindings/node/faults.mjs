@@ -2,10 +2,10 @@
 const RULES = { 1: "Place", 2: "Name", 3: "Literal", 4: "Template", 5: "Span", 6: "Comment", 7: "Indent" };
 const FAULTS = { 11: "Json", 12: "Float", 13: "Missing", 14: "Wrong", 15: "Child", 16: "Shared", 17: "Memory" };
 
-/** A job that isn't printed. Its message is the line that the program says. */
+/** A job that isn't printed. Its message begins with the line that the program says. */
 export class JsgenError extends Error {
-  constructor(message, details = {}) {
-    super(message);
+  constructor(message, { cause, ...details } = {}) {
+    super(message, cause === undefined ? undefined : { cause });
     this.name = "JsgenError";
     Object.assign(this, details);
   }
@@ -37,7 +37,7 @@ export function errorOfLine(status, line) {
   if (refused) return errorOf({ status: 1, rule: numberOf(RULES, refused[1]), start: Number(refused[2]) });
   const fault = /^not a job: (\w+)(?: head| row (\d+))?(?: field (\d+))?$/.exec(line);
   if (fault) return errorOf({ status: 3, rule: numberOf(FAULTS, fault[1]), row: wholeOf(fault[2]), field: wholeOf(fault[3]) });
-  return new JsgenError(line || `status ${status}`, { status });
+  return new JsgenError(line || (typeof status === "string" ? `the program was ended by ${status}` : `status ${status}`), { status });
 }
 
 function numberOf(words, wanted) {

@@ -13,6 +13,67 @@ export interface Comments {
   legal?: "none" | "inline" | "eof" | "external" | { linked: string };
 }
 
+/** The options of a job (docs/FORMAT.md). */
+export interface Options {
+  single_quote?: boolean | null;
+  minify?: boolean | null;
+  ascii_only?: boolean | null;
+  indent_char?: "tab" | "space" | null;
+  indent_width?: number | null;
+  initial_indent?: number | null;
+  normal?: boolean | null;
+  jsdoc?: boolean | null;
+  annotation?: boolean | null;
+  legal?: "none" | "inline" | "eof" | "linked" | "external" | null;
+  legal_path?: string | null;
+  source_map_path?: string | null;
+}
+
+/** A row of a job: a node, with the fields of its type. Children are numbers of earlier rows. */
+export interface Row {
+  type: string;
+  /** Where the node begins and ends, in bytes of the source. */
+  span?: [start: number, end: number];
+  [field: string]: unknown;
+}
+
+/** The tables of a job by which names are printed. */
+export interface Tables {
+  /** The names by which symbols are printed. */
+  symbols?: string[];
+  /** The symbol that each reference names, or null. */
+  references?: (number | null)[];
+  /** The new names of private names, for each class. */
+  private?: { [name: string]: string }[];
+}
+
+/** A job (docs/FORMAT.md): what is printed, in JSON. */
+export interface Job extends Tables {
+  options?: Options;
+  /** The nodes of the tree, children before their parents, and the program last. */
+  rows: Row[];
+}
+
+/** The tables of new names of a tree, and the numbers of its nodes in them. */
+export interface Renaming extends Required<Tables> {
+  symbolOf: Map<object, number>;
+  referenceOf: Map<object, number>;
+}
+
+/** How the job of a tree is made. */
+export interface JobSettings {
+  /** The text that the tree was parsed from, by which spans are counted. */
+  source?: string;
+  options?: Options;
+  /** Whether rows have spans, where there is a source. By default they do. */
+  spans?: boolean;
+  /** Whether `-1` stands for a negative number, in place of an operation on 1. */
+  negative?: boolean;
+  /** The comments of the source in order, as acorn's `onComment` lists them. */
+  comments?: object[];
+  names?: Renaming | null;
+}
+
 /** How a tree is printed. */
 export interface Settings {
   /** The text that the tree was parsed from; with it faults tell where they are. */
@@ -24,11 +85,11 @@ export interface Settings {
   indent?: "tab" | number;
   /** Which of the comments that the tree has in its member `comments` are printed, which takes `source`: all, none, or by kinds. */
   comments?: boolean | Comments;
-  /** Tables by which names are printed (docs/FORMAT.md). */
-  names?: object | null;
+  /** The tables by which names are printed, as `renaming` makes them of this tree. */
+  names?: Renaming | null;
   /** Other options of a job (docs/FORMAT.md); `source_map_path` names the source in the map. */
-  options?: { source_map_path?: string; [option: string]: unknown };
-  /** Whether a map is wanted too, which takes `source` and the package source-map. */
+  options?: Options;
+  /** Whether a map is wanted too, which takes `source`. */
   sourceMap?: boolean;
 }
 
@@ -51,20 +112,46 @@ export interface Printed {
   licences?: string[];
 }
 
-/** A job that isn't printed. Its message is the line that the program says. */
+/** A job that isn't printed. Its message begins with the line that the program says. */
 export class JsgenError extends Error {
-  /** 1 the tree breaks a rule, 3 no job, 6 out of memory, 7 the job is too long. */
-  status: number | string;
+  /** 1 the tree breaks a rule, 3 no job, 6 out of memory, 7 the job is too long, 70 nothing that prints is there or runs. */
+  status?: number | string;
   /** The rule that is broken, or by what the bytes are no job. */
   rule?: string;
   /** The start of the node that breaks a rule, in bytes of the source. */
   start?: number;
   row?: number;
   field?: number;
+  /** Of a tree: the name of the field. */
+  fieldName?: string;
+  /** Of a tree: the ESTree node at which the fault is. */
+  node?: object;
+  /** The line of that node, counted from 1, by `source` or by the node's member `loc`. */
+  line?: number;
+  /** Its column, counted from 1, in units of UTF-16. */
+  column?: number;
 }
 
-/** Prints an ESTree tree of a module. Throws a JsgenError, or a TypeError for wrong arguments. */
+/** A part of a program that jsgen doesn't read yet. */
+export class NotRead extends Error {
+  /** The ESTree node. */
+  node?: object;
+}
+
+/** Prints an ESTree tree of a module. Throws a JsgenError, a NotRead, or a TypeError for wrong arguments. */
 export function print(program: object, settings?: Settings): Printed;
 
 /** The code of a job (docs/FORMAT.md): JSON as a string, or as bytes of UTF-8. */
 export function printJob(job: string | Uint8Array): string;
+
+/** The lines of the source map of a job, which is empty where no `source_map_path` is given. */
+export function mapJob(job: string | Uint8Array): string;
+
+/** Throws the JsgenError of a job that wouldn't be printed. */
+export function checkJob(job: string | Uint8Array): void;
+
+/** The job of an ESTree tree of a module. Throws a NotRead, or a JsgenError for a tree that is nested too deeply. */
+export function jobOf(program: object, settings?: JobSettings): Job;
+
+/** Tables of new names for the bindings and the private names of a tree, made of these letters. */
+export function renaming(program: object, letters?: string[]): Renaming;

@@ -1,55 +1,43 @@
-// Prints ESTree trees and jobs in this process, by the addon that build.mjs makes, or by the program where there is no addon.
-import { spawnSync } from "node:child_process";
-import { createRequire } from "node:module";
-import { fileURLToPath } from "node:url";
-import { jobOf } from "./lib/convert.mjs";
+// Prints ESTree trees and jobs, by the addon that build.mjs makes, in this process, or by the program where there is no addon.
+import { jobAndNodes, jobOf as jobOfTree, NotRead } from "./lib/convert.mjs";
 import { licencesOf } from "./lib/licences.mjs";
+import { placeOfFault } from "./lib/fault_places.mjs";
+import { answered } from "./lib/printer.mjs";
+import { renaming as renamingOfTree } from "./lib/scopes.mjs";
 import { sourceMapOf } from "./lib/source_map.mjs";
-import { JsgenError, errorOf, errorOfLine } from "./faults.mjs";
+import { JsgenError } from "./faults.mjs";
 
-export { JsgenError };
+export { JsgenError, NotRead };
 
-const PROGRAM = process.env.JSGEN ?? fileURLToPath(new URL("../../jsgen", import.meta.url));
 const NAMES = { minify: "minify", asciiOnly: "ascii_only", singleQuote: "single_quote" };
 const OTHERS = new Set(["source", "indent", "names", "options", "sourceMap", "comments"]);
 const KINDS = ["normal", "jsdoc", "annotation"];
 const NO_COMMENTS = { normal: false, jsdoc: false, annotation: false, legal: "none" };
 const UNNAMED = "<source>";
 
-/** The addon, or null where it isn't built. */
-export const addon = loaded();
-
-function loaded() {
-  try {
-    return createRequire(import.meta.url)("./build/jsgen.node");
-  } catch {
-    return null;
-  }
-}
-
 /** The code of a job: JSON as a string, or as bytes of UTF-8. */
 export function printJob(job) {
-  if (typeof job !== "string" && !(job instanceof Uint8Array)) throw new TypeError("a job is a string or a Uint8Array");
-  const bytes = typeof job === "string" ? Buffer.from(job) : job;
-  return answered("print", bytes);
+  return answered("print", job);
 }
 
-// What is asked of the bytes of a job by one of the program's words.
-function answered(word, bytes) {
-  return addon ? byAddon(word, bytes) : byProgram(word, bytes);
+/** The lines of the source map of a job. */
+export function mapJob(job) {
+  return answered("map", job);
 }
 
-function byAddon(word, bytes) {
-  const answer = addon[`${word}Job`](bytes);
-  if (answer.status !== 0) throw errorOf(answer);
-  return answer.text;
+/** Throws the JsgenError of a job that wouldn't be printed. */
+export function checkJob(job) {
+  answered("check", job);
 }
 
-function byProgram(word, bytes) {
-  const ran = spawnSync(PROGRAM, [word], { input: bytes, maxBuffer: 2 ** 30 });
-  if (ran.error) throw ran.error;
-  if (ran.status !== 0) throw errorOfLine(ran.status ?? ran.signal, ran.stderr.toString("utf8").trim());
-  return ran.stdout.toString("utf8");
+/** The job of an ESTree tree, as `jobOf` of lib/convert.mjs makes it. */
+export function jobOf(program, settings) {
+  return unlessTooDeep(() => jobOfTree(program, settings));
+}
+
+/** The tables of new names of an ESTree tree, as `renaming` of lib/scopes.mjs makes them. */
+export function renaming(...given) {
+  return unlessTooDeep(() => renamingOfTree(...given));
 }
 
 /** Prints an ESTree tree of a module. */
@@ -57,18 +45,49 @@ export function print(program, settings = {}) {
   if (program === null || typeof program !== "object") throw new TypeError("a program is an ESTree node");
   const { source } = settings;
   const options = optionsOf(settings);
-  const job = jobOf(program.type === "File" ? program.program : program, {
-    source,
-    names: settings.names ?? null,
-    options,
-    spans: source !== undefined,
-    comments: source === undefined ? [] : (program.comments ?? program.program?.comments ?? []),
-  });
-  const bytes = Buffer.from(JSON.stringify(job));
-  const map = settings.sourceMap ? sourceMapOf(answered("map", bytes), { name: options.source_map_path, source }) : null;
-  const printed = { code: printJob(bytes), map };
+  const comments = source === undefined ? [] : (program.comments ?? program.program?.comments ?? []);
+  const tree = program.type === "File" ? program.program : program;
+  const made = unlessTooDeep(() => jobAndNodes(tree, { source, names: settings.names ?? null, options, spans: source !== undefined, comments }));
+  try {
+    return printed(textOf(made.job), options, settings);
+  } catch (error) {
+    throw error instanceof JsgenError ? placed(error, { ...made, comments, source }) : error;
+  }
+}
+
+// A text that is too long for a string is too long for a job.
+function textOf(job) {
+  try {
+    return JSON.stringify(job);
+  } catch (error) {
+    throw error instanceof RangeError ? new JsgenError("input too long", { status: 7, cause: error }) : error;
+  }
+}
+
+function printed(job, options, { source, sourceMap }) {
+  const bytes = Buffer.from(job);
+  const map = sourceMap ? sourceMapOf(mapJob(bytes), { name: options.source_map_path, source }) : null;
+  const code = printJob(bytes);
   const areApart = source !== undefined && /^(linked|external)$/.test(options.legal);
-  return areApart ? { ...printed, licences: licencesOf(answered("legal", bytes), source) } : printed;
+  return areApart ? { code, map, licences: licencesOf(answered("legal", bytes), source) } : { code, map };
+}
+
+// The error with the place of its fault, where one is known.
+function placed(error, made) {
+  if (error.status !== 1 && error.status !== 3) return error;
+  const { words, ...place } = placeOfFault(error, { ...made, check: (job) => checkJob(textOf(job)) });
+  if (words !== "") error.message += ` (${words})`;
+  return Object.assign(error, place);
+}
+
+// The converter and the tables of names go down the tree by calls.
+function unlessTooDeep(work) {
+  try {
+    return work();
+  } catch (error) {
+    if (!(error instanceof RangeError) || !/call stack/.test(error.message)) throw error;
+    throw new JsgenError("the tree is nested too deeply for this process's stack (node --stack-size)", { cause: error });
+  }
 }
 
 function optionsOf(settings) {
@@ -104,9 +123,8 @@ function commentOptions(comments) {
 
 function legalOf(legal) {
   if (["none", "inline", "eof", "external"].includes(legal)) return { legal };
-  // The code names the path in a comment, which would end there.
-  if (typeof legal?.linked === "string" && !legal.linked.includes("*/")) return { legal: "linked", legal_path: legal.linked };
-  throw new TypeError('comments.legal is "none", "inline", "eof", "external" or { linked: PATH }, without */');
+  if (typeof legal?.linked === "string") return { legal: "linked", legal_path: legal.linked };
+  throw new TypeError('comments.legal is "none", "inline", "eof", "external" or { linked: PATH }');
 }
 
 function indentOf(indent) {

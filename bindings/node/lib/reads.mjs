@@ -1,41 +1,34 @@
-// What of the format of jobs is read by now: the types of rows, their fields and the words in these, by docs/job.schema.json.
-import { readFileSync } from "node:fs";
+// What of the format of jobs is read by now: the types of rows, their fields and the words in these.
+import { OPTIONS, TYPES } from "./table.mjs";
 
-const schema = JSON.parse(readFileSync(new URL("../../../docs/job.schema.json", import.meta.url), "utf8"));
-const types = new Set(schema.$defs.row.properties.type.enum);
-const known = new Map();
+// The words of each field that is read, or null, by the type. A large program asks for each many times.
+const known = new Map(Object.entries(TYPES).map(([type, fields]) => [type, new Map(Object.entries(fields).filter(([, words]) => words !== false))]));
+const options = new Set(OPTIONS);
+
+const HEAD = ["options", "symbols", "references", "private", "rows"];
+const FIRST = ["type", "span"];
 
 /** Whether rows of the type are read. */
 export function isType(type) {
-  return types.has(type);
+  return known.has(type);
 }
 
 /** Whether the field of rows of this type is read. */
 export function isField(type, name) {
-  return fieldsOf(type).has(name);
+  return known.get(type).has(name);
 }
 
 /** The words that the field may hold, or null where it holds no word. */
 export function wordsOf(type, name) {
-  return fieldsOf(type).get(name) ?? null;
-}
-
-// The words of each field of these rows that is read, or null. They are looked up once: a large program asks for each many times.
-function fieldsOf(type) {
-  if (!known.has(type)) {
-    const fields = Object.entries(schema.$defs[type].properties).filter(([, field]) => field.type !== "null");
-    known.set(type, new Map(fields.map(([name, field]) => [name, wordsIn(field)])));
-  }
-  return known.get(type);
-}
-
-function wordsIn(field) {
-  const kinds = field.anyOf ?? [field];
-  return kinds.find((kind) => kind.enum)?.enum ?? null;
+  return known.get(type).get(name) ?? null;
 }
 
 /** Whether the option may be given. */
 export function isOption(name) {
-  const options = schema.properties.options.anyOf.find((kind) => kind.properties).properties;
-  return options[name] !== undefined && options[name].type !== "null";
+  return options.has(name);
+}
+
+/** The name of the field of this number in rows of the type, or in the job's head where the type is null. */
+export function fieldName(type, number) {
+  return (type === null ? HEAD : [...FIRST, ...Object.keys(TYPES[type] ?? {})])[number];
 }

@@ -1,4 +1,4 @@
-// Source maps of version 3, by the package `source-map`, of the lines that the program's word `map` writes; and how a code names
+// Source maps of version 3, by the package `@jridgewell/gen-mapping`, of the lines that the program's word `map` writes; and how a code names
 // its map.
 import { packageNamed } from "./packages.mjs";
 
@@ -10,19 +10,14 @@ const NAME = /^name (".*")$/;
  * that the code is written to, which may be left out.
  */
 export function sourceMapOf(lines, { name, source, file }) {
-  const { SourceMapGenerator } = packageNamed("source-map");
+  const { GenMapping, addSegment, toEncodedMap } = packageNamed("@jridgewell/gen-mapping");
   const { tokens, names } = readLines(lines);
-  const generator = new SourceMapGenerator({ file });
+  const made = new GenMapping();
   for (const [generatedLine, generatedColumn, line, column, number] of tokens) {
-    generator.addMapping({
-      generated: { line: generatedLine + 1, column: generatedColumn },
-      original: { line: line + 1, column },
-      source: name,
-      ...(number !== undefined && { name: names[number] }),
-    });
+    addSegment(made, generatedLine, generatedColumn, name, line, column, number === undefined ? undefined : names[number]);
   }
-  const made = generator.toJSON();
-  return { version: 3, ...(file !== undefined && { file }), sources: [name], sourcesContent: [source], names: made.names, mappings: made.mappings };
+  const { names: used, mappings } = toEncodedMap(made);
+  return { version: 3, ...(file !== undefined && { file }), sources: [name], sourcesContent: [source], names: used, mappings };
 }
 
 // The numbers of each token, and the names.

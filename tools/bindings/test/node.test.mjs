@@ -14,9 +14,10 @@ import { program, unbuilt, unmapped } from "../../estree/program.mjs";
 
 const here = (name) => fileURLToPath(new URL(name, import.meta.url));
 if (!unbuilt) process.env.JSGEN = program();
-const { JsgenError, addon, print, printJob } = await import("../../../bindings/node/index.mjs");
+const { JsgenError, checkJob, jobOf: jobOfTree, mapJob, print, printJob, renaming } = await import("../../../bindings/node/index.mjs");
+const { addon } = await import("../../../bindings/node/lib/printer.mjs");
 const skip = addon === null && unbuilt;
-const withoutMaps = unmapped || (packageOrNull("source-map") === null && "source-map isn't installed");
+const withoutMaps = unmapped || (packageOrNull("@jridgewell/gen-mapping") === null && "@jridgewell/gen-mapping isn't installed");
 const withoutAddon = addon === null && "the addon isn't built: node bindings/node/build.mjs";
 
 const SOURCE = 'import { a } from "b";\n\nexport class C extends a {\n  #d = 1;\n}\n';
@@ -50,6 +51,43 @@ test("a job is printed, as a string or as bytes", { skip }, () => {
   assert.equal(printJob(FIRST), "const a = 1 + 2;\n");
   assert.equal(printJob(FIRST.toString()), "const a = 1 + 2;\n");
   assert.equal(printJob('{"rows":[{"type":"Program","kind":"module"}]}'), "");
+});
+
+test("a job is checked, and its map is told, as a string or as bytes", { skip }, () => {
+  const job = jobOfSource("const a = 1;", { source_map_path: "x.js" });
+  for (const given of [job, job.toString(), new Uint8Array(job)]) {
+    assert.equal(checkJob(given), undefined);
+    assert.equal(mapJob(given), "0 0 0 0\n0 6 0 6\n0 10 0 10\n");
+  }
+  for (const call of [checkJob, mapJob, printJob]) {
+    assert.throws(() => call("{"), { name: "JsgenError", message: "not a job: Json", status: 3 });
+    assert.throws(() => call({}), { name: "TypeError", message: "a job is a string or a Uint8Array" });
+  }
+});
+
+test("bytes that other threads may write are taken too", { skip }, () => {
+  const shared = new Uint8Array(new SharedArrayBuffer(FIRST.length));
+  shared.set(FIRST);
+  assert.equal(printJob(shared), "const a = 1 + 2;\n");
+});
+
+test("a tree that is too deep for the converter says so", () => {
+  let node = { type: "Literal", value: 1 };
+  for (let level = 0; level < 100_000; level += 1) node = { type: "UnaryExpression", operator: "!", prefix: true, argument: node };
+  const tree = { type: "Program", sourceType: "module", body: [{ type: "ExpressionStatement", expression: node }] };
+  for (const call of [print, jobOfTree, renaming]) assert.throws(() => call(tree), { name: "JsgenError", message: /^the tree is nested too deeply for this process's stack/ });
+});
+
+const linked = (path) => ({ source: "a", comments: { legal: { linked: path } } });
+
+test("a path of licences is a text", { skip }, () => {
+  assert.equal(print(parsed("a"), linked("a.txt")).code, "a;\n");
+  assert.throws(() => print(parsed("a"), linked(5)), TypeError);
+});
+
+test("a path of licences that no comment can hold breaks the rule of comments at the program", { skip }, () => {
+  const program = parsed("a");
+  for (const path of ["a*/b", "a\nb"]) assert.throws(() => print(program, linked(path)), { name: "JsgenError", rule: "Comment", node: program });
 });
 
 test("faults are told by kind and place", { skip }, () => {

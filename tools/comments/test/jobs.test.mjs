@@ -14,7 +14,8 @@ const program = join(folder, "program");
 writeFileSync(program, `#!/bin/sh\ncat > ${folder}/$1\ncase $1 in print) echo 'a;' ;; legal) echo '0 9' ;; *) exit 2 ;; esac\n`);
 chmodSync(program, 0o755);
 process.env.JSGEN = program;
-const { addon, print } = await import("../../../bindings/node/index.mjs");
+const { print } = await import("../../../bindings/node/index.mjs");
+const { addon } = await import("../../../bindings/node/lib/printer.mjs");
 const skip = addon !== null && "the addon prints, not the program";
 
 const SOURCE = "/*! é */\na; // b";
