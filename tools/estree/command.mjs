@@ -4,6 +4,7 @@ import { writeFileSync } from "node:fs";
 import { basename, dirname, relative, resolve, sep } from "node:path";
 import { fileURLToPath } from "node:url";
 import { licenceFile } from "../../bindings/node/lib/licences.mjs";
+import { MalformedTree, NotRead } from "../../bindings/node/lib/refusals.mjs";
 import { dataUrl, linked } from "../../bindings/node/lib/source_map.mjs";
 
 const JSGEN = process.env.JSGEN ?? fileURLToPath(new URL("../../jsgen", import.meta.url));
@@ -111,7 +112,7 @@ export async function run(usage, command) {
     process.exitCode = (await command(process.argv.slice(2))) ?? 0;
   } catch (error) {
     const isUsage = error instanceof Refused;
-    const isInput = error instanceof SyntaxError || error.name === "NotRead" || error.code === "ENOENT";
+    const isInput = [SyntaxError, NotRead, MalformedTree].some((kind) => error instanceof kind) || error.code === "ENOENT";
     if (!isUsage && !isInput) throw error;
     process.stderr.write(isUsage ? `${error.message}\nusage: ${usage}\n` : `${error.message}\n`);
     process.exitCode = 1;

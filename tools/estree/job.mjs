@@ -7,5 +7,5 @@ await run("node job.mjs [--minify] [--ascii-only] [--single-quote] < TREE.json",
   const { options, others } = optionsOf(words);
   if (others.length > 0) throw new Refused(`unknown word ${others[0]}`);
   const tree = JSON.parse(readFileSync(0, "utf8"));
-  process.stdout.write(`${JSON.stringify(jobOf(tree.type === "File" ? tree.program : tree, { options }))}\n`);
+  process.stdout.write(`${JSON.stringify(jobOf(tree, { options }))}\n`);
 });

@@ -82,6 +82,11 @@ function isShorthand({ key, computed, value }) {
   return !computed && key.type === "Identifier" && target.type === "Identifier" && target.name === key.name;
 }
 
+// Whether a method is written as the constructor of its class.
+function isConstructor({ kind, key, computed, static: isStatic }) {
+  return (key.name ?? key.value) === "constructor" && key.type !== "PrivateIdentifier" && !computed && !isStatic && kind !== "get" && kind !== "set";
+}
+
 class Rows {
   constructor(root, source, spans, negative, names) {
     this.root = root;
@@ -216,6 +221,7 @@ class Rows {
     if (this.annotations.size > 0) this.annotateStatement(node);
     switch (node.type) {
       case "ExpressionStatement":
+        if (typeof node.directive === "string") this.refuse("a directive that doesn't stand at the front of a body", node);
         return this.add(node.type, node, { expression: this.expression(node.expression) });
       case "BlockStatement":
         return this.add(node.type, node, { body: this.several(node.body, this.statement) });
@@ -686,6 +692,7 @@ class Rows {
 
   property(node) {
     if (node.type === "SpreadElement") return this.element(node);
+    if (node.method && node.kind !== "init") this.fail(node, `is of kind ${node.kind} and a method`);
     return this.add("ObjectProperty", node, {
       kind: node.kind,
       key: this.key(node),
@@ -755,6 +762,7 @@ class Rows {
       case "StaticBlock":
         return this.add(node.type, node, { body: this.several(node.body, this.statement) });
       case "MethodDefinition":
+        if ((node.kind === "constructor") !== isConstructor(node)) this.fail(node, `is of kind ${node.kind}, which its key contradicts`);
         return this.add(node.type, node, {
           kind: node.kind, key: this.key(node), value: this.expression(node.value), computed: node.computed, is_static: node.static,
         });

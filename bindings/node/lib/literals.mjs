@@ -123,7 +123,7 @@ function normalIn(raw) {
 
 // In JSON a regular expression is an object without members, and infinity and what isn't known are null.
 function isLost(value) {
-  return !isGiven(value) || (typeof value === "object" && Object.keys(value).length === 0);
+  return !isGiven(value) || (Object.getPrototypeOf(value) === Object.prototype && Object.keys(value).length === 0);
 }
 
 function lostOf(value, raw) {

@@ -15,13 +15,14 @@ const BABEL = 'the tree is of Babel\'s own kind; its plugin ["estree", { classFe
  * MalformedTree where a member is missing or holds what it can't, which names it by the way from the program to it.
  */
 export function validate(program, refuse) {
-  if (!isNode(program)) throw new MalformedTree(isObject(program) ? "program.type is no text" : "program is no node");
+  if (!isNode(program)) throw new MalformedTree(`program${faultOf(program)}`);
   if (membersOf(program.type) !== undefined && program.type !== "Program") throw new MalformedTree(`program is of type ${program.type}, not Program`);
   new Validator(program, refuse).node(program);
 }
 
-function isObject(value) {
-  return typeof value === "object" && value !== null;
+// Why a value is no node.
+function faultOf(value) {
+  return typeof value === "object" && value !== null && !Array.isArray(value) ? ".type is no text" : " is no node";
 }
 
 function isNode(value) {
@@ -66,7 +67,7 @@ class Validator {
     if (!isNeeded && (value === undefined || value === null)) return;
     switch (holds) {
       case "node":
-        if (!isNode(value)) this.malformed(node, `.${name}`, value);
+        if (!isNode(value)) this.fail(node, `.${name}${faultOf(value)}`);
         this.child(node, name, value, types);
         break;
       case "list":
@@ -74,7 +75,7 @@ class Validator {
         if (!Array.isArray(value)) this.fail(node, `.${name} is no list`);
         for (let at = 0; at < value.length; at += 1) {
           if (value[at] === null && holds === "holes") continue;
-          if (!isNode(value[at])) this.malformed(node, `.${name}[${at}]`, value[at]);
+          if (!isNode(value[at])) this.fail(node, `.${name}[${at}]${faultOf(value[at])}`);
           this.child(node, name, value[at], types);
         }
         break;
@@ -97,10 +98,6 @@ class Validator {
       this.fail(value, ` is of type ${value.type}, which can't be the ${name} of ${node.type}`);
     }
     this.node(value);
-  }
-
-  malformed(node, way, value) {
-    this.fail(node, isObject(value) && !Array.isArray(value) ? `${way}.type is no text` : `${way} is no node`);
   }
 
   fail(node, what) {
