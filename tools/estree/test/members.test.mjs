@@ -1,7 +1,9 @@
 // What the nodes of a tree have: each member is read or refused, and a tree that is none is told by the way to where it is broken.
 // These tests need no built program.
 import assert from "node:assert/strict";
+import { spawnSync } from "node:child_process";
 import { test } from "node:test";
+import { fileURLToPath } from "node:url";
 import { isDeepStrictEqual } from "node:util";
 import { MalformedTree, NotRead, jobOf } from "../../../bindings/node/lib/convert.mjs";
 import { parsed } from "../parser.mjs";
@@ -266,4 +268,17 @@ test("a property of a target whose name was changed is no shorthand", () => {
 test("a node without a place is told by the way to it", () => {
   const program = { type: "Program", body: [{ type: "ExpressionStatement", expression: { type: "JSXElement" } }] };
   assert.throws(() => jobOf(program), { name: "NotRead", message: "JSXElement at program.body[0].expression is not read yet" });
+});
+
+test("the command that writes jobs tells a tree that is none in one line", () => {
+  const command = fileURLToPath(new URL("../job.mjs", import.meta.url));
+  for (const [tree, line] of [
+    ["null", "program is no node"],
+    ["{}", "program.type is no text"],
+    ['{"type":"Program","body":[null]}', "program.body[0] is no node"],
+    ['{"type":"Program","body":[{"type":"WithStatement","start":0}]}', "WithStatement at 0 is not read yet"],
+  ]) {
+    const { status, stdout, stderr } = spawnSync(process.execPath, [command], { input: tree });
+    assert.deepEqual([status, stdout.toString(), stderr.toString()], [1, "", `${line}\n`]);
+  }
 });
