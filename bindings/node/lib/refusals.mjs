@@ -26,7 +26,8 @@ export function endOf(node) {
 /** Where a node is: in which line of the source, at which offset where that isn't given, or by which way where it has none. */
 export function placeOf(node, source, root) {
   const start = startOf(node);
-  if (start === undefined) return ` at ${wayTo(root, node)}`;
+  const way = start === undefined ? wayTo(root, node) : "";
+  if (start === undefined) return way === "" ? "" : ` at ${way}`;
   if (source === undefined) return ` at ${start}`;
   const before = source.slice(0, start).split(/\r\n|[\n\r\u2028\u2029]/);
   return ` in line ${before.length}, column ${before.at(-1).length + 1}`;
