@@ -101,6 +101,7 @@ test("what Babel's plugins read is refused by its place", { skip: !babel && "@ba
   assert.equal(refusalOf("class A { private b; }", "typescript"), "accessibility of PropertyDefinition in line 1, column 11");
   assert.equal(refusalOf("@a class B {}", ["decorators", { version: "2022-03" }]), "decorators of ClassDeclaration in line 1, column 1");
   assert.equal(refusalOf("import a from 'x' assert { type: 'json' };", "importAssertions"), "the keyword assert of ImportDeclaration in line 1, column 1");
+  assert.equal(refusalOf("import 'x' assert {};", "importAssertions"), "the keyword assert of ImportDeclaration in line 1, column 1");
   assert.equal(refusalOf("<a/>;", "jsx"), "JSXElement in line 1, column 1");
   assert.match(refusalOf("let a = 1; let { b } = c;", "typescript"), /^\d+$/);
   assert.match(refusalOf("let a = 1; let { b } = c; import d, { e } from 'f'; class G { h; i() {} }", "flow"), /^\d+$/);
