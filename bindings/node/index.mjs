@@ -10,7 +10,7 @@ import { JsgenError } from "./faults.mjs";
 export { JsgenError, NotRead };
 
 const NAMES = { minify: "minify", asciiOnly: "ascii_only", singleQuote: "single_quote" };
-const OTHERS = new Set(["source", "indent", "names", "options", "sourceMap", "comments"]);
+const OTHERS = new Set(["source", "indent", "names", "options", "sourceMap", "comments", "keepSourceMappingUrl"]);
 const KINDS = ["normal", "jsdoc", "annotation"];
 const NO_COMMENTS = { normal: false, jsdoc: false, annotation: false, legal: "none" };
 const UNNAMED = "<source>";
@@ -46,8 +46,9 @@ export function print(program, settings = {}) {
   const { source } = settings;
   const options = optionsOf(settings);
   const comments = source === undefined ? [] : (program.comments ?? program.program?.comments ?? []);
-  const tree = program.type === "File" ? program.program : program;
-  const made = unlessTooDeep(() => jobAndNodes(tree, { source, names: settings.names ?? null, options, spans: source !== undefined, comments }));
+  const keepSourceMappingUrl = flag("keepSourceMappingUrl", settings.keepSourceMappingUrl ?? false);
+  const asked = { source, names: settings.names ?? null, options, spans: source !== undefined, comments, keepSourceMappingUrl };
+  const made = unlessTooDeep(() => jobAndNodes(program, asked));
   try {
     return printed(textOf(made.job), options, settings);
   } catch (error) {
@@ -85,8 +86,8 @@ function unlessTooDeep(work) {
   try {
     return work();
   } catch (error) {
-    if (!(error instanceof RangeError) || !/call stack/.test(error.message)) throw error;
-    throw new JsgenError("the tree is nested too deeply for this process's stack (node --stack-size)", { cause: error });
+    if (!(error instanceof RangeError) || !/stack/.test(error.message)) throw error;
+    throw new JsgenError("the tree is nested too deeply for this process's stack (node --stack-size)", { status: 6, cause: error });
   }
 }
 

@@ -1,5 +1,5 @@
 // `node tools/estree/job.mjs [--minify] [--ascii-only] [--single-quote] < TREE`: the job of an ESTree tree in JSON.
-import { Ended, STATUS, faultOf, readText, writeOut } from "../../bindings/node/lib/command.mjs";
+import { faultOf, readText, writeOut } from "../../bindings/node/lib/command.mjs";
 import { jobOf } from "../../bindings/node/lib/convert.mjs";
 import { Refused, run } from "./command.mjs";
 
@@ -7,9 +7,7 @@ const FLAGS = { minify: { type: "boolean" }, "ascii-only": { type: "boolean" }, 
 
 function treeIn(text) {
   try {
-    const tree = JSON.parse(text);
-    if (typeof tree?.type !== "string") throw new Ended("<stdin>: no ESTree tree", STATUS.source);
-    return tree.type === "File" ? tree.program : tree;
+    return JSON.parse(text);
   } catch (error) {
     throw faultOf(error, "<stdin>", text);
   }

@@ -3,6 +3,7 @@ import { fstatSync, readFileSync } from "node:fs";
 import { buffer } from "node:stream/consumers";
 import { parseArgs } from "node:util";
 import { excerptAt, placeAt } from "./places.mjs";
+import { MalformedTree, NotRead } from "./refusals.mjs";
 
 /** The statuses of a command: those of the program (docs/FORMAT.md), and of what isn't built or installed. */
 export const STATUS = { done: 0, source: 1, usage: 2, read: 4, write: 5, memory: 6, unbuilt: 70 };
@@ -99,11 +100,16 @@ export function faultOf(error, name, source) {
 }
 
 function isStackFull(error) {
-  return error instanceof RangeError && error.message === "Maximum call stack size exceeded";
+  return error instanceof RangeError && /stack/.test(error.message);
 }
 
 function isOfSource(error) {
-  return error instanceof SyntaxError || error.name === "NotRead" || (error.name === "JsgenError" && !error.message.startsWith("not built"));
+  return isOfTree(error) || (error.name === "JsgenError" && !error.message.startsWith("not built"));
+}
+
+// Of the parser, or of the converter.
+function isOfTree(error) {
+  return [SyntaxError, NotRead, MalformedTree].some((kind) => error instanceof kind);
 }
 
 // Acorn counts columns from 0.
@@ -117,7 +123,7 @@ function placeOf(error, source) {
 // An error of a call to the system that nothing foresees is one of reading, since writing is foreseen.
 function statusOf(error) {
   if (Number.isInteger(error.status)) return error.status;
-  if (error instanceof SyntaxError || error.name === "NotRead") return STATUS.source;
+  if (isOfTree(error)) return STATUS.source;
   if (isStackFull(error)) return STATUS.memory;
   return error.syscall === undefined ? STATUS.unbuilt : STATUS.read;
 }
@@ -127,7 +133,7 @@ function statusOf(error) {
  * command itself is told with where it was thrown.
  */
 export function told(error, name) {
-  const isOwnFault = /^(Type|Reference|Range)Error$/.test(error.name) && !isStackFull(error);
+  const isOwnFault = !isOfTree(error) && /^(Type|Reference|Range)Error$/.test(error.name) && !isStackFull(error);
   const line = isOwnFault ? error.stack.split("\n", 2).map((part) => part.trim()).join(" ") : error.message;
   process.stderr.write(error instanceof SourceFault || name === undefined ? `${line}\n` : `${name}: ${line}\n`);
   return statusOf(error);

@@ -1,25 +1,24 @@
 // From an ESTree tree (acorn, espree, meriyah; Babel's with its plugin `estree`) to a job of jsgen (docs/FORMAT.md).
 import { commentsOf } from "./comments.mjs";
+import { literalOf, stringIn } from "./literals.mjs";
+import { validate } from "./validate.mjs";
 import { isField, isOption, isType, wordsOf } from "./reads.mjs";
-import { bytesAt, isWholeNumber, numberText, unitsOf, withoutParentheses } from "./texts.mjs";
+import { MalformedTree, NotRead, causeOf, endOf, placeOf, startOf, wayTo } from "./refusals.mjs";
+import { bytesAt, isWholeNumber, unitsOf, withoutParentheses } from "./texts.mjs";
 
-/** A part of a program that jsgen doesn't read yet. `node` is the ESTree node. */
-export class NotRead extends Error {
-  constructor(what, node, source) {
-    super(`${what}${placeOf(node, source)} is not read yet`);
-    this.name = "NotRead";
-    this.node = node;
-  }
-}
+export { MalformedTree, NotRead };
+
+const SCRIPT = 'ask the parser for sourceType: "module", since the default of acorn and espree is a script';
 
 /**
- * The job that prints a program. `program` is the ESTree node of a module. Of the members of the second argument, all of
- * which may be left out, `source` is the text that the program was parsed from, by which spans are counted in bytes;
+ * The job that prints a program. `program` is the ESTree node of a module, or Babel's `File` of one. Of the members of the second
+ * argument, all of which may be left out, `source` is the text that the program was parsed from, by which spans are counted in bytes;
  * `options` are the options of the job; `spans: false` leaves spans out; `negative: true` takes `-1` for a negative
  * number in place of an operation on 1; `comments` are the comments of the source in order, as acorn's `onComment` lists them,
  * and are left out where they aren't given; and `names` are the tables by which names are printed, as `renaming`
  * (./scopes.mjs) makes them of this tree. The source is put into the job where something asks for it: comments, or the option
- * `source_map_path`. Throws `NotRead` where the program has what jsgen doesn't read yet.
+ * `source_map_path`. Throws `NotRead` where the program has what jsgen doesn't read yet, and `MalformedTree`, a TypeError, where
+ * it is no ESTree tree.
  */
 export function jobOf(program, settings) {
   return jobAndNodes(program, settings).job;
@@ -31,27 +30,16 @@ export function jobAndNodes(program, { source, options = {}, spans = true, negat
     if (!isOption(name)) throw new NotRead(`the option ${name}`);
   }
   if (comments.length > 0 && source === undefined) throw new TypeError("comments are given without the source that they stand in");
-  const rows = new Rows(source, spans, negative, names);
-  rows.program(program, comments, comments.length > 0 || (options.source_map_path ?? null) !== null);
+  const root = program?.type === "File" ? program.program : program;
+  const rows = new Rows(root, source, spans, negative, names);
+  try {
+    rows.program(root, comments, comments.length > 0 || (options.source_map_path ?? null) !== null);
+  } catch (error) {
+    throw causeOf(error, root);
+  }
   const tables = names ? { symbols: names.symbols, references: names.references, private: names.private } : {};
   const job = { ...(Object.keys(options).length > 0 ? { options } : {}), ...tables, rows: rows.rows };
   return { job, nodes: rows.nodes };
-}
-
-function startOf(node) {
-  return node?.start ?? node?.range?.[0];
-}
-
-function endOf(node) {
-  return node?.end ?? node?.range?.[1];
-}
-
-function placeOf(node, source) {
-  const start = startOf(node);
-  if (start === undefined) return "";
-  if (source === undefined) return ` at ${start}`;
-  const before = source.slice(0, start).split(/\r\n|[\n\r\u2028\u2029]/);
-  return ` in line ${before.length}, column ${before.at(-1).length + 1}`;
 }
 
 function isFunction(node) {
@@ -73,7 +61,7 @@ function callIn(node) {
     case "ConditionalExpression":
       return callIn(node.test);
     case "SequenceExpression":
-      return callIn(node.expressions[0]);
+      return node.expressions.length > 0 ? callIn(node.expressions[0]) : null;
     default:
       return null;
   }
@@ -84,12 +72,24 @@ function functionIn(node) {
   if (!node) return null;
   if (isFunction(node)) return node;
   if (/^Export(Named|Default)Declaration$/.test(node.type)) return functionIn(node.declaration);
-  const init = node.type === "VariableDeclaration" && node.kind === "const" && node.declarations[0].init;
+  const init = node.type === "VariableDeclaration" && node.kind === "const" && node.declarations[0]?.init;
   return init && isFunction(withoutParentheses(init)) ? withoutParentheses(init) : null;
 }
 
+// Whether a property says its key again as its value, which may have been changed since.
+function isShorthand({ key, computed, value }) {
+  const target = value.type === "AssignmentPattern" ? value.left : value;
+  return !computed && key.type === "Identifier" && target.type === "Identifier" && target.name === key.name;
+}
+
+// Whether a method is written as the constructor of its class.
+function isConstructor({ kind, key, computed, static: isStatic }) {
+  return (key.name ?? key.value) === "constructor" && key.type !== "PrivateIdentifier" && !computed && !isStatic && kind !== "get" && kind !== "set";
+}
+
 class Rows {
-  constructor(source, spans, negative, names) {
+  constructor(root, source, spans, negative, names) {
+    this.root = root;
     this.rows = [];
     this.nodes = [];
     this.source = source;
@@ -101,8 +101,17 @@ class Rows {
     this.byteAt = spans && source !== undefined ? bytesAt(source) : null;
   }
 
-  refuse(what, node) {
-    throw new NotRead(what, node, this.source);
+  refuse(what, node, hint) {
+    throw new NotRead(what, node, placeOf(node, this.source, this.root), hint);
+  }
+
+  // For a node that may not stand where it does.
+  fail(node, what) {
+    throw new MalformedTree(`${wayTo(this.root, node)} ${what}`);
+  }
+
+  misplaced(node, what) {
+    this.fail(node, `is of type ${node.type}, which is no ${what}`);
   }
 
   // Adds a row, without the fields that hold what stands for an absent one, and gives its number. `needed` is a field that
@@ -111,7 +120,7 @@ class Rows {
     if (!isType(type)) this.refuse(type, node);
     const row = { type };
     const start = startOf(node);
-    if (this.byteAt && start !== undefined && endOf(node) > start) row.span = [this.byteAt(start), this.byteAt(endOf(node))];
+    if (this.byteAt && start >= 0 && endOf(node) > start) row.span = [this.byteAt(start), this.byteAt(endOf(node))];
     for (const name of Object.keys(fields)) {
       const value = fields[name];
       const isAbsent = value === null || value === undefined || value === false || (Array.isArray(value) && value.length === 0);
@@ -126,7 +135,7 @@ class Rows {
   }
 
   several(nodes, convert) {
-    return nodes.map((node) => (node ? convert.call(this, node) : null));
+    return nodes.map((node) => (node === null ? null : convert.call(this, node)));
   }
 
   maybe(node, convert) {
@@ -136,10 +145,12 @@ class Rows {
   // ---- statements
 
   program(node, comments, hasSource) {
+    const type = node?.sourceType;
+    if (typeof type === "string" && type !== "module") this.refuse(type === "script" ? "a script" : `sourceType ${type} of Program`, node, SCRIPT);
+    validate(node, (what, part, hint) => this.refuse(what, part, hint));
     const rows = this.comments(comments);
     const hashbang = this.hashbang(node);
     const { directives, statements } = this.body(node.body);
-    if (node.sourceType === "script") this.refuse("a script", node);
     // Comments behind the last token belong to the text's end, where some trees don't end.
     const place = comments.length > 0 ? { start: startOf(node), end: this.source.length } : node;
     this.add("Program", place, { source: hasSource ? this.source : null, kind: "module", comments: rows, hashbang, directives, body: statements });
@@ -196,15 +207,21 @@ class Rows {
     const count = nodes.findIndex((node) => !isDirective(node));
     const directives = count < 0 ? nodes : nodes.slice(0, count);
     return {
-      directives: directives.map((node) => this.add("Directive", node, { directive: node.directive }, "directive")),
+      directives: directives.map((node) => this.directive(node)),
       statements: this.several(nodes.slice(directives.length), this.statement),
     };
+  }
+
+  directive(node) {
+    if (node.expression.value !== stringIn(node.directive)) this.refuse("a directive that isn't what its expression says", node);
+    return this.add("Directive", node, { directive: node.directive }, "directive");
   }
 
   statement(node) {
     if (this.annotations.size > 0) this.annotateStatement(node);
     switch (node.type) {
       case "ExpressionStatement":
+        if (typeof node.directive === "string") this.refuse("a directive that doesn't stand at the front of a body", node);
         return this.add(node.type, node, { expression: this.expression(node.expression) });
       case "BlockStatement":
         return this.add(node.type, node, { body: this.several(node.body, this.statement) });
@@ -275,7 +292,7 @@ class Rows {
           body: this.statement(node.body),
         });
       default:
-        return this.refuse(node.type, node);
+        return this.misplaced(node, "statement");
     }
   }
 
@@ -291,9 +308,7 @@ class Rows {
   }
 
   handler(node) {
-    return this.add(node.type, node, {
-      param: this.maybe(node.param, this.binding), type_annotation: node.param?.typeAnnotation, body: this.statement(node.body),
-    });
+    return this.add(node.type, node, { param: this.maybe(node.param, this.binding), body: this.statement(node.body) });
   }
 
   label(node) {
@@ -312,10 +327,9 @@ class Rows {
       node.type,
       node,
       {
-        import_kind: node.importKind ?? "value",
-        phase: node.phase,
+        import_kind: "value",
         specifiers: node.specifiers.length > 0 || hasBraces ? this.several(node.specifiers, this.importSpecifier) : null,
-        source: this.expression(node.source),
+        source: this.string(node.source),
         with_clause: this.withClause(node),
       },
       hasBraces ? "specifiers" : undefined,
@@ -325,32 +339,37 @@ class Rows {
   importSpecifier(node) {
     const local = this.binding(node.local);
     if (node.type !== "ImportSpecifier") return this.add(node.type, node, { local });
-    return this.add(node.type, node, { import_kind: node.importKind ?? "value", imported: this.moduleName(node.imported), local });
+    return this.add(node.type, node, { import_kind: "value", imported: this.moduleName(node.imported), local });
   }
 
   // The attributes of an import or an export. An empty clause is found in the source alone.
   withClause(node) {
-    const attributes = node.attributes ?? node.assertions ?? [];
-    const isEmpty = attributes.length === 0 && this.isBraceBetween({ start: endOf(node.source) }, { start: endOf(node) });
-    if (attributes.length === 0 && !isEmpty) return null;
-    const keyword = node.extra?.deprecatedAssertSyntax ? "assert" : "with";
-    return this.add("WithClause", null, { keyword, entries: this.several(attributes, this.attribute) });
+    const { attributes, assertions } = node;
+    const written = this.textBetween({ start: endOf(node.source) }, { start: endOf(node) });
+    const isAssert = assertions?.length > 0 || node.extra?.deprecatedAssertSyntax || /^\s*assert\s*\{/.test(written);
+    if (isAssert) this.refuse(`the keyword assert of ${node.type}`, node);
+    const isGiven = attributes?.length > 0 || written.includes("{");
+    return isGiven ? this.add("WithClause", null, { keyword: "with", entries: this.several(attributes ?? [], this.attribute) }) : null;
   }
 
   attribute(node) {
-    return this.add(node.type, node, { key: this.moduleName(node.key), value: this.expression(node.value) });
+    return this.add(node.type, node, { key: this.moduleName(node.key), value: this.string(node.value) });
   }
 
-  // Whether a brace stands in the source from the one start to the other, outside of comments.
   isBraceBetween(from, to) {
-    if (this.source === undefined || startOf(from) === undefined) return false;
-    return this.source.slice(startOf(from), startOf(to)).replace(/\/\*[^]*?\*\/|\/\/.*/g, "").includes("{");
+    return this.textBetween(from, to).includes("{");
+  }
+
+  // The source from the one start to the other, without comments.
+  textBetween(from, to) {
+    if (this.source === undefined || startOf(from) === undefined) return "";
+    return this.source.slice(startOf(from), startOf(to)).replace(/\/\*[^]*?\*\/|\/\/.*/g, "");
   }
 
   exported(node) {
     if (node.type === "ExportDefaultDeclaration") return this.add(node.type, node, { declaration: this.defaultExport(node.declaration) });
-    if (node.declaration) return this.add("ExportDeclaration", node, { declaration: this.statement(node.declaration) });
-    const export_kind = node.exportKind ?? "value";
+    if (node.declaration) return this.exportDeclaration(node);
+    const export_kind = "value";
     if (node.type === "ExportAllDeclaration") {
       return this.add(node.type, node, { export_kind, exported: this.maybe(node.exported, this.moduleName), ...this.from(node) });
     }
@@ -358,11 +377,18 @@ class Rows {
       const specifiers = this.several(node.specifiers, this.specifierFrom);
       return this.add("ExportFromDeclaration", node, { export_kind, specifiers, ...this.from(node) });
     }
+    if (node.attributes?.length > 0 || node.assertions?.length > 0) this.fail(node, "has attributes without a source");
     return this.add(node.type, node, { export_kind, specifiers: this.several(node.specifiers, this.specifierOfOwn) });
   }
 
+  exportDeclaration(node) {
+    const others = [...node.specifiers, ...(node.attributes ?? []), ...(node.assertions ?? [])];
+    if (others.length > 0 || node.source) this.fail(node, "has more than its declaration");
+    return this.add("ExportDeclaration", node, { declaration: this.statement(node.declaration) });
+  }
+
   from(node) {
-    return { source: this.expression(node.source), with_clause: this.withClause(node) };
+    return { source: this.string(node.source), with_clause: this.withClause(node) };
   }
 
   defaultExport(node) {
@@ -379,12 +405,17 @@ class Rows {
   }
 
   exportSpecifier(node, local) {
-    return this.add(node.type, node, { export_kind: node.exportKind ?? "value", local, exported: this.moduleName(node.exported) });
+    return this.add(node.type, node, { export_kind: "value", local, exported: this.moduleName(node.exported) });
   }
 
   // A name of an import, an export or an attribute: as it is written, or a string.
   moduleName(node) {
-    return node.type === "Identifier" ? this.name(node) : this.expression(node);
+    return node.type === "Identifier" ? this.name(node) : this.string(node);
+  }
+
+  string(node) {
+    if (typeof node.value !== "string") this.fail(node, "is no string");
+    return this.expression(node);
   }
 
   // ---- patterns
@@ -400,12 +431,17 @@ class Rows {
       case "AssignmentPattern":
         return this.add(node.type, node, { left: this.binding(node.left), right: this.expression(node.right) });
       default:
-        return this.refuse(node.type, node);
+        return this.misplaced(node, "binding pattern");
     }
   }
 
   bindingProperty(node) {
+    this.onlyInit(node);
     return this.add("BindingProperty", node, { key: this.key(node), value: this.binding(node.value), computed: node.computed });
+  }
+
+  onlyInit(node) {
+    if (node.kind !== "init" || node.method) this.fail(node, "is a method in a pattern");
   }
 
   bindingRest(node) {
@@ -416,6 +452,8 @@ class Rows {
   withRest(name, nodes, convert, convertRest) {
     const rest = nodes.at(-1)?.type === "RestElement" ? nodes.at(-1) : null;
     const others = rest ? nodes.slice(0, -1) : nodes;
+    const stray = others.find((node) => node?.type === "RestElement");
+    if (stray !== undefined) this.fail(stray, "is of type RestElement, and something stands behind it");
     return { [name]: this.several(others, convert), rest: this.maybe(rest, convertRest) };
   }
 
@@ -431,7 +469,7 @@ class Rows {
       case "ArrayPattern":
         return this.arrayTarget(inside);
       default:
-        return this.refuse(inside.type, inside);
+        return this.misplaced(inside, "assignment target");
     }
   }
 
@@ -451,7 +489,8 @@ class Rows {
   }
 
   targetProperty(node) {
-    if (node.shorthand) return this.targetIdentifier(node, node.value);
+    this.onlyInit(node);
+    if (node.shorthand && isShorthand(node)) return this.targetIdentifier(node, node.value);
     return this.add("AssignmentTargetPropertyProperty", node, {
       name: this.key(node), binding: this.targetOrDefault(node.value), computed: node.computed,
     });
@@ -481,7 +520,7 @@ class Rows {
       case "Super":
         return this.add(node.type, node, {});
       case "MetaProperty":
-        return this.add(node.meta.name === "new" ? "NewTarget" : "ImportMeta", node, {});
+        return this.add(this.metaType(node), node, {});
       case "MemberExpression":
         return this.member(node);
       case "CallExpression":
@@ -497,7 +536,7 @@ class Rows {
       case "ChainExpression":
         return this.add(node.type, node, { expression: this.expression(node.expression) });
       case "BinaryExpression":
-        if (node.left.type === "PrivateIdentifier") return this.privateIn(node);
+        if (node.left.type === "PrivateIdentifier" && node.operator === "in") return this.privateIn(node);
       // falls through: the same fields
       case "LogicalExpression":
         return this.add(node.type, node, {
@@ -533,23 +572,28 @@ class Rows {
         return this.function(node, "expression");
       case "ClassExpression":
         return this.class(node, "expression");
-      case "AwaitExpression":
-        return this.add(node.type, node, { argument: this.expression(node.argument) });
-      case "YieldExpression":
-        return this.add(node.type, node, { delegate: node.delegate, argument: this.maybe(node.argument, this.expression) });
       case "ImportExpression":
-        return this.add(node.type, node, {
-          phase: node.phase, source: this.expression(node.source), options: this.maybe(node.options, this.expression),
-        });
+        return this.importExpression(node);
       case "TemplateLiteral":
         return this.template(node);
       case "TaggedTemplateExpression":
-        return this.add(node.type, node, {
-          tag: this.expression(node.tag), type_arguments: node.typeArguments, quasi: this.template(node.quasi),
-        });
+        return this.add(node.type, node, { tag: this.expression(node.tag), quasi: this.template(node.quasi) });
       default:
-        return this.refuse(node.type, node);
+        return this.misplaced(node, "expression");
     }
+  }
+
+  metaType({ meta, property }) {
+    if (meta.name === "new" && property.name === "target") return "NewTarget";
+    if (meta.name === "import" && property.name === "meta") return "ImportMeta";
+    return this.fail(property, `is ${property.name}, of which ${meta.name} has none`);
+  }
+
+  // Babel has the second argument twice.
+  importExpression(node) {
+    const options = node.options ?? node.attributes;
+    if ((node.attributes ?? options) !== options) this.fail(node, "has options and other attributes");
+    return this.add(node.type, node, { source: this.expression(node.source), options: this.maybe(options, this.expression) });
   }
 
   template(node) {
@@ -560,21 +604,38 @@ class Rows {
 
   // A piece of a template: its text as it is written, with plain line ends, and what that stands for.
   piece(node) {
-    const { raw, cooked } = node.value;
+    const { raw, cooked = null } = node.value ?? {};
+    if (typeof raw !== "string" || !(cooked === null || typeof cooked === "string")) this.fail(node, "has no texts raw and cooked in its value");
     const row = this.add(node.type, node, { raw }, "raw");
-    if (typeof cooked === "string") this.rows[row].cooked = unitsOf(cooked);
+    if (cooked !== null) this.rows[row].cooked = unitsOf(cooked);
     return row;
   }
 
   literal(node) {
-    if (node.regex) return this.add("RegExpLiteral", node, { pattern: node.regex.pattern, flags: node.regex.flags });
-    if (typeof node.bigint === "string" || typeof node.value === "bigint") {
-      return this.add("BigIntLiteral", node, { value: BigInt(node.bigint ?? node.value).toString() });
+    const literal = this.said(node);
+    const row = this.unsigned(node, literal);
+    return literal.isNegative ? this.add("UnaryExpression", node, { operator: "-", argument: row }) : row;
+  }
+
+  said(node) {
+    const literal = literalOf(node);
+    if (literal.fault) this.refuse(literal.fault, node);
+    return literal;
+  }
+
+  unsigned(node, { type, text, value, pattern, flags }) {
+    switch (type) {
+      case "NumericLiteral":
+        return this.number(node, text, false);
+      case "BigIntLiteral":
+        return this.add(type, node, { value: text });
+      case "StringLiteral":
+        return this.add(type, node, { value: unitsOf(value) }, "value");
+      case "BooleanLiteral":
+        return this.add(type, node, { value }, "value");
+      default:
+        return this.add(type, node, { pattern, flags });
     }
-    if (node.value === null) return this.add("NullLiteral", node, {});
-    if (typeof node.value === "boolean") return this.add("BooleanLiteral", node, { value: node.value }, "value");
-    if (typeof node.value === "string") return this.add("StringLiteral", node, { value: unitsOf(node.value) }, "value");
-    return this.number(node, numberText(node.raw ?? String(node.value)), false);
   }
 
   number(node, text, negative) {
@@ -586,9 +647,9 @@ class Rows {
   unary(node) {
     const inside = node.argument;
     if (this.negative && node.operator === "-" && inside.type === "Literal") {
-      if (typeof inside.bigint === "string") return this.add("BigIntLiteral", node, { value: `-${BigInt(inside.bigint)}` });
-      const text = typeof inside.value === "number" ? numberText(inside.raw) : "";
-      if (isWholeNumber(text)) return this.number(node, text, true);
+      const { type, text, isNegative } = this.said(inside);
+      if (type === "BigIntLiteral" && !isNegative) return this.add(type, node, { value: `-${text}` });
+      if (type === "NumericLiteral" && !isNegative && isWholeNumber(text)) return this.number(node, text, true);
     }
     return this.add(node.type, node, { operator: node.operator, argument: this.expression(inside) });
   }
@@ -606,6 +667,7 @@ class Rows {
   }
 
   name(node) {
+    if (node.type !== "Identifier") this.misplaced(node, "name");
     return this.add("IdentifierName", node, { name: node.name });
   }
 
@@ -617,7 +679,9 @@ class Rows {
   key({ key, computed }) {
     if (computed) return this.expression(key);
     if (key.type === "PrivateIdentifier") return this.privateName(key);
-    return key.type === "Identifier" ? this.name(key) : this.expression(key);
+    if (key.type !== "Literal") return this.name(key);
+    if (this.said(key).isNegative) this.refuse("a negative number as a key", key);
+    return this.literal(key);
   }
 
   // An argument, or an element of an array.
@@ -628,6 +692,7 @@ class Rows {
 
   property(node) {
     if (node.type === "SpreadElement") return this.element(node);
+    if (node.method && node.kind !== "init") this.fail(node, `is of kind ${node.kind} and a method`);
     return this.add("ObjectProperty", node, {
       kind: node.kind,
       key: this.key(node),
@@ -644,9 +709,7 @@ class Rows {
     return this.add(node.type, node, {
       is_async: node.async,
       pure: this.pure.has(node),
-      type_parameters: node.typeParameters,
       params: this.parameters(node.params),
-      return_type: node.returnType,
       body: node.body.type === "BlockStatement" ? this.functionBody(node.body) : this.expression(node.body),
     });
   }
@@ -657,12 +720,9 @@ class Rows {
       id: this.maybe(node.id, this.binding),
       is_async: node.async,
       generator: node.generator,
-      declare: node.declare,
       pure: this.pure.has(node),
-      type_parameters: node.typeParameters,
       params: this.parameters(node.params),
-      return_type: node.returnType,
-      body: this.maybe(node.body, this.functionBody),
+      body: this.functionBody(node.body),
     });
   }
 
@@ -678,18 +738,12 @@ class Rows {
     const isDefault = node.type === "AssignmentPattern";
     const pattern = isDefault ? node.left : node;
     return this.add("FormalParameter", node, {
-      decorators: node.decorators,
-      pattern: this.binding(pattern),
-      optional: pattern.optional,
-      type_annotation: pattern.typeAnnotation,
-      initializer: isDefault ? this.expression(node.right) : null,
+      pattern: this.binding(pattern), initializer: isDefault ? this.expression(node.right) : null,
     });
   }
 
   restParameter(node) {
-    return this.add("FormalParameterRest", node, {
-      decorators: node.decorators, argument: this.binding(node.argument), type_annotation: node.typeAnnotation,
-    });
+    return this.add("FormalParameterRest", node, { argument: this.binding(node.argument) });
   }
 
   // ---- classes
@@ -697,14 +751,8 @@ class Rows {
   class(node, kind) {
     return this.add("Class", node, {
       kind,
-      decorators: node.decorators,
       id: this.maybe(node.id, this.binding),
-      declare: node.declare,
-      is_abstract: node.abstract,
-      type_parameters: node.typeParameters,
       heritage: this.maybe(node.superClass, this.expression),
-      heritage_arguments: node.superTypeArguments ?? node.superTypeParameters,
-      implements: node.implements,
       body: this.add("ClassBody", node.body, { body: this.several(node.body.body, this.classElement) }),
     });
   }
@@ -714,38 +762,14 @@ class Rows {
       case "StaticBlock":
         return this.add(node.type, node, { body: this.several(node.body, this.statement) });
       case "MethodDefinition":
+        if ((node.kind === "constructor") !== isConstructor(node)) this.fail(node, `is of kind ${node.kind}, which its key contradicts`);
         return this.add(node.type, node, {
-          decorators: node.decorators,
-          kind: node.kind,
-          key: this.key(node),
-          value: this.expression(node.value),
-          accessibility: node.accessibility,
-          computed: node.computed,
-          is_static: node.static,
-          is_override: node.override,
-          optional: node.optional,
+          kind: node.kind, key: this.key(node), value: this.expression(node.value), computed: node.computed, is_static: node.static,
         });
-      case "PropertyDefinition":
-        return this.field(node);
       default:
-        return this.refuse(node.type, node);
+        return this.add(node.type, node, {
+          key: this.key(node), computed: node.computed, is_static: node.static, value: this.maybe(node.value, this.expression),
+        });
     }
-  }
-
-  field(node) {
-    return this.add(node.type, node, {
-      decorators: node.decorators,
-      key: this.key(node),
-      accessibility: node.accessibility,
-      computed: node.computed,
-      declare: node.declare,
-      is_static: node.static,
-      is_override: node.override,
-      readonly: node.readonly,
-      optional: node.optional,
-      definite: node.definite,
-      type_annotation: node.typeAnnotation,
-      value: this.maybe(node.value, this.expression),
-    });
   }
 }

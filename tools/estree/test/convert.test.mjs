@@ -321,6 +321,6 @@ test("Babel's arrow functions are taken, and what a type says of them is refused
     "FormalParameters", "IdentifierReference", "ArrowFunctionExpression", "ExpressionStatement", "Program",
   ]);
   const annotation = { type: "TSTypeAnnotation" };
-  assert.throws(() => jobOf(babelArrow([{ ...name, typeAnnotation: annotation }])), /^NotRead: type_annotation of FormalParameter /);
-  assert.throws(() => jobOf(babelArrow([], { returnType: annotation })), /^NotRead: return_type of ArrowFunctionExpression /);
+  assert.throws(() => jobOf(babelArrow([{ ...name, typeAnnotation: annotation }])), /^NotRead: typeAnnotation of Identifier at /);
+  assert.throws(() => jobOf(babelArrow([], { returnType: annotation })), /^NotRead: returnType of ArrowFunctionExpression at /);
 });

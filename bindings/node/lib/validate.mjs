@@ -1,0 +1,106 @@
+// A tree is validated before it is converted: what isn't in the list of members is refused, since what nobody reads would be lost.
+import { NOTE, membersOf } from "./members.mjs";
+import { MalformedTree, wayTo } from "./refusals.mjs";
+
+// The types that Babel gives without its plugin `estree`, beside those that ESTree has too.
+const OF_BABEL = new Set([
+  "StringLiteral", "NumericLiteral", "BooleanLiteral", "NullLiteral", "RegExpLiteral", "BigIntLiteral", "DecimalLiteral", "Directive", "DirectiveLiteral",
+  "ObjectMethod", "ObjectProperty", "ClassMethod", "ClassPrivateMethod", "ClassProperty", "ClassPrivateProperty", "PrivateName", "Import",
+  "OptionalMemberExpression", "OptionalCallExpression", "ExportNamespaceSpecifier",
+]);
+const BABEL = 'the tree is of Babel\'s own kind; its plugin ["estree", { classFeatures: true }] makes an ESTree tree';
+
+/**
+ * Validates a program. `refuse(what, node, hint)` is called for a type or a member that isn't read, and throws. Throws a
+ * MalformedTree where a member is missing or holds what it can't, which names it by the way from the program to it.
+ */
+export function validate(program, refuse) {
+  if (!isNode(program)) throw new MalformedTree(`program${faultOf(program)}`);
+  if (membersOf(program.type) !== undefined && program.type !== "Program") throw new MalformedTree(`program is of type ${program.type}, not Program`);
+  new Validator(program, refuse).node(program);
+}
+
+// Why a value is no node.
+function faultOf(value) {
+  return typeof value === "object" && value !== null && !Array.isArray(value) ? ".type is no text" : " is no node";
+}
+
+function isNode(value) {
+  return typeof value === "object" && value !== null && typeof value.type === "string";
+}
+
+// Whether a member says something; what is absent, none, empty or false is left out by some parsers and given by others.
+function isGiven(value) {
+  return value !== undefined && value !== null && value !== false && !(Array.isArray(value) && value.length === 0);
+}
+
+class Validator {
+  constructor(program, refuse) {
+    this.program = program;
+    this.refuse = refuse;
+  }
+
+  // It is called for each node of a large tree, so it goes through the members once.
+  node(node) {
+    const members = membersOf(node.type);
+    if (members === undefined) this.refuse(node.type, node, OF_BABEL.has(node.type) ? BABEL : "");
+    const { byName, needed } = members;
+    let found = 0;
+    for (const name of Object.keys(node)) {
+      const member = byName.get(name);
+      if (member === undefined) this.unknown(node, name);
+      else if (member !== NOTE) {
+        this.member(node, name, member);
+        if (member.isNeeded) found += 1;
+      }
+    }
+    if (found < needed.length) for (const name of needed) if (!Object.hasOwn(node, name)) this.member(node, name, byName.get(name));
+  }
+
+  unknown(node, name) {
+    if (!isGiven(node[name])) return;
+    this.refuse(`${name} of ${node.type}`, node, name === "directives" ? BABEL : "");
+  }
+
+  member(node, name, { holds, isNeeded, types }) {
+    const value = node[name];
+    if (!isNeeded && (value === undefined || value === null)) return;
+    switch (holds) {
+      case "node":
+        if (!isNode(value)) this.fail(node, `.${name}${faultOf(value)}`);
+        this.child(node, name, value, types);
+        break;
+      case "list":
+      case "holes":
+        if (!Array.isArray(value)) this.fail(node, `.${name} is no list`);
+        for (let at = 0; at < value.length; at += 1) {
+          if (value[at] === null && holds === "holes") continue;
+          if (!isNode(value[at])) this.fail(node, `.${name}[${at}]${faultOf(value[at])}`);
+          this.child(node, name, value[at], types);
+        }
+        break;
+      case "text":
+        if (typeof value !== "string") this.fail(node, `.${name} is no text`);
+        break;
+      case "flag":
+        if (typeof value !== "boolean") this.fail(node, `.${name} is neither true nor false`);
+        break;
+      case "value":
+        if (value !== "value") this.refuse(`${name} ${String(value)} of ${node.type}`, node, "");
+        break;
+      default:
+    }
+  }
+
+  // Types that nothing is known of are told as such.
+  child(node, name, value, types) {
+    if (types !== null && !types.includes(value.type) && membersOf(value.type) !== undefined) {
+      this.fail(value, ` is of type ${value.type}, which can't be the ${name} of ${node.type}`);
+    }
+    this.node(value);
+  }
+
+  fail(node, what) {
+    throw new MalformedTree(`${wayTo(this.program, node)}${what}`);
+  }
+}
