@@ -4,15 +4,15 @@ import { packageNamed } from "../../bindings/node/lib/packages.mjs";
 let acorn = null;
 
 /**
- * The ESTree tree of a module's text. `parentheses: true` keeps parentheses as nodes, and `comments: true` puts the comments
- * into the program's member `comments`; a hashbang is none. Throws a SyntaxError of acorn's.
+ * The ESTree tree of a module's text. `parentheses: true` keeps parentheses as nodes, and `comments: true` puts the comments,
+ * and the hashbang, which acorn lists among them, into the program's member `comments`. Throws a SyntaxError of acorn's.
  */
 export function parsed(text, { parentheses = false, comments = false } = {}) {
   acorn ??= packageNamed("acorn");
   const seen = [];
   const options = { ecmaVersion: "latest", sourceType: "module", allowHashBang: true, preserveParens: parentheses, onComment: comments ? seen : null };
   const program = acorn.parse(text, options);
-  if (comments) program.comments = seen.filter(({ start }) => start > 0 || !text.startsWith("#!"));
+  if (comments) program.comments = seen;
   return program;
 }
 
