@@ -143,7 +143,7 @@ class Scopes {
   }
 
   // Code that a direct `eval` runs names what is bound round the call. What it declares itself nothing else sees, since it is strict.
-  eval(scope) {
+  directEval(scope) {
     for (let at = scope; at; at = at.outer) for (const symbol of at.names.values()) this.seenByEval.add(symbol);
   }
 
@@ -152,7 +152,7 @@ class Scopes {
       case "Identifier":
         return this.reference(node, scope);
       case "CallExpression":
-        if (isDirectEval(node)) this.eval(scope);
+        if (isDirectEval(node)) this.directEval(scope);
         return this.children(node, scope);
       case "BlockStatement":
         return this.block(node.body, scope);
