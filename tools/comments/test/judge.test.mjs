@@ -146,7 +146,7 @@ test("comments that are put in change no program, and are many", () => {
 function echo(source, tree, printed) {
   let text = "";
   let end = 0;
-  for (const { start, end: stop } of commentsOf(source, tree.comments)) {
+  for (const { start, end: stop } of commentsOf(source, tree.comments, { keepSourceMappingUrl: true })) {
     const said = source.slice(start, stop);
     text += source.slice(end, start) + (printed.has(start) ? said.replace(/<\/(?=script)/g, "<\\/") : /^\/\/|[\n\u2028]/.test(said) ? "\n" : " ");
     end = stop;
