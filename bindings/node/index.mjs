@@ -52,7 +52,7 @@ export function print(program, settings = {}) {
   try {
     return printed(textOf(made.job), options, settings);
   } catch (error) {
-    throw error instanceof JsgenError ? placed(error, { ...made, comments, source }) : error;
+    throw error instanceof JsgenError ? placed(error, { ...made, source }) : error;
   }
 }
 

@@ -1,5 +1,5 @@
 // The comments of a source that are to be printed, and what the text of one is compared by.
-import { commentsOf } from "../../bindings/node/lib/comments.mjs";
+import { commentsOf, isLegal } from "../../bindings/node/lib/comments.mjs";
 
 const LINE_ENDS = /\r\n|[\n\r\u2028\u2029]/;
 const WHITE = /^[\s\u0085]+/;
@@ -27,17 +27,15 @@ function written(text) {
  */
 export function commentsKept(source, tree, options = {}) {
   const wanted = { ...DEFAULTS, ...options };
-  const rows = commentsOf(source, tree.comments);
-  const all = rows.map((row, at) => {
-    const { start, end } = tree.comments[at];
-    const isLegal = /legal$/.test(row.content);
-    return { ...row, start, text: written(source.slice(start, end)), isLegal, goesOn: isLegal || row.content === "coveragefile" };
+  const all = commentsOf(source, tree.comments).map((row) => {
+    const holdsLicence = isLegal(row.content);
+    return { ...row, text: written(source.slice(row.start, row.end)), holdsLicence, goesOn: holdsLicence || row.content === "coveragefile" };
   });
   const members = new Set(tree.body.map(({ start }) => start));
   const kept = all
     .filter(({ leading, content }) => leading && isWanted(content, wanted))
-    .map((one) => ({ ...one, isNeeded: members.has(one.attached_to) || (one.isLegal && wanted.legal === "inline") }));
-  const licences = wanted.legal === "eof" ? all.filter(({ isLegal }) => isLegal).map(({ text }) => text) : [];
+    .map((one) => ({ ...one, isNeeded: members.has(one.attached_to) || (one.holdsLicence && wanted.legal === "inline") }));
+  const licences = wanted.legal === "eof" ? all.filter(({ holdsLicence }) => holdsLicence).map(({ text }) => text) : [];
   return { kept, licences: [...new Set(licences)] };
 }
 

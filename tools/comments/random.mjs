@@ -8,7 +8,7 @@ const BLOCKS = [
   "/* @__PURE__ */", "/* #__NO_SIDE_EFFECTS__ */", "/* @__KEY__ */", "/* webpackChunkName: 'TEXT' */", "/* @vite-ignore */",
   "/* v8 ignore next */", "/* c8 ignore file TEXT */",
 ];
-const LINES = ["// TEXT", "//! TEXT", "// @preserve TEXT", "//", "/*\n\t * TEXT\r\n    */", "/**\n * @license TEXT\n */", "/* a\u2028 b TEXT */"];
+const LINES = ["// TEXT", "//! TEXT", "// @preserve TEXT", "//# sourceMappingURL=TEXT", "//", "/*\n\t * TEXT\r\n    */", "/**\n * @license TEXT\n */", "/* a\u2028 b TEXT */"];
 const PIECES = new Set(["template", "invalidTemplate"]);
 // Behind these tokens a line may end.
 const OPEN = new Set(["#!", "{", "(", "[", ",", ";", "=", "${"]);

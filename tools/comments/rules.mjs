@@ -13,8 +13,8 @@ export function judged(source, printed, options = {}) {
   const tree = parsed(source, { comments: true });
   const other = parsed(printed, { comments: true });
   const { kept, licences } = commentsKept(source, tree, options);
-  const rows = commentsOf(printed, other.comments);
-  const texts = other.comments.filter((_, at) => !isAnnotation(rows[at].content)).map(({ start, end }) => plain(printed.slice(start, end)));
+  const rows = commentsOf(printed, other.comments, { keepSourceMappingUrl: true });
+  const texts = rows.filter(({ content }) => !isAnnotation(content)).map(({ start, end }) => plain(printed.slice(start, end)));
   const count = Math.max(0, texts.length - licences.length);
   const [inside, ending] = [texts.slice(0, count), texts.slice(count)];
   const found = difference(normal(tree), normal(other));

@@ -3,6 +3,7 @@
 const LINE_END = /[\n\r\u2028\u2029]/;
 // Behind these tokens a comment that ends the line still belongs to what follows: `=`, but none of the operators that end in it, and `(`.
 const OPENS = /(?:^|[^!%&*+\-/<=>?^|])=$|\($/;
+const OWN_LINE = { preceded_by_newline: true, followed_by_newline: true };
 const CONTENTS = [
   ["pure", /^\s*[@#]__PURE__/],
   ["nosideeffects", /^\s*[@#]__NO_SIDE_EFFECTS__/],
@@ -13,23 +14,37 @@ const CONTENTS = [
   ["coverage", /^\s*((v8|c8|istanbul) ignore\b|node:coverage\b)/],
 ];
 
+// What ECMA-426 takes for the URL of a source map, behind the comment's first two characters.
+const SOURCE_MAPPING_URL = /^[@#]\s*sourceMappingURL=\S*\s*$/;
+
 /**
- * What the row of each comment holds beside its span. The comments are in order and have their places, `start` and `end`; the
- * offset of what one belongs to, `attached_to`, is one in the text too: that of the next token, or the text's end. A comment is
- * leading, but where it ends the line of the token before it, or stands before another one that does. It is preceded by a line end
- * where one stands anywhere between that token and it, or where no token does.
+ * What the row of each comment holds, and its place, `start` and `end`. The comments that are given are in order and have their
+ * places; the offset of what one belongs to, `attached_to`, is one in the text too: that of the next token, or the text's end. A
+ * comment is leading, but where it ends the line of the token before it, or stands before another one that does; one that holds a
+ * licence is leading there too, and stands on a line of its own. A comment is preceded by a line end where one stands anywhere
+ * between that token and it, or where no token does. The hashbang, which acorn lists, is no comment. The comment that names the
+ * source map of the text is left out, unless it is to be kept.
  */
-export function commentsOf(source, comments) {
+export function commentsOf(source, comments, { keepSourceMappingUrl = false } = {}) {
   const sweep = new Sweep();
   let end = 0;
   for (const comment of comments) {
+    if (isHashbang(source, comment)) continue;
     sweep.gap(source.slice(end, comment.start), end);
-    sweep.comment(source.slice(comment.start, comment.end));
+    sweep.comment(source.slice(comment.start, comment.end), comment);
     end = comment.end;
   }
   sweep.gap(source.slice(end), end);
   sweep.token(source.length);
-  return sweep.rows;
+  return keepSourceMappingUrl ? sweep.rows : sweep.rows.filter((row) => !namesSourceMap(source.slice(row.start, row.end)));
+}
+
+function isHashbang(source, { start }) {
+  return start === 0 && source.startsWith("#!");
+}
+
+function namesSourceMap(text) {
+  return SOURCE_MAPPING_URL.test(text.startsWith("/*") ? text.slice(2, -2) : text.slice(2));
 }
 
 // Goes through a text once, from its start: its comments, and what stands between them.
@@ -42,10 +57,11 @@ class Sweep {
     this.isOpen = false;
   }
 
-  comment(text) {
+  comment(text, { start, end }) {
     const kind = kindOf(text);
     const isLine = kind !== "block" && kind !== "multiline";
-    const row = { kind, content: contentOf(text, kind), leading: true, attached_to: 0, preceded_by_newline: this.isLineEnded, followed_by_newline: isLine };
+    const content = contentOf(text, kind);
+    const row = { start, end, kind, content, leading: true, attached_to: 0, preceded_by_newline: this.isLineEnded, followed_by_newline: isLine };
     this.rows.push(row);
     this.waiting.push(row);
     if (!isLine) return;
@@ -70,9 +86,9 @@ class Sweep {
     this.endLine();
   }
 
-  // A line ends: what stands on that of the last token doesn't lead.
+  // A line ends: what stands on that of the last token doesn't lead, but a licence, which gets a line of its own.
   endLine() {
-    if (!this.isLineEnded) for (const row of this.waiting) row.leading = false;
+    if (!this.isLineEnded) for (const row of this.waiting) Object.assign(row, isLegal(row.content) ? OWN_LINE : { leading: false });
     this.isLineEnded = true;
   }
 
@@ -81,6 +97,11 @@ class Sweep {
     this.waiting = [];
     this.isLineEnded = false;
   }
+}
+
+/** Whether a comment with this content holds a licence. */
+export function isLegal(content) {
+  return content === "legal" || content === "jsdoclegal";
 }
 
 function kindOf(text) {

@@ -15,31 +15,49 @@ const SCRIPT = 'ask the parser for sourceType: "module", since the default of ac
  * argument, all of which may be left out, `source` is the text that the program was parsed from, by which spans are counted in bytes;
  * `options` are the options of the job; `spans: false` leaves spans out; `negative: true` takes `-1` for a negative
  * number in place of an operation on 1; `comments` are the comments of the source in order, as acorn's `onComment` lists them,
- * and are left out where they aren't given; and `names` are the tables by which names are printed, as `renaming`
- * (./scopes.mjs) makes them of this tree. The source is put into the job where something asks for it: comments, or the option
- * `source_map_path`. Throws `NotRead` where the program has what jsgen doesn't read yet, and `MalformedTree`, a TypeError, where
- * it is no ESTree tree.
+ * and are left out where they aren't given; `keepSourceMappingUrl: true` prints the one among them that names the source map
+ * of the source; and `names` are the tables by which names are printed, as `renaming` (./scopes.mjs) makes them of this tree.
+ * The source is put into the job where something asks for it: comments, or the option `source_map_path`. Throws `NotRead`
+ * where the program has what jsgen doesn't read yet, and `MalformedTree`, a TypeError, where it is no ESTree tree.
  */
 export function jobOf(program, settings) {
   return jobAndNodes(program, settings).job;
 }
 
-/** The same job, and beside it `nodes`: for each row the node that it stands for, or null where it stands for none. */
-export function jobAndNodes(program, { source, options = {}, spans = true, negative = false, comments = [], names = null } = {}) {
+/** The same job, and beside it `nodes`: for each row the node or the comment that it stands for, or null where it stands for none. */
+export function jobAndNodes(program, settings = {}) {
+  const { source, options = {}, spans = true, negative = false, comments = [], keepSourceMappingUrl = false, names = null } = settings;
   for (const name of Object.keys(options)) {
     if (!isOption(name)) throw new NotRead(`the option ${name}`);
   }
-  if (comments.length > 0 && source === undefined) throw new TypeError("comments are given without the source that they stand in");
   const root = program?.type === "File" ? program.program : program;
+  const printed = printedComments(comments, source, keepSourceMappingUrl);
   const rows = new Rows(root, source, spans, negative, names);
   try {
-    rows.program(root, comments, comments.length > 0 || (options.source_map_path ?? null) !== null);
+    rows.program(root, printed, printed.length > 0 || (options.source_map_path ?? null) !== null);
   } catch (error) {
     throw causeOf(error, root);
   }
   const tables = names ? { symbols: names.symbols, references: names.references, private: names.private } : {};
   const job = { ...(Object.keys(options).length > 0 ? { options } : {}), ...tables, rows: rows.rows };
   return { job, nodes: rows.nodes };
+}
+
+// What the rows of the comments that are printed hold, each with the comment itself.
+function printedComments(comments, source, keepSourceMappingUrl) {
+  if (comments.length === 0) return [];
+  const at = new Map(comments.map((comment) => [startOf(comment), comment]));
+  const fields = commentsOf(source, placesOf(comments, source), { keepSourceMappingUrl });
+  return fields.map((row) => ({ ...row, comment: at.get(row.start) }));
+}
+
+// Where the comments stand, which have to be in order.
+function placesOf(comments, source) {
+  if (source === undefined) throw new TypeError("comments are given without the source that they stand in");
+  const places = comments.map((comment) => ({ start: startOf(comment), end: endOf(comment) }));
+  const wrong = places.findIndex(({ start, end }, at) => !(start >= (places[at - 1]?.end ?? 0) && start < end && end <= source.length));
+  if (wrong >= 0) throw new TypeError(`comment ${wrong} has no place in the source behind the comments before it`);
+  return places;
 }
 
 function isFunction(node) {
@@ -165,15 +183,15 @@ class Rows {
   }
 
   // Comments have their spans in any case.
-  comments(nodes) {
-    if (nodes.length === 0) return [];
+  comments(comments) {
+    if (comments.length === 0) return [];
     const byteAt = this.byteAt ?? bytesAt(this.source);
-    const places = nodes.map((node) => ({ start: startOf(node), end: endOf(node) }));
-    return commentsOf(this.source, places).map((fields, at) => {
+    return comments.map(({ start, end, comment, ...fields }) => {
       const attached = byteAt(fields.attached_to);
       const row = this.add("Comment", null, { ...fields, attached_to: attached }, "attached_to");
+      this.nodes[row] = comment;
       if (fields.leading && /^(pure|nosideeffects)$/.test(fields.content)) this.annotations.set(fields.attached_to, fields.content);
-      this.rows[row].span = [byteAt(places[at].start), byteAt(places[at].end)];
+      this.rows[row].span = [byteAt(start), byteAt(end)];
       return row;
     });
   }

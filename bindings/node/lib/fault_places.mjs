@@ -5,12 +5,12 @@ import { fieldName } from "./reads.mjs";
 
 /**
  * What is known of the place of a fault: `node`, its `line` and `column`, counted from 1 and columns in units of UTF-16, the `fieldName`,
- * and `words` that tell it. `fault` is the JsgenError of the job, `nodes` and `comments` are the nodes of its rows, and `check` throws the
+ * and `words` that tell it. `fault` is the JsgenError of the job, `nodes` are the nodes and comments of its rows, and `check` throws the
  * JsgenError of another job.
  */
-export function placeOfFault(fault, { job, nodes, comments, source, check }) {
+export function placeOfFault(fault, { job, nodes, source, check }) {
   const row = fault.status === 1 ? rowOfRule(fault, job, source, check) : fault.row;
-  const node = row === undefined ? undefined : (nodes[row] ?? comments[row]);
+  const node = row === undefined ? undefined : (nodes[row] ?? undefined);
   const type = row === undefined ? null : job.rows[row].type;
   const isField = fault.status === 3 && fault.field !== undefined;
   const name = isField ? fieldName(type, fault.field) : undefined;

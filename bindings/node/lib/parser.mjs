@@ -7,16 +7,16 @@ const WITH_ATTRIBUTES = [8, 14];
 let acorn = null;
 
 /**
- * The ESTree tree of a module's text. `parentheses: true` keeps parentheses as nodes, and `comments: true` puts the comments
- * into the program's member `comments`; a hashbang is none. Throws a SyntaxError of acorn's, which says where acorn is older than
- * the syntax.
+ * The ESTree tree of a module's text. `parentheses: true` keeps parentheses as nodes, and `comments: true` puts the comments,
+ * and the hashbang, which acorn lists among them, into the program's member `comments`. Throws a SyntaxError of acorn's, which says
+ * where acorn is older than the syntax.
  */
 export function parsed(text, { parentheses = false, comments = false } = {}) {
   acorn ??= packageNamed("acorn");
   const seen = [];
   const options = { ecmaVersion: "latest", sourceType: "module", allowHashBang: true, preserveParens: parentheses, onComment: comments ? seen : null };
   const program = parsedBy(acorn, text, options);
-  if (comments) program.comments = seen.filter(({ start }) => start > 0 || !text.startsWith("#!"));
+  if (comments) program.comments = seen;
   return program;
 }
 

@@ -1,6 +1,7 @@
 // Which binding each name of a program stands for, in what jsgen reads by now: declarations of the module, of functions and of
 // blocks, parameters, what a handler catches, and the own names of functions and classes. Each binding is a symbol, and gets a
 // new name. A label is none. A private name is one of the innermost class round it that has a member of that name.
+import { withoutParentheses } from "./texts.mjs";
 
 const RESERVED = new Set(
   (
@@ -21,12 +22,15 @@ export const SIGNS = ["é", "日本", "größe", "\u{20BB7}", "ñ", "ℵ", "π\u
  * `symbolOf` and `referenceOf` have the numbers of the nodes, and `privateOf` the new names of the private ones; `shorthand` are
  * the references and bindings that are properties too, as in `{ a }`, and `specifiers` those of imports and exports, as in
  * `export { a }`, with how they are written out. A binding that is `__proto__` in an object that is no pattern keeps its name,
- * since of such a property the name is more than a name, and so does what `export` declares.
+ * since of such a property the name is more than a name, and so does what `export` declares. What is bound round a direct
+ * `eval`, and the private names of the classes round it, keep their names too, since its code may use any of them.
  */
 export function renaming(program, letters = LETTERS) {
   const scopes = new Scopes(letters);
   scopes.body(program.body, null);
-  const kept = new Set([...scopes.protos.map((node) => scopes.symbolBehind(node)), ...scopes.exported.map((node) => scopes.symbolOf.get(node))]);
+  const protos = scopes.protos.map((node) => scopes.symbolBehind(node));
+  const exported = scopes.exported.map((node) => scopes.symbolOf.get(node));
+  const kept = new Set([...protos, ...exported, ...scopes.seenByEval]);
   const globals = scopes.references.filter(({ symbol }) => symbol === null).map(({ name }) => name);
   const fresh = freshNames(letters, new Set([...globals, ...[...kept].map((symbol) => scopes.symbols[symbol])]));
   return {
@@ -98,15 +102,16 @@ class Scopes {
     this.specifiers = new Map(); // names that stand for both names of an import or an export
     this.exported = []; // what `export` declares
     this.protos = [];
+    this.seenByEval = new Set(); // symbols
   }
 
   symbolBehind(node) {
     return this.references[this.referenceOf.get(node)].symbol;
   }
 
-  // A scope in which these nodes are bound: their symbols by their names. A name that is bound twice is one symbol.
-  scope(nodes, outer) {
-    const names = new Map();
+  // A scope in which these nodes are bound: their symbols by their names. A name that is bound twice is one symbol, and so is
+  // one that is among the names already.
+  scope(nodes, outer, names = new Map()) {
     for (const node of nodes) {
       if (!names.has(node.name)) names.set(node.name, this.symbols.push(node.name) - 1);
       this.symbolOf.set(node, names.get(node.name));
@@ -137,10 +142,18 @@ class Scopes {
     this.referenceOf.set(node, this.references.push({ name: node.name, symbol: this.symbolNamed(node.name, scope) }) - 1);
   }
 
+  // Code that a direct `eval` runs names what is bound round the call. What it declares itself nothing else sees, since it is strict.
+  directEval(scope) {
+    for (let at = scope; at; at = at.outer) for (const symbol of at.names.values()) this.seenByEval.add(symbol);
+  }
+
   visit(node, scope) {
     switch (node?.type) {
       case "Identifier":
         return this.reference(node, scope);
+      case "CallExpression":
+        if (isDirectEval(node)) this.directEval(scope);
+        return this.children(node, scope);
       case "BlockStatement":
         return this.block(node.body, scope);
       case "VariableDeclarator":
@@ -216,7 +229,7 @@ class Scopes {
   }
 
   children(node, scope) {
-    for (const child of Object.values(node ?? {}).flat()) if (typeof child?.type === "string") this.visit(child, scope);
+    for (const child of childrenOf(node)) this.visit(child, scope);
   }
 
   // A name that isn't private is no reference there.
@@ -278,15 +291,23 @@ class Scopes {
     }
   }
 
-  // What a parameter is where none is given may name any of them. The name of a declaration is bound outside.
+  // What a parameter is where none is given may name any of them, but nothing that the body declares. A variable of the body takes
+  // its first value from the parameter of its name. The name of a declaration is bound outside.
   function(node, outer) {
-    const names = node.params.flatMap(boundIn);
-    const statements = node.body.type === "BlockStatement" ? node.body.body : [];
-    const scope = this.scope([...names, ...statements.flatMap(variablesIn), ...statements.flatMap(declaredBy)], outer);
-    for (const param of node.params) this.pattern(param, scope);
-    if (statements !== node.body.body) return this.visit(node.body, scope);
-    for (const statement of statements) this.visit(statement, scope);
+    const scope = this.scope(node.params.flatMap(boundIn), outer);
+    if (node.body.type !== "BlockStatement") {
+      this.parameters(node, scope);
+      return this.visit(node.body, scope);
+    }
+    const statements = node.body.body;
+    const inside = this.scope([...statements.flatMap(variablesIn), ...statements.flatMap(declaredBy)], outer, new Map(scope.names));
+    this.parameters(node, scope);
+    for (const statement of statements) this.visit(statement, inside);
     return null;
+  }
+
+  parameters({ params }, scope) {
+    for (const param of params) this.pattern(param, scope);
   }
 
   // What a class extends has no private names of its own.
@@ -297,11 +318,12 @@ class Scopes {
     for (const element of body.body) this.visit(element, { names: new Map(), privates, outer });
   }
 
-  newPrivateNames({ body }, outer) {
+  newPrivateNames(body, outer) {
     const taken = tablesRound(outer).flatMap((table) => [...table.values()]);
     const fresh = freshNames(this.letters, new Set(taken));
-    const names = body.filter(({ key }) => key?.type === "PrivateIdentifier").map(({ key }) => key.name);
-    return new Map([...new Set(names)].map((name) => [name, fresh.next().value]));
+    const names = body.body.filter(({ key }) => key?.type === "PrivateIdentifier").map(({ key }) => key.name);
+    const areKept = names.length > 0 && holdsEval(body);
+    return new Map([...new Set(names)].map((name) => [name, areKept ? name : fresh.next().value]));
   }
 
   // Classes are numbered by where their bodies begin.
@@ -319,6 +341,19 @@ function tablesRound(scope) {
 
 function newPrivateName(name, scope) {
   return tablesRound(scope).find((table) => table.has(name))?.get(name) ?? name;
+}
+
+function childrenOf(node) {
+  return Object.values(node ?? {}).flat().filter((child) => typeof child?.type === "string");
+}
+
+// A call of `eval` by its name, which may be in parentheses, and not in an optional call.
+function isDirectEval({ type, callee, optional }) {
+  return type === "CallExpression" && !optional && withoutParentheses(callee).name === "eval";
+}
+
+function holdsEval(node) {
+  return isDirectEval(node) || childrenOf(node).some(holdsEval);
 }
 
 // The names that a pattern binds.

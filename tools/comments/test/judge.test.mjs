@@ -39,13 +39,18 @@ const RIGHT = [
   ["/* @__PURE__ */ f();", "f();\n", { annotation: false }],
   ["/* @__NO_SIDE_EFFECTS__ */ function f() {}", "/* @__NO_SIDE_EFFECTS__ */\nfunction f() {}\n"],
   ["/* @__PURE__ */ a;", "a;\n"],
+  // a licence that ends a line is kept, and what names the map of the source isn't
+  ["a; /*! b */\nc;", "a;\n/*! b */\nc;\n"],
+  ["a; //! b", "a;\n//! b\n"],
+  ["a;\n// b\n//# sourceMappingURL=a.map", "a;\n// b\n"],
+  ["#!/bin/node\n// b\na;", "#!/bin/node\n// b\na;\n"],
   // a licence goes on
   ["f(/*! b */ a);", "f(a);\n/*! b */\n"],
   ["f(/*! b */ a);\n// c\nd;", "f(a);\n/*! b */\n// c\nd;\n"],
   // of two comments with one text the later one is printed
   ["f(/* b */ a);\n/* b */ c;", "f(a);\n/* b */ c;\n"],
   ["/* b */ a;\nf(/* b */ a);", "/* b */ a;\nf(a);\n"],
-  // licences at the end, each once, leading or not
+  // licences at the end, each once
   ["/*! b */ a;\n/*! b */ c; /*! d */\n/* e */ f", "a;\nc;\n/* e */ f;\n\n/*! b */\n/*! d */\n", { legal: "eof" }],
   ["/** @license b */ a;", "/** @license b */ a;\n\n/** @license b */\n", { legal: "eof" }],
   ["/*! b */ a;", "a;\n", { legal: "none" }],
@@ -72,6 +77,8 @@ test("kept: a comment of the text is one of the source's that are kept", () => {
   assert.deepEqual(faults("/* b */ a;", "/* c */ /* b */ a;"), ['kept: "/* c */" is printed, and isn\'t kept']);
   assert.deepEqual(faults("/* </script> */ a;", "/* </script> */ a;"), ['kept: "/* </script> */" is printed, and isn\'t kept']);
   assert.deepEqual(faults("/* b */ a;", "/* b */ a;", { normal: false }), ['kept: "/* b */" is printed, and isn\'t kept']);
+  const named = "//# sourceMappingURL=a.map";
+  assert.deepEqual(faults(`a;\n${named}`, `a;\n${named}\n`), [`kept: "${named}" is printed, and isn't kept`]);
   assert.match(faults("/* b\n c */ a;", "/* b c */ a;")[0], /^kept: "\/\* b c \*\/" /);
 });
 
@@ -103,6 +110,7 @@ test("order: a licence may be printed behind its turn, and not before it", () =>
 test("there: comments before members of the program, and licences, are printed", () => {
   assert.deepEqual(faults("a;\n/* b */ c;", "a;c;"), ['there: "/* b */" of line 2 isn\'t printed in its turn']);
   assert.deepEqual(faults("a;\n{ /*! b */ c }", "a;{c}"), ['there: "/*! b */" of line 2 isn\'t printed in its turn']);
+  assert.deepEqual(faults("a; /*! b */\nc;", "a;c;"), ['there: "/*! b */" of line 1 isn\'t printed in its turn']);
   assert.deepEqual(faults("a;\n{ /*! b */ c }", "a;{c}", { legal: "none" }), []);
   assert.deepEqual(faults("a;\n{ /* b */ c }", "a;{c}"), []);
   assert.match(faults("/* b */ a;\n/* b */ c;", "a;/* b */ c;")[0], /^there: "\/\* b \*\/" of line /);
@@ -138,7 +146,7 @@ test("comments that are put in change no program, and are many", () => {
 function echo(source, tree, printed) {
   let text = "";
   let end = 0;
-  for (const { start, end: stop } of tree.comments) {
+  for (const { start, end: stop } of commentsOf(source, tree.comments, { keepSourceMappingUrl: true })) {
     const said = source.slice(start, stop);
     text += source.slice(end, start) + (printed.has(start) ? said.replace(/<\/(?=script)/g, "<\\/") : /^\/\/|[\n\u2028]/.test(said) ? "\n" : " ");
     end = stop;
@@ -153,8 +161,7 @@ test("a printer that echoes has no fault, and one that drops what it has to prin
     const { kept } = commentsKept(source, tree);
     const starts = kept.map(({ start }) => start);
     const needed = kept.filter(({ isNeeded }) => isNeeded);
-    const rows = commentsOf(source, tree.comments);
-    const annotations = tree.comments.filter((_, at) => isAnnotation(rows[at].content)).map(({ start }) => start);
+    const annotations = commentsOf(source, tree.comments).filter(({ content }) => isAnnotation(content)).map(({ start }) => start);
     const echoed = (some) => faults(source, echo(source, tree, new Set([...some, ...annotations])));
     assert.deepEqual(echoed(starts), []);
     assert.deepEqual(echoed(needed.map(({ start }) => start)), []);

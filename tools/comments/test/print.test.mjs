@@ -6,6 +6,8 @@ import { tmpdir } from "node:os";
 import { join } from "node:path";
 import { test } from "node:test";
 import { fileURLToPath } from "node:url";
+import { jobOf } from "../../../bindings/node/lib/convert.mjs";
+import { printed } from "../../estree/command.mjs";
 import { parsed } from "../../estree/parser.mjs";
 import { uncommented, unlicensed } from "./printing.mjs";
 
@@ -51,6 +53,32 @@ for (const command of Object.keys(COMMANDS)) {
     assert.deepEqual(external, { out: "a;\ne;\n", code: null, licences: "/*! c */\n" });
   });
 }
+
+// Sources in which a licence ends the line of the token before it, and what is printed for them, also minified.
+const ENDING = [
+  ["a; /*! b */\nc", "a;\n/*! b */\nc;\n", "a;\n/*! b */\nc;"],
+  ["a; //! b", "a;\n//! b\n", "a;\n//! b\n"],
+  ["a; /* b */ /*! c */ // d\n/* e */ f", "a;\n/*! c */\n/* e */ f;\n", "a;\n/*! c */\n/* e */f;"],
+  ["{ a; // @license b\n}", "{\n\ta;\n\t// @license b\n}\n", "{a\n// @license b\n}"],
+  ["class A { //! b\n}\nc", "class A {}\n//! b\nc;\n", "class A{}\n//! b\nc;"],
+  ["const x = y /*! b */\n ? z : w; v", "const x = y ? z : w;\n/*! b */\nv;\n", "const x=y?z:w\n/*! b */\n;v;"],
+];
+
+test("a licence that ends a line is printed before what follows, or where its place is gone, further on", { skip: uncommented }, () => {
+  for (const [source, ...wanted] of ENDING) {
+    const tree = parsed(source, { comments: true });
+    const code = (minify) => printed(jobOf(tree, { source, options: { minify }, comments: tree.comments })).code;
+    assert.deepEqual([code(false), code(true)], wanted, source);
+  }
+});
+
+test("what names the map of the source is printed where it is to be kept", { skip: uncommented }, () => {
+  const source = "a;\n// b\n//# sourceMappingURL=a.map\n";
+  const tree = parsed(source, { comments: true });
+  const code = (settings) => printed(jobOf(tree, { source, comments: tree.comments, ...settings })).code;
+  assert.equal(code({}), "a;\n// b\n");
+  assert.equal(code({ keepSourceMappingUrl: true }), source);
+});
 
 test("the package prints the comments of a tree", { skip: uncommented }, async () => {
   const { print } = await import("../../../bindings/node/index.mjs");

@@ -34,10 +34,10 @@ test("options stand in the head, and an option that isn't read is refused", () =
   assert.throws(() => jobOf(parsed(""), { options: { indented: 3 } }), NotRead);
 });
 
-function commentRows(source) {
+function commentRows(source, settings = {}) {
   const program = parsed(source, { comments: true });
-  const { rows } = jobOf(program, { source, comments: program.comments });
-  return rows.at(-1).comments.map((row) => rows[row]);
+  const { rows } = jobOf(program, { source, comments: program.comments, ...settings });
+  return (rows.at(-1).comments ?? []).map((row) => rows[row]);
 }
 
 test("comments have their places in the source, which stands in the job", () => {
@@ -63,9 +63,45 @@ test("comments have what they say", () => {
     "/* @__NO_SIDE_EFFECTS__ */": "nosideeffects", "/*#__NO_SIDE_EFFECTS__ a*/": "nosideeffects", "/* @__KEY__ */": "propertykey",
     "/* webpackChunkName: 'a' */": "webpack", "/* webpack */": "normal", "/* @vite-ignore */": "vite",
     "/* v8 ignore next */": "coverage", "/* istanbul ignore if */": "coverage", "/* node:coverage disable */": "coverage",
-    "/* c8 ignore file */": "coveragefile", "/* c8 */": "normal", "//# sourceMappingURL=a": "normal",
+    "/* c8 ignore file */": "coveragefile", "/* c8 */": "normal", "//# sourceURL=a": "normal",
   };
   for (const [comment, content] of Object.entries(said)) assert.equal(contentOf(comment), content, comment);
+});
+
+test("the hashbang, which acorn lists as a comment, is none", () => {
+  const source = "#!/bin/node\n// b\na";
+  const program = parsed(source, { comments: true });
+  assert.deepEqual(program.comments.map(({ start }) => start), [0, 12]);
+  assert.deepEqual(commentRows(source).map(({ span }) => span), [[12, 16]]);
+  const ranged = program.comments.map(({ start, end }) => ({ range: [start, end] }));
+  assert.equal(jobOf(program, { source, comments: ranged }).rows.at(-1).comments.length, 1);
+  assert.deepEqual(jobOf(parsed("#!"), { source: "#!", comments: [{ start: 0, end: 2 }] }).rows.at(-1), { type: "Program", span: [0, 2], kind: "module", hashbang: 0 });
+});
+
+test("the comment that names the source map of the source is left out, unless it is to be kept", () => {
+  const texts = (source, settings) => commentRows(source, settings).map(({ span: [start, end] }) => source.slice(start, end));
+  for (const comment of ["//# sourceMappingURL=a.map", "//@ sourceMappingURL=a.map", "/*# sourceMappingURL=a.map */", "//#sourceMappingURL=", "/*@\tsourceMappingURL=data:a,b\n*/"]) {
+    const source = `a; /* b */\n// c\n${comment}\n`;
+    assert.deepEqual(texts(source), ["/* b */", "// c"], comment);
+    assert.deepEqual(texts(source, { keepSourceMappingUrl: true }), ["/* b */", "// c", comment], comment);
+  }
+  for (const comment of ["// # sourceMappingURL=a", "//# sourceMappingURL", "//# sourceURL=a", "//# sourceMappingURL=a b", "//! sourceMappingURL=a", "/** # sourceMappingURL=a */"]) {
+    assert.deepEqual(texts(`a;\n${comment}\n`), [comment]);
+  }
+  assert.equal("source" in jobOf(parsed("//# sourceMappingURL=a"), { source: "//# sourceMappingURL=a", comments: [{ start: 0, end: 22 }] }).rows.at(-1), false);
+});
+
+test("comments whose places don't stand in order in the source are a TypeError", () => {
+  const message = (...comments) => {
+    const source = "/*a*//*b*/";
+    assert.throws(() => jobOf(parsed(source), { source, comments }), (error) => error instanceof TypeError && / has no place in the source behind /.test(error.message));
+  };
+  message({});
+  message({ start: 0 });
+  message({ start: 5, end: 10 }, { start: 0, end: 5 });
+  message({ start: 0, end: 5 }, { start: 0, end: 5 });
+  message({ start: 5, end: 11 });
+  message({ start: 5, end: 5 });
 });
 
 test("an annotation marks the call or the function that it stands before", () => {
@@ -113,6 +149,22 @@ test("a comment that ends the line of the code before it doesn't lead, nor does 
   assert.equal(leading("// a\n/*b*/\nc"), "a b");
   assert.equal(leading("{ // a\n// b\n}"), "b");
   assert.equal(leading("#!/bin/node\n// a\nb"), "a");
+});
+
+test("a licence leads where it ends the line, and stands on a line of its own", () => {
+  assert.equal(leading("a; /*! b */\nc"), "! b");
+  assert.equal(leading("a; //! b"), "! b");
+  assert.equal(leading("a; // @license b\nc"), "@license b");
+  assert.equal(leading("a; /** @preserve b */ // c\nd"), "@preserve b");
+  assert.equal(leading("a; /* b */ /*! c */ /* d */\n/* e */ f"), "! c e");
+  assert.equal(leading("{ /*! a */\n}"), "! a");
+  assert.deepEqual(commentRows("a; /*! b */\nc"), [
+    { type: "Comment", kind: "block", content: "legal", leading: true, attached_to: 12, preceded_by_newline: true, followed_by_newline: true, span: [3, 11] },
+  ]);
+  const places = (source) => commentRows(source).map((row) => [row.attached_to, row.preceded_by_newline, row.followed_by_newline]);
+  assert.deepEqual(places("a; /*! b */ // c\n"), [[17, true, true], [17, undefined, true]]);
+  assert.deepEqual(places("a; //! b"), [[8, true, true]]);
+  assert.deepEqual(places("a; /*! b */ c"), [[12, undefined, undefined]]);
 });
 
 test("a line comment behind `=` or `(` leads", () => {

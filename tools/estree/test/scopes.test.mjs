@@ -35,7 +35,9 @@ const RENAMED = [
   ["x: for (;;) { let x; continue x }", "x: for (;;) { let a; continue x }"],
   ["function f(x) { var y = x; return g(y, f) } f(x)", "function a(b) { var c = b; return g(c, a) } a(x)"],
   ["h(function f(x) { return f(x) }, f)", "h(function a(b) { return a(b) }, f)"],
-  ["function f(x = y) { var y; { function z() {} z() } z }", "function a(b = c) { var c; { function d() {} d() } z }"],
+  ["function f(x = y) { var y; { function z() {} z() } z }", "function a(b = y) { var c; { function d() {} d() } z }"],
+  ["let y; (x = () => y) => { let y; var x = y }", "let a; (b = () => a) => { let c; var b = c }"],
+  ["function f(x) { function x() {} x }", "function a(b) { function b() {} b }"],
   ["f({ x(x) { return x }, get y() { return y } })", "f({ x(a) { return a }, get y() { return y } })"],
   ["(x) => { var x; return x }", "(a) => { var a; return a }"],
   ["const { x, y: z = x, ...w } = v; f(x, z, w)", "const { x: a, y: b = a, ...c } = v; f(a, b, c)"],
@@ -51,6 +53,7 @@ const RENAMED = [
   ["var { x } = y; { var [y] = x }", "var { x: a } = b; { var [b] = a }"],
   ["class X extends X { x = X }; X", "class a extends a { x = a }; a"],
   ["f(class X extends X { [X] = X }, X)", "f(class a extends a { [a] = a }, X)"],
+  ["f(class X extends g(() => X) {}, X)", "f(class a extends g(() => a) {}, X)"],
   ["f(class { x; x() { return x }; static x = y }); let y", "f(class { x; x() { return x }; static x = a }); let a"],
   ["class A { static { var x; { var y } f(x, y) } z = x }", "class a { static { var b; { var c } f(b, c) } z = x }"],
   ["class A { #x; #y() { this.#x; #y in this } }", "class a { #a; #b() { this.#a; #b in this } }"],
@@ -59,8 +62,55 @@ const RENAMED = [
     "class a { #a; a = class extends x.#a { #b = this.#c; #c }; b = class { #b; c = x?.#a } }"],
 ];
 
-for (const [source, wanted] of RENAMED) {
+// What a direct `eval` sees keeps its name.
+const SEEN = [
+  ["const x = 1; { let y = eval('x') } { let z = x }", "const x = 1; { let y = eval('x') } { let a = x }"],
+  ["h(function f(x) { { let y } eval(z) }); let w", "h(function f(x) { { let a } eval(z) }); let w"],
+  ["let x = (a) => eval(a), y = (z) => z", "let x = (a) => eval(a), y = (b) => b"],
+  ["class X { x(y) { return eval('X') } z(w) {} }", "class X { x(y) { return eval('X') } z(a) {} }"],
+  ["function f(x = eval('y')) { var y }", "function f(x = eval('y')) { var a }"],
+  ["try {} catch (x) { eval('x'); var x = 1 }", "try {} catch (x) { eval('x'); var x = 1 }"],
+  ["import { a, b as x } from 'y'; { let z } eval(a)", "import { a, b as x } from 'y'; { let b } eval(a)"],
+  ["let x; { let y } (eval)('x')", "let x; { let a } (eval)('x')"],
+  ["let x; eval('x')?.y((x) => x)", "let x; eval('x')?.y((a) => a)"],
+  ["let x; \\u0065val('x')", "let x; \\u0065val('x')"],
+  ["class A { #x; y = class { #z; w() { this.#z } }; v() { eval('this.#x') } }", "class A { #x; y = class { #a; w() { this.#a } }; v() { eval('this.#x') } }"],
+  ["class A { #a; b = class { #x; c = this.#a }; [eval(d)] }", "class A { #a; b = class { #b; c = this.#a }; [eval(d)] }"],
+  ["class A extends eval(x) { #y }", "class A extends eval(x) { #a }"],
+  // these see globals alone
+  ["let x; eval?.('x'); (0, eval)('x'); new eval('x'); eval`x`; x.eval('x')", "let a; eval?.('x'); (0, eval)('x'); new eval('x'); eval`x`; a.eval('x')"],
+  ["let x = { eval: (y) => y }; class A { #x; eval() {} }", "let a = { eval: (c) => c }; class b { #a; eval() {} }"],
+];
+
+for (const [source, wanted] of [...RENAMED, ...SEEN]) {
   test(`names of ${source}`, () => assert.equal(renamed(source), wanted));
+}
+
+test("a direct `eval` in parentheses that the tree keeps is one", () => {
+  const symbols = (source) => renaming(parsed(source, { parentheses: true })).symbols;
+  assert.deepEqual(symbols("let x; ((eval))('x')"), ["x"]);
+  assert.deepEqual(symbols("let x; (0, eval)('x'); (eval)?.('x')"), ["a"]);
+});
+
+async function valueOf(source) {
+  return (await import(`data:text/javascript,${encodeURIComponent(source)}`)).default;
+}
+
+// Modules with the value of what they export by default, which is the same of the renamed ones.
+const VALUES_OF = [
+  ["const y = 1; function f(x = y) { var y = 2; return x } export default f()", 1],
+  ["const f = (x, y = () => x) => { var x = 2; return [x, y()].join() }; export default f(1)", "2,1"],
+  ["const K = class X extends ((f) => class { f() { return f() } })(() => X) {}; export default new K().f() === K", true],
+  ["const first = 1; function f(second) { { let third = 3; second += third } return eval('first + second') } export default f(2)", 6],
+  ["const f = function own(a = 1) { return (() => eval('typeof own + a'))() }; export default f()", "function1"],
+  ["class A { #first = 1; f() { return new (class { #second = 2; f(a) { return a.first() + this.#second } })().f(this) } first() { return eval('this.#first') } } export default new A().f()", 3],
+  ["export default (function (text) { try { throw 1 } catch (caught) { var caught = 2; return eval(text) } })('caught')", 2],
+];
+
+for (const [source, wanted] of VALUES_OF) {
+  test(`value of ${source}`, async () => {
+    for (const text of [source, renamed(source)]) assert.equal(await valueOf(text), wanted, text);
+  });
 }
 
 test("each global has a reference that names no symbol, and each binding a symbol", () => {
