@@ -71,6 +71,8 @@ export interface JobSettings {
   negative?: boolean;
   /** The comments of the source in order, as acorn's `onComment` lists them. */
   comments?: object[];
+  /** Prints the comment of the source that names its source map, too. */
+  keepSourceMappingUrl?: boolean;
   names?: Renaming | null;
 }
 
@@ -85,6 +87,8 @@ export interface Settings {
   indent?: "tab" | number;
   /** Which of the comments that the tree has in its member `comments` are printed, which takes `source`: all, none, or by kinds. */
   comments?: boolean | Comments;
+  /** Prints the comment of the source that names its source map, too. */
+  keepSourceMappingUrl?: boolean;
   /** The tables by which names are printed, as `renaming` makes them of this tree. */
   names?: Renaming | null;
   /** Other options of a job (docs/FORMAT.md); `source_map_path` names the source in the map. */
