@@ -84,6 +84,8 @@ function printedBy(command) {
   return ran.stdout.toString();
 }
 
+const lacking = ["acorn", "@jridgewell/gen-mapping"].find((name) => folderOf(name) === null);
+const skip = unbuilt || (lacking !== undefined && `${lacking} isn't installed`);
 const shown = shownIn(README);
 const isFile = ({ command }) => command.startsWith("cat ");
 
@@ -93,13 +95,11 @@ test("README shows the files as they are", () => {
   for (const { command, output } of files) assert.equal(output, read(command.slice("cat ".length)), command);
 });
 
-test("README's commands print what it says", { skip: unbuilt }, () => {
+test("README's commands print what it says", { skip }, () => {
   const commands = shown.filter((example) => !isFile(example));
   assert.ok(commands.length >= 3);
   for (const { command, output } of commands) assert.equal(`${printedBy(command).replace(/\n$/, "")}\n`, output, command);
 });
-
-const lacking = ["acorn", "@jridgewell/gen-mapping"].find((name) => folderOf(name) === null);
 
 // The file of JavaScript in a folder where the package and acorn are installed.
 function ranInstalled(code) {
@@ -117,7 +117,7 @@ function ranInstalled(code) {
   }
 }
 
-test("README's JavaScript prints what stands behind it", { skip: unbuilt || (lacking !== undefined && `${lacking} isn't installed`) }, () => {
+test("README's JavaScript prints what stands behind it", { skip }, () => {
   const blocks = blocksOf(README, "js");
   assert.equal(blocks.length, 1);
   for (const block of blocks) {
