@@ -13,8 +13,16 @@ function treeIn(text) {
   }
 }
 
+function jobIn(tree, options) {
+  try {
+    return jobOf(tree, { options });
+  } catch (error) {
+    throw faultOf(error, "<stdin>");
+  }
+}
+
 await run({ usage: "node job.mjs [--minify] [--ascii-only] [--single-quote] < TREE.json", options: FLAGS }, async (flags, others) => {
   if (others.length > 0) throw new Refused(`unknown word ${others[0]}`);
   const options = Object.fromEntries(Object.entries(flags).map(([name, value]) => [name.replace("-", "_"), value]));
-  await writeOut(`${JSON.stringify(jobOf(treeIn(await readText(null)), { options }))}\n`);
+  await writeOut(`${JSON.stringify(jobIn(treeIn(await readText(null)), options))}\n`);
 });
