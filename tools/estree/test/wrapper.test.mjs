@@ -32,7 +32,8 @@ esac
 async function withWrapper(pause, use) {
   const folder = mkdtempSync(join(tmpdir(), "jsgen-wrapper-"));
   try {
-    for (const name of ["jsgen", "crates.txt"]) copyFileSync(top(name), join(folder, name));
+    mkdirSync(join(folder, "tools", "release"), { recursive: true });
+    for (const name of ["jsgen", "crates.txt", "tools/release/lay_out"]) copyFileSync(top(name), join(folder, name));
     for (const crate of ["jsgen", "jsgen_tool", "jsgen_cli"]) mkdirSync(join(folder, "crates", crate, "src"), { recursive: true });
     copyFileSync(top(HELP), join(folder, HELP));
     mkdirSync(join(folder, "bin"));
