@@ -1,5 +1,6 @@
 /// What `--help` says: each line of the text is a line of it. `./jsgen` at the top of the repository prints these lines too.
-pub const HELP: &str = r#"usage: jsgen print [FILE]     prints the program of a job, from FILE or from standard input
+pub const HELP: &str =
+    r#"usage: jsgen print [FILE]     prints the program of a job, from FILE or from standard input
        jsgen map [FILE]       prints the lines of its source map, where the job has a path for one
        jsgen legal [FILE]     prints where its licences stand in its source, where they belong in a file of their own
        jsgen check [FILE]     says whether it would be printed, and prints nothing

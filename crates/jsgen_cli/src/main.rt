@@ -108,12 +108,7 @@ fn unopened(file: &String, err: &mut StdSink<Stream>) -> Status {
 }
 
 // Runs the words over an input.
-fn run_over(
-    rt: &HostRuntime,
-    words: &[String],
-    input: Input,
-    err: &mut StdSink<Stream>,
-) -> Status {
+fn run_over(rt: &HostRuntime, words: &[String], input: Input, err: &mut StdSink<Stream>) -> Status {
     let mut source = StdSource::new(input);
     let mut out = StdSink::new(Stream::Out(rt.stdout()));
     run::<Library, _, _>(rt.alloc(), words, &mut source, &mut out, err)

@@ -63,7 +63,7 @@ async function until(holds) {
 
 // What the program says for `--help`, by its source.
 function helpOfProgram() {
-  return /^pub const HELP: &str = r#"(.*?)"#;$/ms.exec(readFileSync(top(HELP), "utf8"))[1];
+  return /r#"(usage: .*?)"#;$/ms.exec(readFileSync(top(HELP), "utf8"))[1];
 }
 
 test("the program's help is the text of its source", { skip: unbuilt }, (t) => {
@@ -93,6 +93,13 @@ test("--help, -h and --version are answered at once, on standard output", async 
     const version = started(folder, env, ["--version"]);
     assert.equal(await version.ended, 0);
     assert.match(version.code, /^jsgen \d+\.\d+\.\d+, jobs of format 1, /);
+    assert.deepEqual(calls().filter((line) => !line.endsWith(" version")), []);
+  });
+});
+
+test("help that nobody reads builds nothing", async () => {
+  await withWrapper("0", async (folder, env, calls) => {
+    for (const word of ["--help", "-h", "--version"]) spawnSync("sh", ["-c", 'exec "$0" "$1" >/dev/full 2>&1', join(folder, "jsgen"), word], { env });
     assert.deepEqual(calls().filter((line) => !line.endsWith(" version")), []);
   });
 });
