@@ -7,10 +7,11 @@ import { tmpdir } from "node:os";
 import { join } from "node:path";
 import { test } from "node:test";
 import { fileURLToPath } from "node:url";
-import { JsgenError, addon } from "../../../bindings/node/index.mjs";
+import { JsgenError } from "../../../bindings/node/index.mjs";
 import { STATUS, faultOf } from "../../../bindings/node/lib/command.mjs";
 import { NotRead } from "../../../bindings/node/lib/convert.mjs";
 import { excerptAt } from "../../../bindings/node/lib/places.mjs";
+import { addon } from "../../../bindings/node/lib/printer.mjs";
 import { parsed } from "../parser.mjs";
 import { unbuilt } from "../program.mjs";
 
@@ -265,8 +266,8 @@ test("faults of the converter and of the printer are told by line and column too
   const argument = parsed(source).body[1].expression.arguments[0];
   const placed = "x.js:2:3: Identifier is not read yet\n  f(b)\n    ^";
   const messageAndStatus = (error) => [faultOf(error, "x.js", source)].map(({ message, status }) => [message, status])[0];
-  assert.deepEqual(messageAndStatus(new NotRead("Identifier", argument, source)), [placed, STATUS.source]);
-  assert.deepEqual(messageAndStatus(new NotRead("Identifier", { range: [5, 6] }, source)), [placed, STATUS.source]);
+  assert.deepEqual(messageAndStatus(new NotRead("Identifier", argument, " in line 2, column 3")), [placed, STATUS.source]);
+  assert.deepEqual(messageAndStatus(new NotRead("Identifier", { range: [5, 6] })), [placed, STATUS.source]);
   assert.deepEqual(messageAndStatus(new NotRead("the option a")), ["x.js: the option a is not read yet", STATUS.source]);
   const refused = new JsgenError("refused: Name at 5", { status: 1, line: 2, column: 3, rule: "Name" });
   assert.deepEqual(messageAndStatus(refused), ["x.js:2:3: refused: Name at 5\n  f(b)\n    ^", 1]);
