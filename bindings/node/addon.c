@@ -1,4 +1,5 @@
-// The calls of bindings/c/jsgen.h for node, by Node-API. Each runs on a thread of its own, which has the stack that the job may take.
+// The calls of bindings/c/jsgen.h for node, by Node-API. Each runs where there is the stack that its job may take: here, or on a thread
+// of its own.
 #define _GNU_SOURCE
 #include <node_api.h>
 #include <pthread.h>
@@ -12,6 +13,8 @@
 #define STACK_FOR_BYTE ((size_t)160)
 #define STACK_BESIDE ((size_t)16 << 20)
 #define STACK_GUARD ((size_t)1 << 20)
+// What a call takes here beside its levels, with room.
+#define STACK_HERE ((size_t)512 << 10)
 
 typedef uint32_t job_call(const uint8_t *job, size_t job_length, uint8_t *buffer, size_t buffer_length, struct jsgen_answer *answer);
 
@@ -44,6 +47,25 @@ static void *run(void *given) {
   return NULL;
 }
 
+// How much of this thread's stack is left, as far as that is known. Where it ends is asked once.
+static size_t stack_left(void) {
+  static _Thread_local uint8_t *end = NULL;
+  pthread_attr_t attributes;
+  if (end == NULL && pthread_getattr_np(pthread_self(), &attributes) == 0) {
+    void *lowest = NULL;
+    size_t size;
+    if (pthread_attr_getstack(&attributes, &lowest, &size) == 0) end = lowest;
+    pthread_attr_destroy(&attributes);
+  }
+  uint8_t *here = __builtin_frame_address(0);
+  return end != NULL && here > end ? (size_t)(here - end) : 0;
+}
+
+// Whether this thread has the stack for a job of this length.
+static bool fits_here(size_t length) {
+  return length <= JSGEN_LONGEST_JOB && STACK_HERE + length * STACK_FOR_BYTE <= stack_left();
+}
+
 // Whether the work was done, on a thread whose stack is `size` bytes from `stack` on, below which nothing may be touched.
 static bool run_on(uint8_t *stack, size_t size, struct work *work) {
   pthread_attr_t attributes;
@@ -56,6 +78,10 @@ static bool run_on(uint8_t *stack, size_t size, struct work *work) {
 }
 
 static bool run_deep(struct work *work) {
+  if (fits_here(work->length)) {
+    run(work);
+    return true;
+  }
   size_t length = work->length < JSGEN_LONGEST_JOB ? work->length : JSGEN_LONGEST_JOB;
   size_t size = STACK_GUARD + STACK_BESIDE + ((length * STACK_FOR_BYTE) & ~(STACK_GUARD - 1));
   uint8_t *stack = mmap(NULL, size, PROT_READ | PROT_WRITE, MAP_PRIVATE | MAP_ANONYMOUS | MAP_NORESERVE | MAP_STACK, -1, 0);

@@ -5,17 +5,24 @@ import { Refused, run } from "./command.mjs";
 
 const FLAGS = { minify: { type: "boolean" }, "ascii-only": { type: "boolean" }, "single-quote": { type: "boolean" } };
 
-// The places of a tree are those of its own source, which isn't there.
-function jobIn(text, options) {
+function treeIn(text) {
   try {
-    return jobOf(JSON.parse(text), { options });
+    return JSON.parse(text);
   } catch (error) {
-    throw faultOf(error, "<stdin>", null);
+    throw faultOf(error, "<stdin>", text);
+  }
+}
+
+function jobIn(tree, options) {
+  try {
+    return jobOf(tree, { options });
+  } catch (error) {
+    throw faultOf(error, "<stdin>");
   }
 }
 
 await run({ usage: "node job.mjs [--minify] [--ascii-only] [--single-quote] < TREE.json", options: FLAGS }, async (flags, others) => {
   if (others.length > 0) throw new Refused(`unknown word ${others[0]}`);
   const options = Object.fromEntries(Object.entries(flags).map(([name, value]) => [name.replace("-", "_"), value]));
-  await writeOut(`${JSON.stringify(jobIn(await readText(null), options))}\n`);
+  await writeOut(`${JSON.stringify(jobIn(treeIn(await readText(null)), options))}\n`);
 });

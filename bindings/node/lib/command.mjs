@@ -90,13 +90,13 @@ function faultAt(name, source, place, message, status = STATUS.source) {
   return new SourceFault(`${name}:${place.line}:${place.column}: ${message}\n${excerptAt(source, place)}`, status);
 }
 
-/** An error as a SourceFault, where it is one of the parser, the converter or the printer that speaks of this source, null where that isn't there. */
-export function faultOf(error, name, source) {
+/** An error as a SourceFault, where it is one of the parser, the converter or the printer that speaks of this source, or of a tree without one. */
+export function faultOf(error, name, source = null) {
   if (isStackFull(error)) return new SourceFault(`${name}: nested too deeply for the stack of node`, STATUS.memory);
   if (!isOfSource(error)) return error;
   const place = source === null ? null : placeOf(error, source);
   if (place === null) return new SourceFault(`${name}: ${error.message}`, statusOf(error));
-  return faultAt(name, source, place, error.message.replace(/ \(\d+:\d+\)$| in line \d+, column \d+/, ""), statusOf(error));
+  return faultAt(name, source, place, error.message.replace(/ \(\d+:\d+\)$| in line \d+, column \d+| at \d+(?= is not read yet)/, ""), statusOf(error));
 }
 
 function isStackFull(error) {

@@ -126,7 +126,7 @@ function plannedOf(values, files, settings) {
   const plan = folder === undefined ? [{ input: inputOf(files[0]), output: output === STDIN ? null : (output ?? null) }] : mirrored(files, folder);
   refuseOverwriting(plan, settings);
   if (settings.options.legal !== "linked") return plan;
-  return plan.map((planned) => ({ ...planned, legalPath: linkTo(settings.licences, planned.output) }));
+  return plan.map((planned) => ({ ...planned, legalPath: nameBeside(settings.licences, planned.output) }));
 }
 
 function inputOf(file) {
@@ -189,13 +189,6 @@ async function printedFile({ input, output, legalPath }, { options, sourceMap, i
 // The name of a file as one that is written beside it says it: where nothing is written, as it was given.
 function nameBeside(path, output) {
   return output === null ? path : relative(dirname(resolve(output)), resolve(path)).split(sep).join("/");
-}
-
-// The code names the file of licences in a comment, which would end there.
-function linkTo(licences, output) {
-  const path = nameBeside(licences, output);
-  if (path.includes("*/")) throw new Refused("--legal linked=FILE takes no path that holds */");
-  return path;
 }
 
 // ---- writing

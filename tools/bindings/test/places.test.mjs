@@ -4,7 +4,7 @@ import { test } from "node:test";
 import { parsed } from "../../estree/parser.mjs";
 import { unbuilt } from "../../estree/program.mjs";
 
-const { JsgenError, print } = await import("../../../bindings/node/index.mjs");
+const { JsgenError, print, renaming } = await import("../../../bindings/node/index.mjs");
 const { addon } = await import("../../../bindings/node/lib/printer.mjs");
 const skip = addon === null && unbuilt;
 
@@ -63,11 +63,14 @@ test("without a source a tree's error has what its nodes tell", { skip }, () => 
 });
 
 test("an error of a field has its name and the node of its row", { skip }, () => {
-  const { tree, node } = spoilt(SOURCE, (call) => Object.assign(call.arguments[0].property, { name: 5 }));
-  const error = errorOf(tree, { source: SOURCE });
+  const source = "let\n  a;";
+  const tree = parsed(source);
+  const node = tree.body[0].declarations[0].id;
+  const names = { ...renaming(tree), symbolOf: new Map([[node, -1]]) };
+  const error = errorOf(tree, { source, names });
   assert.equal(error.node, node);
-  assert.deepEqual([error.status, error.rule, error.fieldName, error.line, error.column], [3, "Wrong", "name", 2, 5]);
-  assert.match(error.message, /^not a job: Wrong row \d+ field 2 \(name of IdentifierName in line 2, column 5\)$/);
+  assert.deepEqual([error.status, error.rule, error.fieldName, error.line, error.column], [3, "Wrong", "symbol", 2, 3]);
+  assert.match(error.message, /^not a job: Wrong row 0 field \d+ \(symbol of BindingIdentifier in line 2, column 3\)$/);
   const option = errorOf(parsed("a"), { options: { initial_indent: -1 } });
   assert.deepEqual([option.fieldName, option.message], ["options", "not a job: Wrong head field 0 (options)"]);
 });

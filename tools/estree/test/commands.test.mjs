@@ -43,8 +43,6 @@ test("what is wrong with words and input is one line, and the usage behind that 
   assert.deepEqual(ran("job", ["a"]), { status: 2, out: "", err: `unknown word a\n${usage}` });
   assert.deepEqual(ran("job", ["--help"]), { status: 0, out: usage, err: "" });
   assert.deepEqual(ran("job", [], "null"), { status: 1, out: "", err: "<stdin>: program is no node\n" });
-  const tree = { type: "Program", sourceType: "module", body: [{ type: "TSEnumDeclaration", start: 7, end: 9 }] };
-  assert.deepEqual(ran("job", [], JSON.stringify(tree)), { status: 1, out: "", err: "<stdin>: TSEnumDeclaration at 7 is not read yet\n" });
   assert.match(ran("job", [], "{").err, /^<stdin>: .* in JSON .*\n$/);
   assert.match(ran("roundtrip", ["--random", "x"]).err, /^--random wants a whole number\nusage: node roundtrip\.mjs /);
   assert.match(ran("roundtrip", []).err, /^a directory, or --random, is wanted\nusage: /);

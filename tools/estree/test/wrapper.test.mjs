@@ -32,7 +32,8 @@ esac
 async function withWrapper(pause, use) {
   const folder = mkdtempSync(join(tmpdir(), "jsgen-wrapper-"));
   try {
-    for (const name of ["jsgen", "crates.txt"]) copyFileSync(top(name), join(folder, name));
+    mkdirSync(join(folder, "tools", "release"), { recursive: true });
+    for (const name of ["jsgen", "crates.txt", "tools/release/lay_out"]) copyFileSync(top(name), join(folder, name));
     for (const crate of ["jsgen", "jsgen_tool", "jsgen_cli"]) mkdirSync(join(folder, "crates", crate, "src"), { recursive: true });
     copyFileSync(top(HELP), join(folder, HELP));
     mkdirSync(join(folder, "bin"));
@@ -91,7 +92,7 @@ test("--help, -h and --version are answered at once, on standard output", async 
     assert.deepEqual([await short.ended, short.code, short.lines], [0, help.code, ""]);
     const version = started(folder, env, ["--version"]);
     assert.equal(await version.ended, 0);
-    assert.match(version.code, /^jsgen, jobs of format 1, /);
+    assert.match(version.code, /^jsgen \d+\.\d+\.\d+, jobs of format 1, /);
     assert.deepEqual(calls().filter((line) => !line.endsWith(" version")), []);
   });
 });
@@ -100,7 +101,7 @@ test("no word and wrong words are the usage and status 2, and build nothing", as
   await withWrapper("0", async (folder, env, calls) => {
     const wrong = [
       [], [""], ["prin"], ["--helpp"], ["print", "a", "b"], ["print", ""], ["print", "--minify"], ["--help", "print"], ["--version", "a"], ["--built", "a"],
-      ["--install"], ["--install", ""], ["--install", "-x"], ["--release"], ["--release", ""], ["--release", "a", "b"],
+      ["--install"], ["--install", ""], ["--install", "-x"], ["--install", "-"], ["--release", "-"], ["--release"], ["--release", ""], ["--release", "a", "b"],
       ["--unproved"], ["--unproved", "a"], ["--unproved", "--help"], ["--unproved", "--install", "a"],
     ];
     for (const words of wrong) {
@@ -128,6 +129,8 @@ test("the file behind a word is the program's standard input", async () => {
     for (const word of ["print", "map", "legal", "check"]) {
       const call = started(folder, env, [word, join(folder, "a job")]);
       assert.deepEqual([await call.ended, call.code, call.lines], [0, `${word}\nthe job\n`, ""]);
+      const piped = spawnSync(join(folder, "jsgen"), [word, "-"], { env, input: "piped\n" });
+      assert.deepEqual([piped.status, piped.stdout.toString()], [0, `${word}\npiped\n`]);
     }
     assert.deepEqual(calls(), []);
   });
