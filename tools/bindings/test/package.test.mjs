@@ -104,7 +104,7 @@ test("an addon that doesn't load says why, whatever program is there", { skip: w
 
 test("no module of the package reaches above its folder", () => {
   const folder = top("bindings/node");
-  const modules = ["", "lib"].flatMap((part) => readdirSync(join(folder, part)).filter((file) => /\.mjs$/.test(file)).map((file) => join(folder, part, file)));
+  const modules = ["", "lib", "bin"].flatMap((part) => readdirSync(join(folder, part)).filter((file) => /\.mjs$/.test(file)).map((file) => join(folder, part, file)));
   const packed = modules.filter((file) => !/\/(build|bundled)\.mjs$/.test(file));
   for (const file of packed) {
     const text = readFileSync(file, "utf8");
