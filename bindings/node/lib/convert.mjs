@@ -1,4 +1,5 @@
 // From an ESTree tree (acorn, espree, meriyah; Babel's with its plugin `estree`) to a job of jsgen (docs/FORMAT.md).
+import { callIn, functionIn, isFunction } from "./annotations.mjs";
 import { commentsOf } from "./comments.mjs";
 import { literalOf, stringIn } from "./literals.mjs";
 import { validate } from "./validate.mjs";
@@ -28,6 +29,8 @@ export function jobAndNodes(program, settings = {}) {
   for (const name of Object.keys(options)) {
     if (!isOption(name)) throw new NotRead(`the option ${name}`);
   }
+  if (source !== undefined && typeof source !== "string") throw new TypeError("source is a text");
+  if (!Array.isArray(comments)) throw new TypeError("comments are a list");
   if (names !== null && !isRenaming(names)) throw new TypeError("names are what `renaming` gives of the tree");
   const root = rootOf(program);
   const printed = printedComments(comments, source, keepSourceMappingUrl);
@@ -61,40 +64,6 @@ function placesOf(comments, source) {
   const wrong = places.findIndex(({ start, end }, at) => !(start >= (places[at - 1]?.end ?? 0) && start < end && end <= source.length));
   if (wrong >= 0) throw new TypeError(`comment ${wrong} has no place in the source behind the comments before it`);
   return places;
-}
-
-function isFunction(node) {
-  return /^(Function(Declaration|Expression)|ArrowFunctionExpression)$/.test(node?.type);
-}
-
-// The call that an expression is, or that its leftmost operand, its test or the first of a sequence is.
-function callIn(node) {
-  switch (node.type) {
-    case "CallExpression":
-    case "NewExpression":
-      return node;
-    case "ParenthesizedExpression":
-    case "ChainExpression":
-      return callIn(node.expression);
-    case "BinaryExpression":
-    case "LogicalExpression":
-      return callIn(node.left);
-    case "ConditionalExpression":
-      return callIn(node.test);
-    case "SequenceExpression":
-      return node.expressions.length > 0 ? callIn(node.expressions[0]) : null;
-    default:
-      return null;
-  }
-}
-
-// The function that a statement declares, exports, or gives the first of its constants.
-function functionIn(node) {
-  if (!node) return null;
-  if (isFunction(node)) return node;
-  if (/^Export(Named|Default)Declaration$/.test(node.type)) return functionIn(node.declaration);
-  const init = node.type === "VariableDeclaration" && node.kind === "const" && node.declarations[0]?.init;
-  return init && isFunction(withoutParentheses(init)) ? withoutParentheses(init) : null;
 }
 
 // Whether a property says its key again as its value, which may have been changed since.
@@ -181,7 +150,7 @@ class Rows {
     const { directives, statements } = this.body(node.body);
     // Comments behind the last token belong to the text's end, where some trees don't end.
     const place = comments.length > 0 ? { start: startOf(node), end: this.source.length } : node;
-    this.add("Program", place, { source: hasSource ? this.source.toWellFormed() : null, kind: "module", comments: rows, hashbang, directives, body: statements });
+    this.add("Program", place, { source: hasSource ? this.source?.toWellFormed() : null, kind: "module", comments: rows, hashbang, directives, body: statements });
   }
 
   // The first line of the source, where it begins with `#!`; a tree without a source has it as Babel's do.

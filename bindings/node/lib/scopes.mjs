@@ -31,6 +31,8 @@ export const SIGNS = ["é", "日本", "größe", "\u{20BB7}", "ñ", "ℵ", "π\u
  * Throws `NotRead` and `MalformedTree` as `jobOf` does.
  */
 export function renaming(program, letters = LETTERS) {
+  const areLetters = Array.isArray(letters) && letters.length > 0 && letters.every((letter) => typeof letter === "string" && letter !== "");
+  if (!areLetters) throw new TypeError("letters are a list of texts, of one at least");
   const root = rootOf(program);
   try {
     validate(root, (what, node, hint) => {
@@ -102,12 +104,14 @@ function writtenOut(node, name, shorthand, specifiers) {
   }
 }
 
-// Names of one letter, of two, and so on.
+// Names of one letter, of two, and so on, each once.
 function* freshNames(letters, taken) {
   for (let number = 0; ; number++) {
     let name = "";
     for (let rest = number; rest >= 0; rest = Math.floor(rest / letters.length) - 1) name = letters[rest % letters.length] + name;
-    if (!taken.has(name) && !RESERVED.has(name)) yield name;
+    if (taken.has(name) || RESERVED.has(name)) continue;
+    taken.add(name);
+    yield name;
   }
 }
 

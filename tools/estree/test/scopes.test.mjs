@@ -133,6 +133,13 @@ test("no new name is reserved, or that of a global", () => {
   assert.ok(symbols.includes("b") && symbols.includes("zz") && symbols.includes("aaa"));
 });
 
+test("new names are made of any letters, each once", () => {
+  const program = parsed("let x, y, z, w; class A { #x; #y; #z }");
+  const { symbols, private: privates } = renaming(program, ["q", "qq", "q"]);
+  assert.equal(new Set(symbols).size, 5);
+  assert.equal(new Set(Object.values(privates[0])).size, 3);
+});
+
 test("private tables are in the order of the bodies, and what a class extends is none of its own", () => {
   const source = "class A extends class { #x; y = class { #z } } { #x; #y; [class { #v }] = class {} }";
   assert.deepEqual(renaming(parsed(source)).private, [{ x: "a" }, { z: "b" }, { x: "a", y: "b" }, { v: "c" }, {}]);
