@@ -2,7 +2,7 @@
 // texts, and texts with errors exactly as acorn's source does, and passes acorn's own tests. Those are in Debian's source package `acorn`;
 // the variable ACORN_TESTS names the folder of its sources.
 import assert from "node:assert/strict";
-import { existsSync, mkdtempSync, readFileSync, readdirSync, rmSync, writeFileSync } from "node:fs";
+import { existsSync, mkdtempSync, readFileSync, readdirSync, realpathSync, rmSync, writeFileSync } from "node:fs";
 import Module, { createRequire } from "node:module";
 import { tmpdir } from "node:os";
 import { join } from "node:path";
@@ -152,8 +152,8 @@ test("printed acorn tells errors as its source does", { skip }, (t) => {
 
 // ---- acorn's own tests
 
-const TESTS = process.env.ACORN_TESTS;
-const reason = skip || (TESTS === undefined && "ACORN_TESTS names no folder of acorn's sources");
+const TESTS = process.env.ACORN_TESTS ? realpathSync(process.env.ACORN_TESTS) : null;
+const reason = skip || (TESTS === null && "ACORN_TESTS names no folder of acorn's sources");
 
 // How many of them there are, and those that fail. They load acorn from beside their folder.
 function ownTests(acorn) {
