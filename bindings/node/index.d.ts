@@ -157,5 +157,8 @@ export function checkJob(job: string | Uint8Array): void;
 /** The job of an ESTree tree of a module. Throws a NotRead, or a JsgenError for a tree that is nested too deeply. */
 export function jobOf(program: object, settings?: JobSettings): Job;
 
-/** Tables of new names for the bindings and the private names of a tree, made of these letters. */
+/**
+ * Tables of new names for the bindings and the private names of a tree, made of these letters. They hold for the tree as it is then. Throws as
+ * `jobOf` does.
+ */
 export function renaming(program: object, letters?: string[]): Renaming;

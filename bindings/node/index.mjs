@@ -43,6 +43,7 @@ export function renaming(...given) {
 /** Prints an ESTree tree of a module. */
 export function print(program, settings = {}) {
   if (program === null || typeof program !== "object") throw new TypeError("a program is an ESTree node");
+  if (settings === null || typeof settings !== "object") throw new TypeError("settings are an object");
   const { source } = settings;
   const options = optionsOf(settings);
   const comments = source === undefined ? [] : (program.comments ?? program.program?.comments ?? []);
@@ -92,9 +93,9 @@ function unlessTooDeep(work) {
 }
 
 function optionsOf(settings) {
-  const options = { ...settings.options };
-  for (const [name, value] of Object.entries(settings)) {
-    if (name in NAMES) options[NAMES[name]] = flag(name, value);
+  const options = { ...optionsGiven(settings.options ?? {}) };
+  for (const [name, value] of Object.entries(settings).filter(([, given]) => given !== undefined)) {
+    if (Object.hasOwn(NAMES, name)) options[NAMES[name]] = flag(name, value);
     else if (!OTHERS.has(name)) throw new TypeError(`unknown setting ${name}`);
   }
   if (settings.indent !== undefined) Object.assign(options, indentOf(settings.indent));
@@ -103,6 +104,11 @@ function optionsOf(settings) {
     if (typeof settings.source !== "string") throw new TypeError("sourceMap wants the source");
     options.source_map_path ??= UNNAMED;
   }
+  return options;
+}
+
+function optionsGiven(options) {
+  if (typeof options !== "object") throw new TypeError("options are an object");
   return options;
 }
 

@@ -1,14 +1,13 @@
 // From an ESTree tree (acorn, espree, meriyah; Babel's with its plugin `estree`) to a job of jsgen (docs/FORMAT.md).
+import { callIn, functionIn, isFunction } from "./annotations.mjs";
 import { commentsOf } from "./comments.mjs";
 import { literalOf, stringIn } from "./literals.mjs";
 import { validate } from "./validate.mjs";
 import { isField, isOption, isType, wordsOf } from "./reads.mjs";
-import { MalformedTree, NotRead, causeOf, endOf, placeOf, startOf, wayTo } from "./refusals.mjs";
+import { MalformedTree, NotRead, causeOf, endOf, placeOf, rootOf, startOf, wayTo } from "./refusals.mjs";
 import { bytesAt, isWholeNumber, unitsOf, withoutParentheses } from "./texts.mjs";
 
 export { MalformedTree, NotRead };
-
-const SCRIPT = 'ask the parser for sourceType: "module", since the default of acorn and espree is a script';
 
 /**
  * The job that prints a program. `program` is the ESTree node of a module, or Babel's `File` of one. Of the members of the second
@@ -30,7 +29,10 @@ export function jobAndNodes(program, settings = {}) {
   for (const name of Object.keys(options)) {
     if (!isOption(name)) throw new NotRead(`the option ${name}`);
   }
-  const root = program?.type === "File" ? program.program : program;
+  if (source !== undefined && typeof source !== "string") throw new TypeError("source is a text");
+  if (!Array.isArray(comments)) throw new TypeError("comments are a list");
+  if (names !== null && !isRenaming(names)) throw new TypeError("names are what `renaming` gives of the tree");
+  const root = rootOf(program);
   const printed = printedComments(comments, source, keepSourceMappingUrl);
   const rows = new Rows(root, source, spans, negative, names);
   try {
@@ -41,6 +43,10 @@ export function jobAndNodes(program, settings = {}) {
   const tables = names ? { symbols: names.symbols, references: names.references, private: names.private } : {};
   const job = { ...(Object.keys(options).length > 0 ? { options } : {}), ...tables, rows: rows.rows };
   return { job, nodes: rows.nodes };
+}
+
+function isRenaming({ symbols, references, private: privates, symbolOf, referenceOf }) {
+  return [symbols, references, privates].every(Array.isArray) && [symbolOf, referenceOf].every((numbers) => numbers instanceof Map);
 }
 
 // What the rows of the comments that are printed hold, each with the comment itself.
@@ -58,40 +64,6 @@ function placesOf(comments, source) {
   const wrong = places.findIndex(({ start, end }, at) => !(start >= (places[at - 1]?.end ?? 0) && start < end && end <= source.length));
   if (wrong >= 0) throw new TypeError(`comment ${wrong} has no place in the source behind the comments before it`);
   return places;
-}
-
-function isFunction(node) {
-  return /^(Function(Declaration|Expression)|ArrowFunctionExpression)$/.test(node?.type);
-}
-
-// The call that an expression is, or that its leftmost operand, its test or the first of a sequence is.
-function callIn(node) {
-  switch (node.type) {
-    case "CallExpression":
-    case "NewExpression":
-      return node;
-    case "ParenthesizedExpression":
-    case "ChainExpression":
-      return callIn(node.expression);
-    case "BinaryExpression":
-    case "LogicalExpression":
-      return callIn(node.left);
-    case "ConditionalExpression":
-      return callIn(node.test);
-    case "SequenceExpression":
-      return node.expressions.length > 0 ? callIn(node.expressions[0]) : null;
-    default:
-      return null;
-  }
-}
-
-// The function that a statement declares, exports, or gives the first of its constants.
-function functionIn(node) {
-  if (!node) return null;
-  if (isFunction(node)) return node;
-  if (/^Export(Named|Default)Declaration$/.test(node.type)) return functionIn(node.declaration);
-  const init = node.type === "VariableDeclaration" && node.kind === "const" && node.declarations[0]?.init;
-  return init && isFunction(withoutParentheses(init)) ? withoutParentheses(init) : null;
 }
 
 // Whether a property says its key again as its value, which may have been changed since.
@@ -144,12 +116,21 @@ class Rows {
       const isAbsent = value === null || value === undefined || value === false || (Array.isArray(value) && value.length === 0);
       if (isAbsent && name !== needed) continue;
       if (!isField(type, name)) this.refuse(`${name} of ${type}`, node);
+      if (typeof value === "string" && !value.isWellFormed()) this.refuse(`half a surrogate pair in the ${name} of ${type}`, node);
       const words = wordsOf(type, name);
       if (words && !words.includes(value)) this.refuse(`${name} ${value} of ${type}`, node);
       row[name] = value;
     }
     this.nodes.push(node);
     return this.rows.push(row) - 1;
+  }
+
+  // The number of a name in the tables of new names, where there are any.
+  numberOf(node, table) {
+    if (this.names === null) return undefined;
+    const number = this.names[table].get(node);
+    if (number === undefined) this.fail(node, "isn't in the tables of new names, which are of another tree, or of this one before it was changed");
+    return number;
   }
 
   several(nodes, convert) {
@@ -163,15 +144,13 @@ class Rows {
   // ---- statements
 
   program(node, comments, hasSource) {
-    const type = node?.sourceType;
-    if (typeof type === "string" && type !== "module") this.refuse(type === "script" ? "a script" : `sourceType ${type} of Program`, node, SCRIPT);
     validate(node, (what, part, hint) => this.refuse(what, part, hint));
     const rows = this.comments(comments);
     const hashbang = this.hashbang(node);
     const { directives, statements } = this.body(node.body);
     // Comments behind the last token belong to the text's end, where some trees don't end.
     const place = comments.length > 0 ? { start: startOf(node), end: this.source.length } : node;
-    this.add("Program", place, { source: hasSource ? this.source : null, kind: "module", comments: rows, hashbang, directives, body: statements });
+    this.add("Program", place, { source: hasSource ? this.source?.toWellFormed() : null, kind: "module", comments: rows, hashbang, directives, body: statements });
   }
 
   // The first line of the source, where it begins with `#!`; a tree without a source has it as Babel's do.
@@ -441,7 +420,7 @@ class Rows {
   binding(node) {
     switch (node.type) {
       case "Identifier":
-        return this.add("BindingIdentifier", node, { name: node.name, symbol: this.names?.symbolOf.get(node) });
+        return this.add("BindingIdentifier", node, { name: node.name, symbol: this.numberOf(node, "symbolOf") });
       case "ObjectPattern":
         return this.add(node.type, node, this.withRest("properties", node.properties, this.bindingProperty, this.bindingRest));
       case "ArrayPattern":
@@ -531,7 +510,7 @@ class Rows {
     if (this.annotations.size > 0) this.annotateExpression(node);
     switch (node.type) {
       case "Identifier":
-        return this.add("IdentifierReference", node, { name: node.name, reference: this.names?.referenceOf.get(node) });
+        return this.add("IdentifierReference", node, { name: node.name, reference: this.numberOf(node, "referenceOf") });
       case "Literal":
         return this.literal(node);
       case "ThisExpression":

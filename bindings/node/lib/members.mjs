@@ -10,12 +10,15 @@ const HOLES = member("holes", true, []);
 const TEXT = member("text", true, []);
 const MAYBE_TEXT = member("text", false, []);
 const FLAG = member("flag", false, []);
+const NEEDED_FLAG = member("flag", true, []);
 // `importKind` and `exportKind` of trees that may have types
 const OF_VALUES = member("value", false, []);
 // what the converter looks into
 const ANY = member("any", false, []);
 /** What parsers and tools note of a node, on which its meaning doesn't depend. */
 export const NOTE = member("note", false, []);
+
+const HOLD_NODES = ["node", "list", "holes"];
 
 const NOTES = [
   "type", "start", "end", "loc", "range", "extra", "parent", "tokens", "comments", "leadingComments", "trailingComments", "innerComments", "errors",
@@ -29,6 +32,7 @@ const NAME = ["Identifier", "Literal"];
 const ATTRIBUTES = { attributes: maybeList("ImportAttribute"), assertions: maybeList("ImportAttribute") };
 const LOOP_OVER = { left: node(), right: node(), body: node() };
 
+// The members of a type stand in the order of the text.
 const TYPES = {
   Program: { body: list(), sourceType: MAYBE_TEXT, interpreter: maybe("InterpreterDirective") },
   InterpreterDirective: { value: TEXT },
@@ -90,7 +94,7 @@ const TYPES = {
   LogicalExpression: OPERATION,
   AssignmentExpression: OPERATION,
   UnaryExpression: { operator: TEXT, prefix: FLAG, argument: node() },
-  UpdateExpression: { operator: TEXT, prefix: FLAG, argument: node() },
+  UpdateExpression: { operator: TEXT, prefix: NEEDED_FLAG, argument: node() },
   AwaitExpression: { argument: node() },
   YieldExpression: { delegate: FLAG, argument: maybe() },
   ConditionalExpression: { test: node(), consequent: node(), alternate: node() },
@@ -117,7 +121,10 @@ const TYPES = {
 
 const MEMBERS = new Map(Object.entries(TYPES).map(([type, members]) => [type, tableOf(members)]));
 
-/** The members of nodes of a type, `byName` and the names of those that are `needed`, or undefined where the type isn't read. */
+/**
+ * The members of nodes of a type, `byName`, and the names of those that are `needed` and of those that hold nodes, `children`; undefined where
+ * the type isn't read.
+ */
 export function membersOf(type) {
   return MEMBERS.get(type);
 }
@@ -125,7 +132,13 @@ export function membersOf(type) {
 function tableOf(members) {
   const byName = new Map([...NOTES.map((name) => [name, NOTE]), ...Object.entries(members)]);
   const needed = Object.keys(members).filter((name) => members[name].isNeeded);
-  return { byName, needed };
+  const children = Object.keys(members).filter((name) => HOLD_NODES.includes(members[name].holds));
+  return { byName, needed, children };
+}
+
+/** The nodes that stand in a node, in the order of the text. */
+export function childrenOf(node) {
+  return MEMBERS.get(node.type).children.flatMap((name) => node[name] ?? []).filter((child) => child !== null);
 }
 
 /** What stands in a node or a list, each with how a way goes on to it. */

@@ -13,6 +13,11 @@ export class NotRead extends Error {
 /** A tree that is none: a member that is missing, or that holds what it can't. */
 export class MalformedTree extends TypeError {}
 
+/** The program itself, of Babel's `File` too. */
+export function rootOf(program) {
+  return program?.type === "File" ? program.program : program;
+}
+
 /** The offset at which a node begins in its source, or undefined. */
 export function startOf(node) {
   return node?.start ?? node?.range?.[0];

@@ -1,7 +1,10 @@
 // Which binding each name of a program stands for, in what jsgen reads by now: declarations of the module, of functions and of
 // blocks, parameters, what a handler catches, and the own names of functions and classes. Each binding is a symbol, and gets a
 // new name. A label is none. A private name is one of the innermost class round it that has a member of that name.
+import { childrenOf } from "./members.mjs";
+import { NotRead, causeOf, placeOf, rootOf } from "./refusals.mjs";
 import { withoutParentheses } from "./texts.mjs";
+import { validate } from "./validate.mjs";
 
 const RESERVED = new Set(
   (
@@ -23,18 +26,39 @@ export const SIGNS = ["é", "日本", "größe", "\u{20BB7}", "ñ", "ℵ", "π\u
  * the references and bindings that are properties too, as in `{ a }`, and `specifiers` those of imports and exports, as in
  * `export { a }`, with how they are written out. A binding that is `__proto__` in an object that is no pattern keeps its name,
  * since of such a property the name is more than a name, and so does what `export` declares. What is bound round a direct
- * `eval`, and the private names of the classes round it, keep their names too, since its code may use any of them.
+ * `eval`, and the private names of the classes round it, keep their names too, since its code may use any of them. A node that stands
+ * in the tree more than once has one name, so what it names in each place gets the same.
+ * Throws `NotRead` and `MalformedTree` as `jobOf` does.
  */
 export function renaming(program, letters = LETTERS) {
+  const areLetters = Array.isArray(letters) && letters.length > 0 && letters.every((letter) => typeof letter === "string" && letter !== "");
+  if (!areLetters) throw new TypeError("letters are a list of texts, of one at least");
+  const root = rootOf(program);
+  try {
+    validate(root, (what, node, hint) => {
+      throw new NotRead(what, node, placeOf(node, undefined, root), hint);
+    });
+    return tablesOf(root, letters);
+  } catch (error) {
+    throw causeOf(error, root);
+  }
+}
+
+function tablesOf(program, letters) {
   const scopes = new Scopes(letters);
   scopes.body(program.body, null);
   const protos = scopes.protos.map((node) => scopes.symbolBehind(node));
   const exported = scopes.exported.map((node) => scopes.symbolOf.get(node));
-  const kept = new Set([...protos, ...exported, ...scopes.seenByEval]);
+  const kept = new Set([...protos, ...exported, ...scopes.seenByEval, ...scopes.alsoGlobal].map((symbol) => scopes.first(symbol)));
   const globals = scopes.references.filter(({ symbol }) => symbol === null).map(({ name }) => name);
   const fresh = freshNames(letters, new Set([...globals, ...[...kept].map((symbol) => scopes.symbols[symbol])]));
+  const symbols = [];
+  for (const [symbol, name] of scopes.symbols.entries()) {
+    const first = scopes.first(symbol);
+    symbols.push(kept.has(first) ? name : first < symbol ? symbols[first] : fresh.next().value);
+  }
   return {
-    symbols: scopes.symbols.map((name, symbol) => (kept.has(symbol) ? name : fresh.next().value)),
+    symbols,
     references: scopes.references.map(({ symbol }) => symbol),
     private: scopes.privateTables(),
     symbolOf: scopes.symbolOf,
@@ -80,12 +104,14 @@ function writtenOut(node, name, shorthand, specifiers) {
   }
 }
 
-// Names of one letter, of two, and so on.
+// Names of one letter, of two, and so on, each once.
 function* freshNames(letters, taken) {
   for (let number = 0; ; number++) {
     let name = "";
     for (let rest = number; rest >= 0; rest = Math.floor(rest / letters.length) - 1) name = letters[rest % letters.length] + name;
-    if (!taken.has(name) && !RESERVED.has(name)) yield name;
+    if (taken.has(name) || RESERVED.has(name)) continue;
+    taken.add(name);
+    yield name;
   }
 }
 
@@ -96,17 +122,36 @@ class Scopes {
     this.symbolOf = new Map();
     this.references = []; // each with its name and its symbol, or null
     this.referenceOf = new Map();
-    this.classes = []; // each with where its body begins, and the new names of its private ones
+    this.classes = []; // the new names of the private ones of each, in the order in which their bodies begin
     this.privateOf = new Map();
     this.shorthand = new Set();
     this.specifiers = new Map(); // names that stand for both names of an import or an export
     this.exported = []; // what `export` declares
     this.protos = [];
     this.seenByEval = new Set(); // symbols
+    // symbols that one node stands for: each with a smaller one, and those that such a node stands for beside a global
+    this.smaller = new Map();
+    this.alsoGlobal = new Set();
   }
 
   symbolBehind(node) {
     return this.references[this.referenceOf.get(node)].symbol;
+  }
+
+  // The first of the symbols that get the same name. All of them have one name before, so none hides another that it didn't hide.
+  first(symbol) {
+    const smaller = this.smaller.get(symbol);
+    return smaller === undefined ? symbol : this.first(smaller);
+  }
+
+  unite(one, other) {
+    const firsts = [this.first(one), this.first(other)];
+    if (firsts[0] !== firsts[1]) this.smaller.set(Math.max(...firsts), Math.min(...firsts));
+  }
+
+  bind(node, symbol) {
+    if (this.symbolOf.has(node)) this.unite(this.symbolOf.get(node), symbol);
+    this.symbolOf.set(node, symbol);
   }
 
   // A scope in which these nodes are bound: their symbols by their names. A name that is bound twice is one symbol, and so is
@@ -114,7 +159,7 @@ class Scopes {
   scope(nodes, outer, names = new Map()) {
     for (const node of nodes) {
       if (!names.has(node.name)) names.set(node.name, this.symbols.push(node.name) - 1);
-      this.symbolOf.set(node, names.get(node.name));
+      this.bind(node, names.get(node.name));
     }
     return { names, outer };
   }
@@ -139,7 +184,15 @@ class Scopes {
   }
 
   reference(node, scope) {
-    this.referenceOf.set(node, this.references.push({ name: node.name, symbol: this.symbolNamed(node.name, scope) }) - 1);
+    const symbol = this.symbolNamed(node.name, scope);
+    if (this.referenceOf.has(node)) this.alike(this.symbolBehind(node), symbol);
+    this.referenceOf.set(node, this.references.push({ name: node.name, symbol }) - 1);
+  }
+
+  // What one node refers to in two places.
+  alike(one, other) {
+    if (one !== null && other !== null) this.unite(one, other);
+    else if (one !== other) this.alsoGlobal.add(one ?? other);
   }
 
   // Code that a direct `eval` runs names what is bound round the call. What it declares itself nothing else sees, since it is strict.
@@ -149,6 +202,8 @@ class Scopes {
 
   visit(node, scope) {
     switch (node?.type) {
+      case undefined:
+        return null;
       case "Identifier":
         return this.reference(node, scope);
       case "CallExpression":
@@ -196,6 +251,9 @@ class Scopes {
       case "ContinueStatement":
       case "MetaProperty":
         return null;
+      case "ImportExpression":
+        this.visit(node.source, scope);
+        return this.visit(node.options ?? node.attributes, scope);
       case "MemberExpression":
         this.visit(node.object, scope);
         return this.key(node.property, node, scope);
@@ -278,7 +336,7 @@ class Scopes {
   caught({ param, body }, outer) {
     const isVariable = param?.type === "Identifier" && variablesIn(body).some(({ name }) => name === param.name);
     if (!isVariable) return this.scope(boundIn(param), outer);
-    this.symbolOf.set(param, this.symbolNamed(param.name, outer));
+    this.bind(param, this.symbolNamed(param.name, outer));
     return outer;
   }
 
@@ -314,7 +372,7 @@ class Scopes {
   class({ superClass, body }, outer) {
     this.visit(superClass, outer);
     const privates = this.newPrivateNames(body, outer);
-    this.classes.push({ start: body.start, privates });
+    this.classes.push(privates);
     for (const element of body.body) this.visit(element, { names: new Map(), privates, outer });
   }
 
@@ -326,10 +384,8 @@ class Scopes {
     return new Map([...new Set(names)].map((name) => [name, areKept ? name : fresh.next().value]));
   }
 
-  // Classes are numbered by where their bodies begin.
   privateTables() {
-    const inOrder = this.classes.toSorted((one, other) => one.start - other.start);
-    return inOrder.map(({ privates }) => Object.fromEntries(privates));
+    return this.classes.map((privates) => Object.fromEntries(privates));
   }
 }
 
@@ -341,10 +397,6 @@ function tablesRound(scope) {
 
 function newPrivateName(name, scope) {
   return tablesRound(scope).find((table) => table.has(name))?.get(name) ?? name;
-}
-
-function childrenOf(node) {
-  return Object.values(node ?? {}).flat().filter((child) => typeof child?.type === "string");
 }
 
 // A call of `eval` by its name, which may be in parentheses, and not in an optional call.
@@ -398,7 +450,7 @@ function declaredBy(node) {
 
 // The names that it declares by `var`, in whatever block within it, but in no function and no static block.
 function variablesIn(node) {
-  if (typeof node?.type !== "string" || /Function|StaticBlock/.test(node.type)) return [];
+  if (/Function|StaticBlock/.test(node.type)) return [];
   const own = node.type === "VariableDeclaration" && node.kind === "var" ? namesOf(node) : [];
-  return [...own, ...Object.values(node).flat().flatMap(variablesIn)];
+  return [...own, ...childrenOf(node).flatMap(variablesIn)];
 }

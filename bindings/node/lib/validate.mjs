@@ -8,6 +8,7 @@ const OF_BABEL = new Set([
   "ObjectMethod", "ObjectProperty", "ClassMethod", "ClassPrivateMethod", "ClassProperty", "ClassPrivateProperty", "PrivateName", "Import",
   "OptionalMemberExpression", "OptionalCallExpression", "ExportNamespaceSpecifier",
 ]);
+const SCRIPT = 'ask the parser for sourceType: "module", since the default of acorn and espree is a script';
 const BABEL = 'the tree is of Babel\'s own kind; its plugin ["estree", { classFeatures: true }] makes an ESTree tree';
 
 /**
@@ -16,6 +17,8 @@ const BABEL = 'the tree is of Babel\'s own kind; its plugin ["estree", { classFe
  */
 export function validate(program, refuse) {
   if (!isNode(program)) throw new MalformedTree(`program${faultOf(program)}`);
+  const { sourceType } = program;
+  if (typeof sourceType === "string" && sourceType !== "module") refuse(sourceType === "script" ? "a script" : `sourceType ${sourceType} of Program`, program, SCRIPT);
   if (membersOf(program.type) !== undefined && program.type !== "Program") throw new MalformedTree(`program is of type ${program.type}, not Program`);
   new Validator(program, refuse).node(program);
 }

@@ -128,6 +128,30 @@ test("wrong arguments are a TypeError", () => {
   assert.throws(() => print(tree, { sourceMap: true }), { name: "TypeError", message: "sourceMap wants the source" });
 });
 
+test("what is wrong with arguments is one line", () => {
+  const tree = parsed("// a\nb", { comments: true });
+  const wrong = [
+    [{ source: null }, "source is a text"],
+    [{ source: 1 }, "source is a text"],
+    [null, "settings are an object"],
+    [1, "settings are an object"],
+    [{ options: 1 }, "options are an object"],
+    [{ names: {} }, "names are what `renaming` gives of the tree"],
+  ];
+  for (const [settings, message] of wrong) assert.throws(() => print(tree, settings), { name: "TypeError", message });
+  assert.throws(() => print({ ...tree, comments: { 0: {} } }, { source: "// a\nb" }), { name: "TypeError", message: "comments are a list" });
+  for (const letters of [[], [""], [1], "ab", null]) {
+    assert.throws(() => renaming(tree, letters), { name: "TypeError", message: "letters are a list of texts, of one at least" });
+  }
+  assert.throws(() => renaming(null), { name: "TypeError", message: "program is no node" });
+});
+
+test("a setting that is undefined is none", { skip }, () => {
+  const settings = { source: undefined, minify: undefined, indent: undefined, comments: undefined, names: undefined, options: undefined, sourceMap: undefined };
+  assert.deepEqual(print(parsed("a"), { ...settings, keepSourceMappingUrl: undefined }), { code: "a;\n", map: null });
+  assert.equal(print(parsed("a"), { options: { source_map_path: "b.js" } }).code, "a;\n");
+});
+
 test("a map is made where it is asked for", { skip: withoutMaps }, () => {
   const source = "const a = 1 + 2;";
   const settings = { source, minify: true, sourceMap: true };

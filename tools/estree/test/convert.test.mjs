@@ -211,6 +211,24 @@ test("a string with a surrogate alone is its units", () => {
   assert.deepEqual(value("f('a\\ud800')"), [97, 0xd800]);
 });
 
+test("a surrogate alone that isn't a string's is refused by its place", () => {
+  const refused = { "`\uD800`": "raw of TemplateElement", "/\uDC00/": "pattern of RegExpLiteral", "'\uD800'; a": "directive of Directive" };
+  for (const [source, what] of Object.entries(refused)) {
+    const message = new RegExp(`^half a surrogate pair in the ${what} in line 1, column [12] is not read yet$`);
+    assert.throws(() => jobOf(parsed(source), { source }), { name: "NotRead", message }, what);
+  }
+  const source = "// \uD800\nf('\uD800')";
+  const { rows } = jobOf(parsed(source), { source, comments: [{ start: 0, end: 4 }] });
+  assert.equal(rows.at(-1).source, "// \uFFFD\nf('\uFFFD')");
+  assert.deepEqual(rows.find((row) => row.type === "StringLiteral"), { type: "StringLiteral", span: [9, 14], value: [0xd800] });
+});
+
+test("an update says where its operator stands", () => {
+  const program = parsed("a++");
+  delete program.body[0].expression.prefix;
+  assert.throws(() => jobOf(program), { name: "TypeError", message: "program.body[0].expression.prefix is neither true nor false" });
+});
+
 test("values that aren't defaults are kept, and others left out", () => {
   assert.equal(rowsOf("false")[0].value, false);
   assert.equal("arguments" in rowsOf("f()")[1], false);

@@ -279,6 +279,6 @@ test("the command that writes jobs tells a tree that is none in one line", () =>
     ['{"type":"Program","body":[{"type":"WithStatement","start":0}]}', "WithStatement at 0 is not read yet"],
   ]) {
     const { status, stdout, stderr } = spawnSync(process.execPath, [command], { input: tree });
-    assert.deepEqual([status, stdout.toString(), stderr.toString()], [1, "", `${line}\n`]);
+    assert.deepEqual([status, stdout.toString(), stderr.toString()], [1, "", `<stdin>: ${line}\n`]);
   }
 });

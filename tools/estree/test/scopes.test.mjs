@@ -133,11 +133,123 @@ test("no new name is reserved, or that of a global", () => {
   assert.ok(symbols.includes("b") && symbols.includes("zz") && symbols.includes("aaa"));
 });
 
+test("new names are made of any letters, each once", () => {
+  const program = parsed("let x, y, z, w; class A { #x; #y; #z }");
+  const { symbols, private: privates } = renaming(program, ["q", "qq", "q"]);
+  assert.equal(new Set(symbols).size, 5);
+  assert.equal(new Set(Object.values(privates[0])).size, 3);
+});
+
 test("private tables are in the order of the bodies, and what a class extends is none of its own", () => {
   const source = "class A extends class { #x; y = class { #z } } { #x; #y; [class { #v }] = class {} }";
   assert.deepEqual(renaming(parsed(source)).private, [{ x: "a" }, { z: "b" }, { x: "a", y: "b" }, { v: "c" }, {}]);
   const tables = renaming(parsed("class A { #__proto__; #constructor_ }"), LETTERS).private;
   assert.equal(JSON.stringify(tables), '[{"__proto__":"a","constructor_":"b"}]');
+});
+
+// A copy without places, whose members stand in another order.
+function turned(value) {
+  if (Array.isArray(value)) return value.map(turned);
+  if (value === null || typeof value !== "object" || value instanceof RegExp) return value;
+  const members = Object.entries(value).filter(([name]) => !["start", "end"].includes(name));
+  return Object.fromEntries(members.reverse().map(([name, inside]) => [name, turned(inside)]));
+}
+
+test("private tables are in the order of the text, whatever places and order the tree has", () => {
+  const parts = ["class A { #a; #b; c() { return this.#b } }", "class B { #b; #c; d = class { #e; [class { #f; #g }] } }"];
+  const source = `do { f(${parts[0]}) } while (${parts[1]}, class extends class { #h } { #i })`;
+  const { private: tables } = renaming(parsed(source));
+  assert.deepEqual(tables, [{ a: "a", b: "b" }, { b: "a", c: "b" }, { e: "c" }, { f: "d", g: "e" }, { h: "a" }, { i: "a" }]);
+  assert.deepEqual(renaming(turned(parsed(source))).private, tables);
+  const moved = parsed(parts.join(" "));
+  moved.body.reverse();
+  assert.deepEqual(renaming(moved).private, renaming(parsed(parts.toReversed().join(" "))).private);
+});
+
+test("members that parsers and tools note of a node aren't gone into", () => {
+  const source = "let x = 1; { var y = x } class A { #b = y; c() { eval('x'); return this.#b } }";
+  const program = parsed(source);
+  const note = (node, parent) => {
+    const children = Object.values(node).flat().filter((child) => typeof child?.type === "string");
+    for (const child of children) note(child, node);
+    Object.assign(node, { parent, leadingComments: [{ type: "Block", value: "a" }], extra: { type: "Identifier", name: "x" } });
+  };
+  note(program, null);
+  const { symbols, references, private: privates } = renaming(program);
+  const expected = renaming(parsed(source));
+  assert.deepEqual([symbols, references, privates], [expected.symbols, expected.references, expected.private]);
+});
+
+// What is printed of a tree that was changed by hand, as a source has it.
+function sameAs(source, change) {
+  const program = parsed(source);
+  change(program.body);
+  return printedTree(jobOf(program, { spans: false, names: renaming(program) }));
+}
+
+const treeOf = (source) => printedTree(jobOf(parsed(source), { spans: false }));
+
+test("a node that stands in the tree twice has one name", () => {
+  const params = sameAs("function f(x) { return x } function g(x) { return x * 2 }", ([f, g]) => {
+    g.params = f.params;
+  });
+  assert.deepEqual(params, treeOf("function a(c) { return c } function b(c) { return c * 2 }"));
+  const moved = sameAs("{ let x = 1; f(x) } { let x = 2; { let x = 3 } g }", ([one, other]) => {
+    other.body[2] = one.body[1];
+  });
+  assert.deepEqual(moved, treeOf("{ let a = 1; f(a) } { let a = 2; { let b = 3 } f(a) }"));
+  const three = sameAs("{ let x = 1; f(x) } { let x = 2; g } { let x = 3; g }", ([one, ...others]) => {
+    for (const { body } of others) body[1] = one.body[1];
+  });
+  assert.deepEqual(three, treeOf("{ let a = 1; f(a) } { let a = 2; f(a) } { let a = 3; f(a) }"));
+});
+
+test("where such a node names a global too, the name stays", () => {
+  const behind = sameAs("{ let x = 1; f(x) } g", (body) => {
+    body[1] = body[0].body[1];
+  });
+  assert.deepEqual(behind, treeOf("{ let x = 1; f(x) } f(x)"));
+  const before = sameAs("g; { let x = 1; f(x) }", (body) => {
+    body[0] = body[1].body[1];
+  });
+  assert.deepEqual(before, treeOf("f(x); { let x = 1; f(x) }"));
+});
+
+test("a tree that isn't read, or is none, gets no tables, and the line that it gets of its job", () => {
+  const cyclic = parsed("{}");
+  cyclic.body[0].body.push(cyclic.body[0]);
+  const trees = [
+    null, undefined, "a", {}, { type: "Program" }, { type: "Program", body: [null] }, cyclic, { ...parsed("a"), sourceType: "script" },
+    { type: "Program", body: [{ type: "VariableDeclaration", kind: "let" }] }, { type: "Program", body: [{ type: "WithStatement" }] },
+    { type: "Program", body: [{ type: "ClassDeclaration", id: { type: "Identifier", name: "A" } }] },
+  ];
+  for (const tree of trees) {
+    const fault = faultOf(() => jobOf(tree));
+    assert.match(fault.name, /^(NotRead|TypeError)$/);
+    assert.deepEqual(faultOf(() => renaming(tree)), fault);
+  }
+  const file = { type: "File", program: parsed("let x; x") };
+  assert.deepEqual(renaming(file).symbols, ["a"]);
+});
+
+function faultOf(call) {
+  try {
+    return call();
+  } catch ({ name, message }) {
+    return { name, message };
+  }
+}
+
+test("tables that aren't of the tree are refused", () => {
+  const program = parsed("let x = 1; f(x)");
+  for (const names of [{}, 1, "a", true, [], { symbols: [], references: [], private: [] }, JSON.parse(JSON.stringify(renaming(program)))]) {
+    assert.throws(() => jobOf(program, { names }), { name: "TypeError", message: "names are what `renaming` gives of the tree" });
+  }
+  const line = /^program\.body\[0\]\.declarations\[0\]\.id isn't in the tables of new names, /;
+  assert.throws(() => jobOf(program, { names: renaming(parsed("let x = 1; f(x)")) }), { name: "TypeError", message: line });
+  const names = renaming(program);
+  program.body.push(parsed("x").body[0]);
+  assert.throws(() => jobOf(program, { names }), { name: "TypeError", message: /^program\.body\[2\]\.expression isn't in the tables of new names, / });
 });
 
 // Fields of rows that hold numbers of no rows.
