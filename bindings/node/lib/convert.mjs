@@ -153,12 +153,16 @@ class Rows {
     this.add("Program", place, { source: hasSource ? this.source?.toWellFormed() : null, kind: "module", comments: rows, hashbang, directives, body: statements });
   }
 
-  // The first line of the source, where it begins with `#!`; a tree without a source has it as Babel's do.
+  // The hashbang that the tree says, as Babel's and oxc's do; of other trees the first line of the source, where it begins with `#!`.
   hashbang(node) {
-    const value = this.source === undefined ? node.interpreter?.value : /^#!(.*)/.exec(this.source)?.[1];
-    if (value === undefined) return null;
-    const end = 2 + value.length;
-    return this.add("Hashbang", this.source === undefined ? node.interpreter : { start: 0, end }, { value }, "value");
+    const said = node.interpreter === undefined ? node.hashbang : node.interpreter;
+    if (said === undefined) return this.hashbangOfSource();
+    return said === null ? null : this.add("Hashbang", said, { value: said.value }, "value");
+  }
+
+  hashbangOfSource() {
+    const [line, value] = /^#!(.*)/.exec(this.source ?? "") ?? [];
+    return line === undefined ? null : this.add("Hashbang", { start: 0, end: line.length }, { value }, "value");
   }
 
   // Comments have their spans in any case.

@@ -34,8 +34,9 @@ const LOOP_OVER = { left: node(), right: node(), body: node() };
 
 // The members of a type stand in the order of the text.
 const TYPES = {
-  Program: { body: list(), sourceType: MAYBE_TEXT, interpreter: maybe("InterpreterDirective") },
+  Program: { body: list(), sourceType: MAYBE_TEXT, interpreter: maybe("InterpreterDirective"), hashbang: maybe("Hashbang") },
   InterpreterDirective: { value: TEXT },
+  Hashbang: { value: TEXT },
 
   ExpressionStatement: { expression: node(), directive: MAYBE_TEXT },
   BlockStatement: { body: list() },

@@ -367,6 +367,19 @@ test("exports are declarations, references, names of another module, or the defa
   assert.deepEqual(types("export default a"), ["IdentifierReference", "ExportDefaultDeclaration"]);
 });
 
+test("a hashbang is the tree's where it says one or none, be there a source or not", () => {
+  const source = "#!/bin/a\nb;";
+  const hashbangOf = (more, settings) => {
+    const { rows } = jobOf({ ...parsed(source), ...more }, settings);
+    return rows[rows.at(-1).hashbang]?.value;
+  };
+  assert.deepEqual([hashbangOf({}, { source }), hashbangOf({}, {})], ["/bin/a", undefined]);
+  for (const said of [{ interpreter: { type: "InterpreterDirective", value: "/bin/c" } }, { hashbang: { type: "Hashbang", value: "/bin/c" } }]) {
+    assert.deepEqual([hashbangOf(said, { source }), hashbangOf(said, {})], ["/bin/c", "/bin/c"]);
+  }
+  for (const none of [{ interpreter: null }, { hashbang: null }]) assert.equal(hashbangOf(none, { source }), undefined);
+});
+
 test("a hashbang is the first line", () => {
   const source = "#!/usr/bin/env node\na";
   const { rows } = jobOf(parsed(source), { source });

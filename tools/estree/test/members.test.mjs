@@ -40,7 +40,9 @@ function treesOf() {
   expression.options = { ...NAME };
   const babel = parsed("a");
   babel.interpreter = { type: "InterpreterDirective", value: "/bin/node" };
-  return [...SOURCES.map((source) => parsed(source)), parsed(PARENTHESES, { parentheses: true }), withAttributes, babel];
+  const oxc = parsed("a");
+  oxc.hashbang = { type: "Hashbang", value: "/bin/node" };
+  return [...SOURCES.map((source) => parsed(source)), parsed(PARENTHESES, { parentheses: true }), withAttributes, babel, oxc];
 }
 
 function* nodesIn(value) {
