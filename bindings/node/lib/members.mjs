@@ -23,6 +23,8 @@ const HOLD_NODES = ["node", "list", "holes"];
 const NOTES = [
   "type", "start", "end", "loc", "range", "extra", "parent", "tokens", "comments", "leadingComments", "trailingComments", "innerComments", "errors",
   "sourceFile",
+  // comments too, as rollup's parser notes them
+  "_rollupAnnotations", "_rollupRemoved",
 ];
 
 const FUNCTION = { id: maybe("Identifier"), params: list(), body: node("BlockStatement"), async: FLAG, generator: FLAG };

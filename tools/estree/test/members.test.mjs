@@ -81,7 +81,7 @@ test("a member that isn't known is refused by its name, the node's type and the 
 });
 
 test("what parsers note of a node is passed over, and so are members that say nothing", () => {
-  const notes = ["loc", "range", "extra", "parent", "tokens", "comments", "leadingComments", "trailingComments", "innerComments", "errors", "sourceFile"];
+  const notes = ["loc", "range", "extra", "parent", "tokens", "comments", "leadingComments", "trailingComments", "innerComments", "errors", "sourceFile", "_rollupAnnotations", "_rollupRemoved"];
   for (const source of SOURCES) {
     const program = parsed(source);
     const wanted = jobText(program);
