@@ -3,7 +3,7 @@ import { fstatSync, readFileSync } from "node:fs";
 import { buffer } from "node:stream/consumers";
 import { parseArgs } from "node:util";
 import { excerptAt, placeAt } from "./places.mjs";
-import { MalformedTree, NotRead } from "./refusals.mjs";
+import { MalformedTree, NotRead, startOf } from "./refusals.mjs";
 
 /** The statuses of a command: those of the program (docs/FORMAT.md), and of what isn't built or installed. */
 export const STATUS = { done: 0, source: 1, usage: 2, read: 4, write: 5, memory: 6, unbuilt: 70 };
@@ -116,7 +116,7 @@ function isOfTree(error) {
 function placeOf(error, source) {
   if (error.loc) return { line: error.loc.line, column: error.loc.column + 1 };
   if (Number.isInteger(error.line) && Number.isInteger(error.column)) return { line: error.line, column: error.column };
-  const start = error.node?.start ?? error.node?.range?.[0];
+  const start = startOf(error.node);
   return start === undefined ? null : placeAt(source, start);
 }
 

@@ -2,6 +2,7 @@
 import { JsgenError } from "../faults.mjs";
 import { placeAt } from "./places.mjs";
 import { fieldName } from "./reads.mjs";
+import { startOf } from "./refusals.mjs";
 
 /**
  * What is known of the place of a fault: `node`, its `line` and `column`, counted from 1 and columns in units of UTF-16, the `fieldName`,
@@ -51,7 +52,7 @@ function rowAt({ rows }, start) {
 }
 
 function positionOf(node, source) {
-  const offset = node?.start ?? node?.range?.[0];
+  const offset = startOf(node);
   if (typeof offset === "number" && offset <= source?.length) return placeAt(source, offset);
   const start = node?.loc?.start;
   return start ? { line: start.line, column: start.column + 1 } : { offset };

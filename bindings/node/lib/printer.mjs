@@ -56,18 +56,23 @@ function answerOf(call, bytes) {
   }
 }
 
-function byProgram(word, bytes) {
-  const program = programPath();
+/** Runs a word of the program over the bytes of a job: its status, its text and its line on standard error. */
+export function ranProgram(program, word, bytes) {
   const ran = spawnSync("/bin/sh", ["-c", STARTED, program, word], { input: bytes, maxBuffer: 2 ** 30 });
   // A program that ends before it has read the whole job says why by its status.
   if (ran.error && ran.error.code !== "EPIPE") throw new JsgenError(`the program can't be run: ${ran.error.message}`, { status: CANNOT_RUN, cause: ran.error });
-  const line = ran.stderr.toString("utf8").trim();
+  return { status: ran.status ?? ran.signal, text: ran.stdout.toString("utf8"), line: ran.stderr.toString("utf8").trim() };
+}
+
+function byProgram(word, bytes) {
+  const program = programPath();
+  const { status, text, line } = ranProgram(program, word, bytes);
   // By these statuses a shell tells that it can't start the program.
-  if (ran.status === 126 || ran.status === 127) {
+  if (status === 126 || status === 127) {
     throw new JsgenError(`the program can't be run: ${program} isn't there, or is no program`, { status: CANNOT_RUN });
   }
-  if (ran.status !== 0) throw errorOfLine(ran.status ?? ran.signal, line);
-  return ran.stdout.toString("utf8");
+  if (status !== 0) throw errorOfLine(status, line);
+  return text;
 }
 
 // The program that the variable JSGEN names, that of the package, or that of the repository.

@@ -1,5 +1,6 @@
 // Why a tree isn't converted, and where.
 import { insidesOf } from "./members.mjs";
+import { placeAt } from "./places.mjs";
 
 /** A part of a program that jsgen doesn't read yet. `node` is the ESTree node, `place` where that is, and `hint` what to do then. */
 export class NotRead extends Error {
@@ -34,8 +35,8 @@ export function placeOf(node, source, root) {
   const way = start === undefined ? wayTo(root, node) : "";
   if (start === undefined) return way === "" ? "" : ` at ${way}`;
   if (source === undefined) return ` at ${start}`;
-  const before = source.slice(0, start).split(/\r\n|[\n\r\u2028\u2029]/);
-  return ` in line ${before.length}, column ${before.at(-1).length + 1}`;
+  const { line, column } = placeAt(source, start);
+  return ` in line ${line}, column ${column}`;
 }
 
 /** The same error, or why the stack didn't suffice. */

@@ -60,3 +60,33 @@ test("the licences of a bundle, whose modules stand in blocks, each once", { ski
     assert.deepEqual(licencesOf(answered("legal", source, { minify, legal: "external" }), source).map(plain), texts);
   }
 });
+
+// All paths of so many signs, of those that end a comment or a line and of some that don't.
+function* pathsOf(length) {
+  if (length === 0) return yield "";
+  for (const path of pathsOf(length - 1)) for (const sign of ["*", "/", "a", "\n", "\r", "\u2028", "\u2029", "\u0085"]) yield path + sign;
+}
+
+test("a path is refused where acorn doesn't read what names the file as one comment on one line, and nowhere else", { skip: unlicensed }, () => {
+  // what acorn reads of the end of a text that is printed so
+  const isOneComment = (text) => {
+    try {
+      const { comments, body } = parsed(`b;\n${text}`, { comments: true });
+      return body.length === 1 && comments.length === 1 && comments[0].end === `b;\n${text}`.length && !/[\n\r\u2028\u2029]/.test(text);
+    } catch (error) {
+      assert.ok(error instanceof SyntaxError, error.stack);
+      return false;
+    }
+  };
+  const isTaken = (path) => {
+    const job = { options: { legal: "linked", legal_path: path }, rows: [{ type: "Program", kind: "module" }] };
+    const { status, stderr } = spawnSync(program(), ["check"], { input: JSON.stringify(job) });
+    assert.equal(stderr.toString(), status === 0 ? "" : "refused: Comment at 0\n");
+    return status === 0;
+  };
+  for (let length = 0; length <= 3; length++) {
+    for (const path of pathsOf(length)) {
+      assert.equal(isTaken(path), isOneComment(`/*! For license information please see ${path} */`), JSON.stringify(path));
+    }
+  }
+});
