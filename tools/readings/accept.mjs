@@ -1,13 +1,18 @@
 // Every list of tokens that the reader accepts, up to a size: its clauses are run on one token after the other, over an alphabet.
-import { BRACKETS, LINE_END, SIGNS, characterOf, isBigInteger, isNumber, isString, isTemplate, isWord } from "./tokens.mjs";
+import { BRACKETS, LINE_END, SIGNS, characterOf, isBigInteger, isNumber, isString, isTemplate, isWord, specialOf } from "./tokens.mjs";
+import { allowedOf } from "./primitives.mjs";
 import { treeOf } from "./trees.mjs";
 import { isTrue, shown, textValue, truth, value } from "./values.mjs";
 
+const body = (...fields) => value("before_directives", allowedOf(...fields), value("no_trees"));
+
 /** Where the reader begins, by what is read. */
 export const STARTS = {
-  "Expression[+in]": value("operand", truth(true), value("[]")),
-  "Body[+return+last]": value("directives", truth(true), value("no_trees")),
-  Body: value("directives", truth(false), value("no_trees")),
+  "Expression[+in]": value("operand", allowedOf("in_operator"), value("[]")),
+  "Expression[+in+yield+await]": value("operand", allowedOf("in_operator", "yield_operand", "await_operand"), value("[]")),
+  "Body[+return+last]": body("in_operator", "return_statement"),
+  "Body[+return+yield+await+last]": body("in_operator", "yield_operand", "await_operand", "return_statement"),
+  ModuleBody: body("in_operator", "await_operand"),
 };
 
 // A token as a value of the definition.
@@ -17,6 +22,8 @@ function pieceOf(text) {
   if (isNumber(text) || isBigInteger(text)) return value("Number", textValue(text));
   if (isString(text)) return value("Quoted", value("quotes.Single"), textValue(text.slice(1, -1)));
   if (isTemplate(text)) return value("Quoted", value("quotes.Backtick"), textValue(text.slice(1, -1)));
+  const special = specialOf(text);
+  if (special) return value("Beyond", value(special.name, ...special.parts.map(textValue)));
   throw new Error(`no token: ${text}`);
 }
 

@@ -1,13 +1,13 @@
 // The premises of productions that say more than what is read from which tokens, by the names that they have in Grammar.antt. Each is made
 // for labels of a production, and looks at what they stand for: `found[label]` with its `tokens` and its `tree`.
-import { isOnNewLine, isTemplate, isString, sizeOf, tokenAt } from "./tokens.mjs";
+import { isFreeName, isOnNewLine, isTemplate, isString, isWord, nameOf, sizeOf, tokenAt } from "./tokens.mjs";
 
 // A premise, by the name of its guard, with the label that it lets stand for something.
 const premise = (name, holds, binds) => Object.assign(holds, { guard: name, binds });
 
 /** What a tree is as a simple target: a name or a member, maybe in parentheses; else undefined. */
 export function simpleTarget(tree) {
-  if (["tree.identifier_reference", "tree.static_member", "tree.computed_member"].includes(tree.name)) return tree;
+  if (["tree.identifier_reference", "tree.static_member", "tree.computed_member", "tree.private_member"].includes(tree.name)) return tree;
   return tree.name === "tree.parenthesized" ? simpleTarget(tree.parts[1]) : undefined;
 }
 
@@ -25,13 +25,14 @@ const NAMING = ["Assign", "LogicalAnd", "LogicalOr", "LogicalNullish"].map((name
 
 const isReference = (tree) => tree.name === "tree.identifier_reference";
 
-// A function without a name, maybe in parentheses.
+// A function or a class without a name, maybe in parentheses.
 function isAnonymousFunction({ name, parts }) {
   if (name === "tree.parenthesized") return isAnonymousFunction(parts[1]);
-  return name === "tree.arrow_function" || (name === "function_of" && parts[1].name === "absent");
+  if (name === "class_of") return parts[1].name === "absent";
+  return name === "tree.arrow_function" || (name === "function_of" && parts[3].name === "absent");
 }
 
-/** Whether an assignment by the operator gives a function that is its value the name of its target. */
+/** Whether an assignment by the operator gives a function or a class that is its value the name of its target. */
 export const namesFunction = (operator, target, value) => NAMING.includes(operator) && isReference(target) && isAnonymousFunction(value);
 
 /** An assignment names the function that is its value as it would without the parentheses of its target. */
@@ -51,12 +52,15 @@ export const startsInBrace = (tokens) => tokenAt(tokens, 0) === "{";
 /** The body of an arrow function begins with no brace. */
 export const starts_in_brace = (label) => premise("starts_in_brace", (found) => !startsInBrace(found[label].tokens));
 
-// A word with which no expression statement begins, and what stands behind it.
-function startsDeclaration(tokens) {
+// The words of a function or a class.
+function startsFunctionOrClass(tokens) {
   const [first, second] = [tokenAt(tokens, 0), tokenAt(tokens, 1)];
   if (first === "async") return second === "function" && !isOnNewLine(tokens, 1);
-  return first === "function" || first === "class" || (first === "let" && second === "[");
+  return first === "function" || first === "class";
 }
+
+// A word with which no expression statement begins, and what stands behind it.
+const startsDeclaration = (tokens) => startsFunctionOrClass(tokens) || (tokenAt(tokens, 0) === "let" && tokenAt(tokens, 1) === "[");
 
 export const startsStatement = (tokens) => tokens !== "" && !startsInBrace(tokens) && !startsDeclaration(tokens);
 
@@ -78,3 +82,14 @@ export function mayPrecedeOf(tokens) {
 
 /** Before `of` a target doesn't begin with `let`, and isn't `async`. */
 export const may_precede_of = (label) => premise("may_precede_of", (found) => mayPrecedeOf(found[label].tokens));
+
+/** The expression of a default export begins with no word of a function or a class. */
+export const may_be_exported = (label) => premise("may_be_exported", (found) => !startsFunctionOrClass(found[label].tokens));
+
+function isReferenceAlone(tokens) {
+  const first = tokenAt(tokens, 0) ?? "";
+  return sizeOf(tokens) === 1 && isWord(first) && isFreeName(nameOf(first));
+}
+
+/** What is exported without a source is a reference. */
+export const is_reference_alone = (label) => premise("is_reference_alone", (found) => isReferenceAlone(found[label].tokens));

@@ -6,7 +6,7 @@ import { readFileSync } from "node:fs";
 import { join } from "node:path";
 import { fileURLToPath } from "node:url";
 import { expressionOf, patternsOf, words } from "./notation.mjs";
-import { PRIMITIVES } from "./primitives.mjs";
+import { FIELDS, PRIMITIVES, fieldOf } from "./primitives.mjs";
 import { call, functionOf, isTrue, shown, truth, value } from "./values.mjs";
 
 const SPECS = fileURLToPath(new URL("../../crates/jsgen_one_reading/specs", import.meta.url));
@@ -20,7 +20,7 @@ const CONSTRUCTORS = `true false None Some no_trees more hole absent given done 
 
 /** The definitions of the file Reader.antt in a folder, and of the files beside it that it uses. */
 export function readerIn(folder = folderOfReader()) {
-  return new Definitions(linesFrom(folder, "Reader", new Set()));
+  return new Definitions(filesFrom(folder, "Reader", new Set()));
 }
 
 /** The definitions of functions in a file, by their names, without those of others that they use. */
@@ -31,27 +31,33 @@ export function functionsIn(file, names) {
     if (block === undefined) throw new Error(`${file} doesn't define ${name}`);
     return [...block.split("\n"), ""];
   });
-  return new Definitions(lines, {});
+  return new Definitions([lines], {});
 }
 
-function linesFrom(folder, name, seen) {
+// The lines of a file and of those that it uses, which come first.
+function filesFrom(folder, name, seen) {
   if (seen.has(name)) return [];
   seen.add(name);
   const lines = readFileSync(join(folder, `${name}.antt`), "utf8").split("\n");
   const used = lines.flatMap((line) => /^use Rattle\.jsgen_one_reading\.specs\.(\w+)/.exec(line)?.[1] ?? []);
-  return [...used.flatMap((other) => linesFrom(folder, other, seen)), ...lines, ""];
+  return [...used.flatMap((other) => filesFrom(folder, other, seen)), lines];
 }
 
+/** The definitions of files, each given by its lines, behind those that it uses. */
 export class Definitions {
-  constructors = new Set(CONSTRUCTORS);
+  // the constructors of all files so far, and those that the file imports or has: elsewhere the same name may be a variable
+  #constructors = new Set();
+  #inScope;
   #clauses = new Map();
   #globals = new Map();
 
-  constructor(lines, primitives = PRIMITIVES) {
-    const texts = this.#collect(lines);
-    for (const text of texts) this.#addClause(text);
+  constructor(files, primitives = PRIMITIVES) {
+    for (const lines of files) {
+      this.#inScope = new Set(CONSTRUCTORS);
+      for (const text of this.#collect(lines)) this.#addClause(text);
+    }
     for (const [name, clauses] of this.#clauses) this.#define(name, clauses);
-    for (const [name, [arity, run]] of Object.entries(primitives)) this.#globals.set(name, { function: functionOf(arity, run) });
+    for (const [name, [arity, run]] of Object.entries(primitives)) this.#globals.set(name, arity > 0 ? { function: functionOf(arity, run) } : { constant: run });
   }
 
   /** The value of a function at arguments. */
@@ -78,15 +84,21 @@ export class Definitions {
     return texts;
   }
 
-  // Punctuators, and what begins with a capital letter, as levels do.
+  // Punctuators, what begins with a capital letter, as levels do, and constructors of the files before.
   #noteImport(line) {
     const [, file, names] = /^use Rattle\.([\w.]+)\.\{(.*)\}/.exec(line) ?? [];
     const isSigns = file === "jsgen_model.specs.Punctuator";
-    for (const name of names?.split(", ") ?? []) if (isSigns || /^[A-Z]/.test(name)) this.constructors.add(name);
+    const isBefore = file?.startsWith("jsgen_one_reading.specs.");
+    for (const name of names?.split(", ") ?? []) {
+      if (isSigns || /^[A-Z]/.test(name) || (isBefore && this.#constructors.has(name))) this.#inScope.add(name);
+    }
   }
 
   #noteConstructors(line) {
-    for (const name of /^\s+([^:]+) :/.exec(line)?.[1].trim().split(/\s+/) ?? []) this.constructors.add(name);
+    for (const name of /^\s+([^:]+) :/.exec(line)?.[1].trim().split(/\s+/) ?? []) {
+      this.#constructors.add(name);
+      this.#inScope.add(name);
+    }
   }
 
   #noteFunction(line) {
@@ -99,7 +111,7 @@ export class Definitions {
     const at = equalsIn(tokens);
     const name = tokens[0];
     if (at < 0 || !this.#clauses.has(name)) throw new Error(`no clause: ${text}`);
-    const patterns = patternsOf(tokens.slice(1, at), (token) => this.constructors.has(token) || token.includes("."));
+    const patterns = patternsOf(tokens.slice(1, at), (token) => this.#inScope.has(token) || token.includes("."));
     this.#clauses.get(name).push({ patterns, body: expressionOf(tokens.slice(at + 1)) });
   }
 
@@ -159,6 +171,9 @@ export class Definitions {
   #compiledName(name, scope) {
     const slot = scope.lastIndexOf(name);
     if (slot >= 0) return (found) => found[slot];
+    const [record, field] = name.split(".");
+    const held = scope.lastIndexOf(record);
+    if (held >= 0 && FIELDS.includes(field)) return (found) => fieldOf(found[held], field);
     let known;
     return () => (known ??= this.#global(name));
   }

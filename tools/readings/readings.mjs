@@ -1,6 +1,6 @@
 // Every list of tokens that the grammar reads, up to a size, with its tree: bottom up by size, production by production.
 import { PRODUCTIONS } from "./productions/table.mjs";
-import { keyOf, rowsByName, rulesOf, startOf } from "./rules.mjs";
+import { bind, keyOf, narrowed, rowsByName, rulesOf, startOf } from "./rules.mjs";
 import { BRACKETS } from "./tokens.mjs";
 
 /** What is read over an alphabet { tokens, hasLineEnds }. */
@@ -25,7 +25,8 @@ export class Readings {
   lists(start, size) {
     const { name, context } = startOf(start);
     const found = new Map();
-    for (const { tokens, tree } of this.#segments(this.#part(name, context), size).flat()) found.set(tokens, tree);
+    const part = this.#part(name, narrowed(context, this.#alphabet));
+    for (const { tokens, tree } of this.#segments(part, size).flat()) found.set(tokens, tree);
     return found;
   }
 
@@ -155,9 +156,3 @@ export class Readings {
 
 const leastOfItem = (item) => (item.choices ? 1 : item.part.least);
 const leastOf = ({ items }) => items.reduce((sum, item) => sum + leastOfItem(item), 0);
-
-// Two labels stand for the two trees of a pair.
-function bind(found, labels, entry) {
-  if (labels.length === 1) found[labels[0]] = entry;
-  else for (const [at, label] of labels.entries()) found[label] = { tokens: entry.tokens, tree: entry.tree.parts[at] };
-}

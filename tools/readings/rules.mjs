@@ -1,16 +1,38 @@
 // The productions of the table for an alphabet and a context: what they are made of, ready to be enumerated.
 import { flagsOf } from "./productions/rows.mjs";
-import { BRACKETS, LINE_END, characterOf, isBigInteger, isFreeName, isNumber, isString, isTemplate, isWord } from "./tokens.mjs";
-import { maker, textTree, tree } from "./trees.mjs";
+import {
+  BRACKETS, LINE_END, characterOf, cookedOf, isBigInteger, isFreeName, isNumber, isString, isTemplate, isWord, nameOf, specialOf,
+} from "./tokens.mjs";
+import { maker, pair, textTree, tree } from "./trees.mjs";
 
-// The classes of tokens, each with what a token of it stands for in a tree: a word's text, a string's value, a number's digits.
+// A class of tokens with what a token of it stands for in a tree, which is a text.
+const byText = (has, textOf) => ({ has, treeOf: (text) => textTree(textOf(text)) });
+
+const isSpecial = (name) => (text) => specialOf(text)?.name === name;
+const partOfSpecial = (text) => specialOf(text).parts[0];
+
+// A piece of a template, by its raw text, or by what that stands for.
+const rawPiece = (name) => ({ has: isSpecial(name), treeOf: (text) => tree("raw_piece", textTree(partOfSpecial(text))) });
+const cookedPiece = (name) => ({
+  has: (text) => isSpecial(name)(text) && cookedOf(partOfSpecial(text)) !== undefined,
+  treeOf: (text) => tree("cooked_piece", textTree(cookedOf(partOfSpecial(text)))),
+});
+
+// The classes of tokens: a word's text, a string's value, a number's digits. A regular expression stands for two texts.
 const CLASSES = {
-  name: { has: isWord, value: (text) => text },
-  free: { has: isFreeName, value: (text) => text },
-  number: { has: isNumber, value: (text) => text },
-  big: { has: isBigInteger, value: (text) => text.slice(0, -1) },
-  string: { has: isString, value: (text) => text.slice(1, -1) },
-  quoted: { has: (text) => isString(text) || isTemplate(text), value: (text) => text.slice(1, -1) },
+  name: byText(isWord, nameOf),
+  free: byText((text) => isWord(text) && isFreeName(nameOf(text)), nameOf),
+  number: byText(isNumber, (text) => text),
+  big: byText(isBigInteger, (text) => text.slice(0, -1)),
+  string: byText(isString, (text) => text.slice(1, -1)),
+  quoted: byText((text) => isString(text) || isTemplate(text), (text) => (isTemplate(text) ? cookedOf(text.slice(1, -1)) : text.slice(1, -1))),
+  template: byText(isTemplate, (text) => text.slice(1, -1)),
+  private: byText(isSpecial("Private"), (text) => nameOf(partOfSpecial(text))),
+  pattern: { has: isSpecial("Pattern"), treeOf: (text) => pair(...specialOf(text).parts.map(textTree)) },
+  whole: byText(isSpecial("Whole"), partOfSpecial),
+  head: byText(isSpecial("Head"), partOfSpecial),
+  cooked_head: cookedPiece("Head"), cooked_middle: cookedPiece("Middle"), cooked_tail: cookedPiece("Tail"),
+  raw_middle: rawPiece("Middle"), raw_tail: rawPiece("Tail"),
 };
 
 // The grammar has brackets as groups, which tell of no line end before what closes them.
@@ -22,8 +44,21 @@ export function startOf(text) {
   return { name, context: Object.fromEntries(flagsOf(name).map((flag) => [flag, flags[flag] ?? false])) };
 }
 
+// Flags of words, each named as its word.
+const WORDS = ["in", "yield", "await", "return"];
+
+/** A context as far as it makes a difference: that a word may stand, only where the alphabet has the word. */
+export const narrowed = (context, { tokens }) =>
+  Object.fromEntries(Object.entries(context).map(([flag, on]) => [flag, on && (tokens.includes(flag) || !WORDS.includes(flag))]));
+
 /** A name for what is read in a context, by which it is found again. */
 export const keyOf = (name, context) => name + flagsOf(name).map((flag) => (context[flag] ? "+" : "-") + flag).join("");
+
+/** An entry { tokens, tree } is what the labels stand for in `found`: two stand for the two trees of a pair. */
+export function bind(found, labels, entry) {
+  if (labels.length === 1) found[labels[0]] = entry;
+  else for (const [at, label] of labels.entries()) found[label] = { tokens: entry.tokens, tree: entry.tree.parts[at] };
+}
 
 // `Name<choice>[+flag-flag]`
 function partOf(text) {
@@ -90,21 +125,21 @@ function variants(items, context) {
 }
 
 function expanded(item, context, alphabet) {
-  if (item.part) return partIn(item, context);
+  if (item.part) return partIn(item, context, alphabet);
   const ofClass = CLASSES[item.className];
   const tokens = alphabet.tokens.filter(ofClass ? ofClass.has : (text) => text === item.token);
   const lines = alphabet.hasLineEnds && !item.isBehind && !CLOSING.has(item.token) ? ["", LINE_END] : [""];
-  const value = (text) => (ofClass ? textTree(ofClass.value(text)) : undefined);
-  const choices = tokens.flatMap((text) => lines.map((line) => ({ tokens: line + characterOf(text), tree: value(text) })));
+  const choices = tokens.flatMap((text) => lines.map((line) => ({ tokens: line + characterOf(text), tree: ofClass?.treeOf(text) })));
   return { choices, labels: item.labels ?? [] };
 }
 
-function partIn({ part: { name, flags }, labels }, context) {
-  const inner = {};
+function partIn({ part: { name, flags }, labels }, context, alphabet) {
+  const told = {};
   for (const flag of flagsOf(name)) {
-    inner[flag] = flags[flag] ?? context[flag];
-    if (inner[flag] === undefined) throw new Error(`${name}: nothing tells whether ${flag} holds`);
+    told[flag] = flags[flag] ?? context[flag];
+    if (told[flag] === undefined) throw new Error(`${name}: nothing tells whether ${flag} holds`);
   }
+  const inner = narrowed(told, alphabet);
   return { key: keyOf(name, inner), name, context: inner, labels };
 }
 

@@ -32,7 +32,6 @@ export const RESERVED = new Set(
 export const isWord = (text) => /^[\p{XID_Start}$_\\]/u.test(text);
 export const isFreeName = (text) => isWord(text) && !RESERVED.has(text);
 export const isString = (text) => text[0] === "'" || text[0] === '"';
-export const isTemplate = (text) => text[0] === "`";
 export const isBigInteger = (text) => /^\d+n$/.test(text);
 export const isNumber = (text) => /^\d+$/.test(text);
 
@@ -41,6 +40,46 @@ const ESCAPE = /\\u(?:([\da-fA-F]{4})|\{([\da-fA-F]+)\})/g;
 
 /** The name that a word spells, maybe with escapes. */
 export const nameOf = (word) => word.replace(ESCAPE, (_, four, braced) => String.fromCodePoint(parseInt(four ?? braced, 16)));
+
+// What stands behind a backslash, in the order of the groups below: two digits, four, some in braces, a zero, another character. The last
+// group is what is no escape.
+const ESCAPES = /\\(?:x([\da-fA-F]{2})|u([\da-fA-F]{4})|u\{([\da-fA-F]+)\}|(0)(?!\d)|([^\dxu])|())/gsu;
+const SINGLE = { __proto__: null, b: "\b", t: "\t", n: "\n", v: "\v", f: "\f", r: "\r", "\n": "", "\r": "", "\u2028": "", "\u2029": "" };
+
+/** What a text between backticks stands for, or a piece of a template; undefined where something behind a backslash is no escape. */
+export function cookedOf(raw) {
+  let isSpelled = true;
+  const cooked = raw.replace(ESCAPES, (_, two, four, braced, zero, other) => {
+    if (other !== undefined) return SINGLE[other] ?? other;
+    if (zero !== undefined) return "\0";
+    const number = parseInt(two ?? four ?? braced, 16);
+    if (number <= 0x10ffff) return String.fromCodePoint(number);
+    isSpelled = false;
+    return "";
+  });
+  return isSpelled ? cooked : undefined;
+}
+
+// A template without substitutions. A string spells it where it stands for something.
+const isInBackticks = (text) => text.length > 1 && text[0] === "`" && text.at(-1) === "`";
+
+export const isTemplate = (text) => isInBackticks(text) && cookedOf(text.slice(1, -1)) !== undefined;
+
+// The tokens that the grammar has to ask for, by their names in Tokens.antt: how each is known, and what its parts are.
+const SPECIALS = {
+  Private: { has: (text) => text[0] === "#", parts: (text) => [text.slice(1)] },
+  Pattern: { has: (text) => text[0] === "/" && !SIGNS[text], parts: (text) => /^.(.*)\/(.*)$/s.exec(text).slice(1) },
+  Whole: { has: (text) => isInBackticks(text) && !isTemplate(text), parts: (text) => [text.slice(1, -1)] },
+  Head: { has: (text) => /^`.*\$\{$/s.test(text), parts: (text) => [text.slice(1, -2)] },
+  Middle: { has: (text) => /^\}.*\$\{$/s.test(text), parts: (text) => [text.slice(1, -2)] },
+  Tail: { has: (text) => /^\}.*`$/s.test(text), parts: (text) => [text.slice(1, -1)] },
+};
+
+/** What such a token is, { name, parts }; undefined of another. */
+export function specialOf(text) {
+  const [name, { parts }] = Object.entries(SPECIALS).find(([, { has }]) => has(text)) ?? [undefined, {}];
+  return name && { name, parts: parts(text) };
+}
 
 const characters = new Map();
 const texts = new Map();

@@ -3,8 +3,9 @@ import { expressionOf, words } from "./notation.mjs";
 
 const known = new Map();
 
-/** The tree with a constructor of the notation and its parts. */
+/** The tree with a constructor of the notation and its parts; `text_of` is a name for one. */
 export function tree(name, ...parts) {
+  if (name === "text_of") return tree("tree.string_literal", tree("bare", tree("∷", tree("units", ...parts), tree("[]"))));
   let key = name;
   for (const part of parts) key += ` ${part.number}`;
   let found = known.get(key);

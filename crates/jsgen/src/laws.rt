@@ -16,7 +16,7 @@ pub fn jobs_plain_by_types(job: &Job)
     let _ = job;
 }
 
-/// And it is core where each node is that by its type and flags.
+/// And it is core where each node is that by its type and flags, and by what a tag sees.
 pub fn jobs_core_by_types(job: &Job)
     ensures { Everywhere is_core_by_type (job_plain job.now).program → IsCore (job_plain job.now).program }
 {

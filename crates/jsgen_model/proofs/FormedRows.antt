@@ -1,5 +1,7 @@
 -- Lists of Rust have no hole, and nodes that are formed by their own values.
-use Rattle.std.proofs.Common.{◌≡◌, true, refl, List, [], ◌∷◌, map, Option, Some, None, option_map}
+use Rattle.std.proofs.Common.{◌≡◌, true, refl, List, [], ◌∷◌, map, Option, Some, None, option_map, String, string_bytes}
+use Rattle.std.specs.Str.{all_scalars}
+use Rattle.std.proofs.lemmas.Str.{scalars-chars, IsUtf8-string_bytes}
 use Rattle.jsgen_syntax.proofs.Bytes.{js_units-are_units}
 use Rattle.jsgen_syntax.specs.declared.span.Span.{Span}
 use Rattle.jsgen_syntax.specs.declared.span.SourceKind.{SourceKind}
@@ -11,7 +13,7 @@ use Rattle.std.specs.declared.alloc.Global.{Global}
 use Rattle.std.specs.declared.vec.Vec.{Vec}
 use Rattle.jsgen_tree.specs.Tree.{Tree, trees, holed, optional, optional_list}
 use Rattle.jsgen_tree.specs.Nodes.{numeric_literal}
-use Rattle.jsgen_tree.specs.Characters.{numeric_values}
+use Rattle.jsgen_tree.specs.Characters.{characters, numeric_values}
 use Rattle.jsgen_tree.specs.Width.{is_wide}
 use Rattle.jsgen_tree.specs.Everywhere.{Everywhere, EverywhereInTrees, EverywhereIfGiven, EverywhereIfListed}
 use Rattle.jsgen_tree.specs.declared.numbers.NumericValue.{NumericValue}
@@ -80,6 +82,9 @@ number_is_formed s (numeric.Raw t) w = refl
 
 pub string_is_formed : (s : JsStr) → are_units (js_units s) ≡ true
 string_is_formed s = js_units-are_units s
+
+pub text_is_formed : (s : String Global) → all_scalars (characters s) ≡ true
+text_is_formed s = scalars-chars (string_bytes s) (IsUtf8-string_bytes s)
 
 pub module_kind : (k : SourceKind) → is_module k ≡ true
 module_kind source_kinds.Module = refl

@@ -1,14 +1,16 @@
 -- A program of which each node is plain by its type and flags is plain, and core where each is core; and what is plain is core.
-use Rattle.std.proofs.Common.{◌≡◌, Bool, true, not, ◌&&◌, refl, sym, subst}
-use Rattle.std.proofs.lemmas.Bool.{and_from, and_parts}
-use Rattle.jsgen_tree.specs.Tree.{Tree, node, Slots, no_slots, one, maybe, many, maybe_many, Maybe, absent, given, Trees, no_trees, more, hole, MaybeTrees, no_list, listed}
+use Rattle.std.proofs.Common.{◌≡◌, Bool, true, false, not, ◌&&◌, refl, sym, subst}
+use Rattle.std.proofs.lemmas.Bool.{both_ways, and_from, and_parts}
+use Rattle.jsgen_tree.specs.Tree.{Tree, node, Slots, no_slots, one, maybe, many, maybe_many, Maybe, absent, given, Trees, no_trees, more, hole, MaybeTrees, no_list, listed, Atoms}
 use Rattle.jsgen_tree.specs.Everywhere.{Everywhere, EverywhereInSlots, EverywhereIfGiven, EverywhereInTrees, EverywhereIfListed}
 use Rattle.jsgen_tree.specs.Plain.{node_plain, program_plain, layer}
+use Rattle.jsgen_tree.specs.declared.types.NodeType.{NodeType}
+use Rattle.jsgen_tree.specs.declared.types.NodeType.TheVariants as types
 use Rattle.jsgen_tree.specs.declared.nodes.Node.{Node, map-Node}
 use Rattle.jsgen_tree.specs.declared.nodes.Node.TheFolds.{ind-Node, fold-roll-Node}
 use Rattle.jsgen_tree.specs.declared.statements.Program.{Program}
-use Rattle.jsgen_model.specs.Plain.{IsCore, IsPlain, is_core_alone, is_core_by_type, is_core_row, is_core_type, has_core_flags, has_plain_flags, is_plain_by_type, is_plain_row, is_plain_type, is_formed, sets_core_flag}
-use Rattle.jsgen_model.proofs.FormedRows.{IsFormed, no_hole, all_formed, if_given_formed, module_kind}
+use Rattle.jsgen_model.specs.Plain.{IsCore, IsPlain, is_core_alone, is_core_by_type, is_core_row, is_core_type, keeps_raw_texts, has_core_flags, has_plain_flags, is_plain_by_type, is_plain_row, is_plain_type, is_formed, sets_core_flag}
+use Rattle.jsgen_model.proofs.FormedRows.{IsFormed, no_hole, all_formed, if_given_formed, text_is_formed, module_kind}
 use Rattle.jsgen_model.proofs.Programs.{layer_is_formed}
 
 -- ---- the plain data of every program is formed
@@ -18,7 +20,7 @@ unfolding node_plain
 node_is_formed = ind-Node (λ n. IsFormed (node_plain n)) (λ x y is. subst IsFormed (sym (fold-roll-Node Tree layer x)) (subst (λ z. IsFormed (layer (map-Node Node Tree node_plain z))) is (layer_is_formed (λ e. e.0) (λ e. e.1) y)))
 
 pub program_is_formed : (p : Program Node) → IsFormed (program_plain p)
-program_is_formed p = (and_from _ _ (and_from _ _ (module_kind p.kind) (no_hole _ p.directives.items)) (no_hole _ p.body.items), (all_formed _ (λ c. (refl, tt)) p.comments.items, (if_given_formed _ (λ b. (refl, tt)) p.hashbang, (all_formed _ (λ d. (refl, tt)) p.directives.items, (all_formed _ (λ s. node_is_formed s.node) p.body.items, tt)))))
+program_is_formed p = (and_from _ _ (and_from _ _ (module_kind p.kind) (no_hole _ p.directives.items)) (no_hole _ p.body.items), (all_formed _ (λ c. (refl, tt)) p.comments.items, (if_given_formed _ (λ b. (text_is_formed b.value.value, tt)) p.hashbang, (all_formed _ (λ d. (refl, tt)) p.directives.items, (all_formed _ (λ s. node_is_formed s.node) p.body.items, tt)))))
 
 -- ---- what two tests say of each node, both say of it
 
@@ -74,11 +76,16 @@ module _ (f g : Tree → Bool) (h : (t : Tree) → f t ≡ true → g t ≡ true
     passed_on_if_listed no_list p = tt
     passed_on_if_listed (listed ts) p = passed_on_in_trees ts p
 
+-- no plain node is a template behind a tag
+plain_keeps : (type : NodeType) (a : Atoms) (slots : Slots) → is_plain_type type ≡ true → keeps_raw_texts (node type a slots) ≡ true
+plain_keeps types.TaggedTemplateExpression a slots h = absurd (both_ways false refl h)
+plain_keeps type a slots h = refl
+
 plain_row_is_core : (t : Tree) → is_plain_row t ≡ true → is_core_row t ≡ true
 plain_row_is_core (node type a slots) e =
     let p = and_parts (is_plain_by_type (node type a slots)) (is_formed (node type a slots)) e in
     let q = and_parts (is_plain_type type) (has_plain_flags type a) p.0 in
-    and_from (is_core_by_type (node type a slots)) (is_formed (node type a slots)) (and_from (is_core_type type) (has_core_flags type a) (and_parts (is_core_type type) (not (is_core_alone type)) q.0).0 (and_parts (has_core_flags type a) (not (sets_core_flag type a)) q.1).0) p.1
+    and_from (is_core_by_type (node type a slots)) (is_formed (node type a slots)) (and_from (keeps_raw_texts (node type a slots)) (is_core_type type && has_core_flags type a) (plain_keeps type a slots q.0) (and_from (is_core_type type) (has_core_flags type a) (and_parts (is_core_type type) (not (is_core_alone type)) q.0).0 (and_parts (has_core_flags type a) (not (sets_core_flag type a)) q.1).0)) p.1
 
 -- ---- the whole
 

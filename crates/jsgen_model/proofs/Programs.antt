@@ -17,7 +17,7 @@ use Rattle.jsgen_tree.specs.declared.sets.ModuleExportName.{ModuleExportName}
 use Rattle.jsgen_tree.specs.declared.sets.ImportDeclarationSpecifier.{ImportDeclarationSpecifier}
 use Rattle.jsgen_tree.specs.declared.sets.ImportAttributeKey.{ImportAttributeKey}
 use Rattle.jsgen_tree.proofs.Layers.{with_hole}
-use Rattle.jsgen_model.proofs.FormedRows.{IsFormed, no_hole, all_formed, no_hole_changed, all_changed, all_changed_or_holes, if_given_formed, no_hole_if_listed, all_formed_if_listed, number_is_formed, string_is_formed}
+use Rattle.jsgen_model.proofs.FormedRows.{IsFormed, no_hole, all_formed, no_hole_changed, all_changed, all_changed_or_holes, if_given_formed, no_hole_if_listed, all_formed_if_listed, number_is_formed, string_is_formed, text_is_formed}
 use Rattle.jsgen_tree.specs.declared.nodes.Node.TheOpen as opened
 use Rattle.jsgen_tree.specs.declared.sets.Expression.TheVariants as expressions
 use Rattle.jsgen_tree.specs.declared.sets.AssignmentTarget.TheVariants as assignment_targets
@@ -52,7 +52,7 @@ module _ {A : Type 0} (f : A → Node) (h : (a : A) → IsFormed (node_plain (f 
   expression_is_formed (expressions.NumericLiteral b) = (number_is_formed b.value.span b.value.value b.value.fits, tt)
   expression_is_formed (expressions.BigIntLiteral b) = (refl, tt)
   expression_is_formed (expressions.StringLiteral b) = (string_is_formed b.value.value, tt)
-  expression_is_formed (expressions.RegExpLiteral b) = (refl, tt)
+  expression_is_formed (expressions.RegExpLiteral b) = (text_is_formed b.value.pattern, tt)
   expression_is_formed (expressions.BinaryExpression b) = (refl, (h b.value.left.node, (h b.value.right.node, tt)))
   expression_is_formed (expressions.LogicalExpression b) = (refl, (h b.value.left.node, (h b.value.right.node, tt)))
   expression_is_formed (expressions.ParenthesizedExpression b) = (refl, (h b.value.expression.node, tt))
@@ -78,8 +78,8 @@ module _ {A : Type 0} (f : A → Node) (h : (a : A) → IsFormed (node_plain (f 
   expression_is_formed (expressions.PrivateInExpression b) = (refl, ((refl, tt), (h b.value.right.node, tt)))
   expression_is_formed (expressions.AwaitExpression b) = (refl, (h b.value.argument.node, tt))
   expression_is_formed (expressions.YieldExpression b) = (yield_expression_by_argument (λ n. IsFormed (layer (map-Node Node Tree node_plain (map-Node A Node f (opened.Expression (expressions.YieldExpression (record b { value = n }))))))) (λ n. (refl, (tt, tt))) (λ n_argument. (λ n. (refl, (h n_argument.node, tt))))) b.value
-  expression_is_formed (expressions.TemplateLiteral b) = (and_from _ _ (no_hole _ b.value.quasis.items) (no_hole_changed _ _ _ b.value.expressions.items), (all_formed _ (λ d. (refl, tt)) b.value.quasis.items, (all_changed _ _ _ (λ n. h n.node) b.value.expressions.items, tt)))
-  expression_is_formed (expressions.TaggedTemplateExpression b) = (refl, (h b.value.tag.node, ((and_from _ _ (no_hole _ b.value.quasi.value.quasis.items) (no_hole_changed _ _ _ b.value.quasi.value.expressions.items), (all_formed _ (λ d. (refl, tt)) b.value.quasi.value.quasis.items, (all_changed _ _ _ (λ n. h n.node) b.value.quasi.value.expressions.items, tt))), tt)))
+  expression_is_formed (expressions.TemplateLiteral b) = (and_from _ _ (no_hole _ b.value.quasis.items) (no_hole_changed _ _ _ b.value.expressions.items), (all_formed _ (λ d. (text_is_formed d.raw, tt)) b.value.quasis.items, (all_changed _ _ _ (λ n. h n.node) b.value.expressions.items, tt)))
+  expression_is_formed (expressions.TaggedTemplateExpression b) = (refl, (h b.value.tag.node, ((and_from _ _ (no_hole _ b.value.quasi.value.quasis.items) (no_hole_changed _ _ _ b.value.quasi.value.expressions.items), (all_formed _ (λ d. (text_is_formed d.raw, tt)) b.value.quasi.value.quasis.items, (all_changed _ _ _ (λ n. h n.node) b.value.quasi.value.expressions.items, tt))), tt)))
   expression_is_formed (expressions.ImportExpression b) = (import_expression_by_options (λ n. IsFormed (layer (map-Node Node Tree node_plain (map-Node A Node f (opened.Expression (expressions.ImportExpression (record b { value = n }))))))) (λ n. (refl, (h n.source.node, (tt, tt)))) (λ n_options. (λ n. (refl, (h n.source.node, (h n_options.node, tt)))))) b.value
 
   assignment_target_is_formed : (n : AssignmentTarget A) → IsFormed (layer (map-Node Node Tree node_plain (map-Node A Node f (opened.AssignmentTarget n))))

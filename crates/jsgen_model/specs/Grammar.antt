@@ -1,9 +1,12 @@
 -- The grammar (ECMA-262, clauses 13 to 16): which lists of tokens are read as which tree, one production a line.
-use Rattle.std.specs.Prelude.{◌≡◌, ℕ, List, [], ◌∷◌, ◌++◌, Bool, true, false, not, ◌&&◌, ◌||◌, Option, Some, None, codes}
+use Rattle.std.specs.Prelude.{◌≡◌, ℕ, List, [], ◌∷◌, ◌++◌, Bool, true, false, not, ◌&&◌, ◌||◌, Option, Some, None, flat_map, codes, option_map}
+use Rattle.std.specs.Option.{option_map_or}
+use Rattle.std.specs.Char.Escape.{encode_utf16}
 use Rattle.std.specs.Str.{bytes_eq}
 use Rattle.jsgen_syntax.specs.Escapes.{word_value}
 use Rattle.jsgen_syntax.specs.Strings.{is_backtick, string_value}
 use Rattle.jsgen_syntax.specs.declared.quote.Quote.{Quote}
+use Rattle.jsgen_syntax.specs.declared.quote.Quote.TheVariants as quotes
 use Rattle.jsgen_syntax.specs.declared.operator.BinaryOperator.{BinaryOperator}
 use Rattle.jsgen_syntax.specs.declared.operator.BinaryOperator.TheVariants as operators
 use Rattle.jsgen_syntax.specs.declared.operator.LogicalOperator.TheVariants.{Or, And, Coalesce}
@@ -17,16 +20,23 @@ use Rattle.jsgen_tree.specs.declared.statements.VariableDeclarationKind.{Variabl
 use Rattle.jsgen_tree.specs.declared.statements.VariableDeclarationKind.TheVariants.{Const, Let, Var}
 use Rattle.jsgen_tree.specs.declared.functions.FunctionKind.{FunctionKind}
 use Rattle.jsgen_tree.specs.declared.functions.FunctionKind.TheVariants as kinds
+use Rattle.jsgen_tree.specs.declared.classes.ClassKind.{ClassKind}
+use Rattle.jsgen_tree.specs.declared.classes.ClassKind.TheVariants as class_kinds
+use Rattle.jsgen_tree.specs.declared.classes.MethodDefinitionKind.{MethodDefinitionKind}
+use Rattle.jsgen_tree.specs.declared.classes.MethodDefinitionKind.TheVariants as method_kinds
+use Rattle.jsgen_tree.specs.declared.modules.ImportOrExportKind.TheVariants as import_kinds
+use Rattle.jsgen_tree.specs.declared.modules.WithKeyword.TheVariants as with_keywords
 use Rattle.jsgen_syntax.specs.Name.{is_free_name}
-use Rattle.jsgen_tree.specs.Atom.{units, flag, binary_operator, logical_operator, unary_operator, update_operator, assignment_operator}
+use Rattle.jsgen_tree.specs.Atom.{no_value, units, flag, binary_operator, logical_operator, unary_operator, update_operator, assignment_operator, class_form, kind_of_import, with_keyword, text}
 use Rattle.jsgen_model.specs.Numbers.{ends_in}
-use Rattle.jsgen_tree.specs.Tree.{Tree, Atoms, Maybe, absent, given, Trees, no_trees, more, hole}
+use Rattle.jsgen_tree.specs.Tree.{Tree, Atoms, Maybe, absent, given, Trees, no_trees, more, hole, MaybeTrees, no_list, listed}
 use Rattle.jsgen_tree.specs.Places.{bare}
 use Rattle.jsgen_tree.specs.Nodes as tree
 use Rattle.jsgen_model.specs.Punctuator.{plus, minus, star, slash, percent, star_star, equal_equal, not_equal, equal_equal_equal, not_equal_equal, less, less_equal, greater, greater_equal, shift_left, shift_right, shift_right_zero, bit_and, bit_or, bit_xor, and_and, or_or, nullish, dot, ellipsis, comma, semicolon, equal, Round, Square, Brace, bang, tilde, Punctuator, plus_plus, minus_minus, colon, question, plus_equal, minus_equal, star_equal, slash_equal, percent_equal, star_star_equal, shift_left_equal, shift_right_equal, shift_right_zero_equal, bit_or_equal, bit_xor_equal, bit_and_equal, or_or_equal, and_and_equal, nullish_equal, question_dot, arrow}
+use Rattle.jsgen_tree.specs.declared.collections.PropertyKind.{PropertyKind}
 use Rattle.jsgen_tree.specs.declared.collections.PropertyKind.TheVariants.{Init, Get, Set}
-use Rattle.jsgen_model.specs.Tokens.{Piece, Tokens, done, piece, group, ◌⧺◌, Word, Number, Quoted, Sign}
-use Rattle.jsgen_model.specs.Normal.{nothing_of, named, unnumbered, link_values, call_values, by_text, declared_as, function_as, property_values}
+use Rattle.jsgen_model.specs.Tokens.{Piece, Tokens, done, piece, group, ◌⧺◌, Word, Number, Quoted, Sign, Beyond, Private, Pattern, Whole, Head, Middle, Tail}
+use Rattle.jsgen_model.specs.Normal.{nothing_of, named, unnumbered, link_values, call_values, by_text, declared_as, if_set, function_values, method_values, property_values}
 
 -- what may stand: the operator `in`, and the operand or statement of each other word (5.1.5, grammatical parameters)
 pub record Allowed : Type 0 where
@@ -47,13 +57,21 @@ with_in allowed = record allowed { in_operator = true }
 abbrev pub without_in : Allowed → Allowed
 without_in allowed = record allowed { in_operator = false }
 
--- in the body of an arrow function neither `yield` nor `await` is an operator (15.3)
-abbrev pub in_arrow_body : Allowed → Allowed
-in_arrow_body allowed = record allowed { yield_operand = false; await_operand = false }
+-- among parameters neither `yield` nor `await` is an operator, wherever the function stands (15.2 and 15.3, 15.5.1, 15.6.1, 15.8.1 and 15.9.1)
+abbrev pub in_parameters : Allowed
+in_parameters = record { in_operator = true; yield_operand = false; await_operand = false; return_statement = false }
 
--- a function's parameters and body are read alike wherever it stands: in them neither `yield` nor `await` is an operator, and the body may return (15.2)
-abbrev pub in_function : Allowed
-in_function = record { in_operator = true; yield_operand = false; await_operand = false; return_statement = true }
+-- in the value of a field and in a static block nothing of what surrounds the class may stand (15.7)
+abbrev pub in_member : Allowed
+in_member = record { in_operator = true; yield_operand = false; await_operand = false; return_statement = false }
+
+-- the body of a function, which may be `async` and a generator: so are `await` and `yield` operators there, wherever it stands, and it may return (15.2, 15.5, 15.6 and 15.8)
+abbrev pub in_body : Bool → Bool → Allowed
+in_body async generator = record { in_operator = true; yield_operand = generator; await_operand = async; return_statement = true }
+
+-- the body of an arrow function that is an expression (15.3 and 15.9)
+abbrev pub in_arrow_body : Bool → Allowed → Allowed
+in_arrow_body async allowed = record { in_operator = allowed.in_operator; yield_operand = false; await_operand = async; return_statement = false }
 
 -- the levels of expressions, from the loosest to the tightest. A callee is what arguments may follow: a member or a call (13.3)
 pub data Level : Type 0 where
@@ -168,6 +186,7 @@ abbrev pub simple_target : Tree → Option Tree
 simple_target (tree.identifier_reference a) = Some (tree.identifier_reference a)
 simple_target (tree.static_member a object property) = Some (tree.static_member a object property)
 simple_target (tree.computed_member a object expression) = Some (tree.computed_member a object expression)
+simple_target (tree.private_member a object field) = Some (tree.private_member a object field)
 simple_target (tree.parenthesized a expression) = simple_target expression
 simple_target t = None
 
@@ -184,10 +203,11 @@ abbrev pub is_reference : Tree → Bool
 is_reference (tree.identifier_reference a) = true
 is_reference t = false
 
--- a function without a name, maybe in parentheses (8.4.3, IsAnonymousFunctionDefinition); so is a class without one, once classes are read
+-- a function or a class without a name, maybe in parentheses (8.4.3, IsAnonymousFunctionDefinition)
 abbrev pub is_anonymous_function : Tree → Bool
 is_anonymous_function (tree.function a absent params body) = true
 is_anonymous_function (tree.arrow_function a params body) = true
+is_anonymous_function (tree.class a absent heritage body) = true
 is_anonymous_function (tree.parenthesized a expression) = is_anonymous_function expression
 is_anonymous_function t = false
 
@@ -259,17 +279,88 @@ abbrev pub is_var : VariableDeclarationKind → Bool
 is_var Var = true
 is_var kind = false
 
--- a function with a body in braces
-abbrev pub function_of : FunctionKind → Maybe → Trees → Maybe → Trees → Trees → Tree
-function_of kind id ps rest ds ss = tree.function (function_as kind) id (tree.formal_parameters (nothing_of 0) ps rest) (given (tree.function_body (nothing_of 0) ds ss))
+-- a function with a body in braces; the flags tell that it is `async`, and a generator
+abbrev pub function_of : FunctionKind → Bool → Bool → Maybe → Trees → Maybe → Trees → Trees → Tree
+function_of kind async generator id ps rest ds ss = tree.function (function_values kind (if_set async) (if_set generator) no_value) id (tree.formal_parameters (nothing_of 0) ps rest) (given (tree.function_body (nothing_of 0) ds ss))
 
 -- the function of a method or an accessor has no name
-abbrev pub method_of : Trees → Maybe → Trees → Trees → Tree
-method_of ps rest ds ss = function_of kinds.Expression absent ps rest ds ss
+abbrev pub method_of : Bool → Bool → Trees → Maybe → Trees → Trees → Tree
+method_of async generator ps rest ds ss = function_of kinds.Expression async generator absent ps rest ds ss
+
+-- a method of an object is written as one, and an accessor isn't
+abbrev pub is_plain_method : PropertyKind → Bool
+is_plain_method Init = true
+is_plain_method kind = false
+
+-- of an arrow function it counts whether it is `async`
+abbrev pub arrow_values : Bool → Atoms
+arrow_values async = bare (if_set async ∷ no_value ∷ no_value ∷ [])
+
+-- of a loop with `of` whether it waits for each value
+abbrev pub loop_values : Bool → Atoms
+loop_values await = bare (if_set await ∷ [])
+
+abbrev pub class_of : ClassKind → Maybe → Maybe → Trees → Tree
+class_of kind id heritage members = tree.class (bare (class_form kind ∷ no_value ∷ no_value ∷ [])) id heritage (tree.class_body (nothing_of 0) members)
+
+-- what a method of a class is, as one of an object is
+abbrev pub method_kind : PropertyKind → MethodDefinitionKind
+method_kind Init = method_kinds.Method
+method_kind Get = method_kinds.Get
+method_kind Set = method_kinds.Set
+
+-- a member of a class by what it is, whether it is static, and whether its key is computed
+abbrev pub member_values : PropertyKind → Bool → Bool → Atoms
+member_values kind static computed = method_values (method_kind kind) computed static no_value no_value no_value
+
+abbrev pub field_values : Bool → Bool → Atoms
+field_values static computed = bare (flag computed ∷ no_value ∷ no_value ∷ flag static ∷ no_value ∷ no_value ∷ no_value ∷ no_value ∷ [])
+
+-- a private name, by its text (12.7)
+abbrev pub private_name : List ℕ → Tree
+private_name v = tree.private_identifier (named v)
+
+-- a piece of a template: behind a tag its raw text counts, and else what that stands for (13.2.8)
+abbrev pub raw_piece : List ℕ → Tree
+raw_piece w = tree.template_element (bare (text w ∷ no_value ∷ []))
+
+abbrev pub cooked_piece : List ℕ → Tree
+cooked_piece us = tree.template_element (bare (no_value ∷ units us ∷ []))
+
+abbrev pub read_piece : Bool → List ℕ → Option Tree
+read_piece true w = Some (raw_piece w)
+read_piece false w = option_map cooked_piece (string_value quotes.Backtick w)
 
 -- whether a key is computed
 abbrev pub computed_values : Bool → Atoms
 computed_values computed = bare (flag computed ∷ [])
+
+-- ---- of modules (16.2)
+
+-- the units of a name's characters (11.1.4)
+abbrev pub units_of : List ℕ → List ℕ
+units_of v = flat_map encode_utf16 v
+
+-- a text, as of what is imported from
+abbrev pub text_of : List ℕ → Tree
+text_of us = tree.string_literal (bare (units us ∷ []))
+
+-- an import or an export is one of values
+abbrev pub of_values : Atoms
+of_values = bare (kind_of_import import_kinds.Value ∷ [])
+
+-- what is exported without a source is a reference (16.2.3)
+abbrev pub is_reference_alone : Tokens → Bool
+is_reference_alone (piece mark (Word w) done) = option_map_or is_free_name (word_value w) false
+is_reference_alone ts = false
+
+-- the words with which the expression of a default export doesn't begin: `function`, `class`, `async function` (16.2.3)
+abbrev pub starts_function_or_class : List ℕ → Tokens → Bool
+starts_function_or_class w ts = bytes_eq w (codes "function") || bytes_eq w (codes "class") || (bytes_eq w (codes "async") && is_word (codes "function") ts && on_same_line ts)
+
+abbrev pub may_be_exported : Tokens → Bool
+may_be_exported (piece mark (Word w) ts) = not (starts_function_or_class w ts)
+may_be_exported ts = true
 
 -- a semicolon ends the tokens, or is omitted as the last of a brace group (12.10)
 pub data EndsBy : Bool → Tokens → Tokens → Type 0 where
@@ -332,6 +423,19 @@ mutual
     a_named_member_of_super : {c : Allowed} {v : List ℕ} (w : List ℕ) (mark next last : Bool) → word_value w ≡ Some v → ReadsExpression c Member (piece mark (Word (codes "super")) (piece next (Sign dot) (piece last (Word w) done))) (tree.static_member (link_values false) (tree.super (nothing_of 0)) (tree.identifier_name (named v)))
     a_computed_member_of_super : {c : Allowed} {mark next : Bool} {inside : Tokens} {e : Tree} → ReadsExpression (with_in c) Expression inside e → ReadsExpression c Member (piece mark (Word (codes "super")) (group next Square inside done)) (tree.computed_member (link_values false) (tree.super (nothing_of 0)) e)
     a_call_of_super : {c : Allowed} {mark next : Bool} {inside : Tokens} {es : Trees} → ReadsArguments (with_in c) inside es → ReadsExpression c Call (piece mark (Word (codes "super")) (group next Round inside done)) (tree.call (call_values false) (tree.super (nothing_of 0)) es)
+    -- members by private names, and the test whether an object has one (13.3 and 13.10)
+    a_private_member : {c : Allowed} {ts a : Tokens} {o : Tree} {v : List ℕ} (w : List ℕ) (mark next : Bool) → ts ≡ a ⧺ piece mark (Sign dot) (piece next (Beyond (Private w)) done) → word_value w ≡ Some v → ReadsExpression c Member a o → ReadsExpression c Member ts (tree.private_member (link_values false) o (private_name v))
+    a_private_member_of_call : {c : Allowed} {ts a : Tokens} {o : Tree} {v : List ℕ} (w : List ℕ) (mark next : Bool) → ts ≡ a ⧺ piece mark (Sign dot) (piece next (Beyond (Private w)) done) → word_value w ≡ Some v → ReadsExpression c Call a o → ReadsExpression c Call ts (tree.private_member (link_values false) o (private_name v))
+    a_private_test : {c : Allowed} {mark next : Bool} {w v : List ℕ} {ts : Tokens} {t : Tree} → c.in_operator ≡ true → word_value w ≡ Some v → ReadsExpression c Shift ts t → ReadsExpression c Relational (piece mark (Beyond (Private w)) (piece next (Word (codes "in")) ts)) (tree.private_in (nothing_of 0) (private_name v) t)
+    a_regular_expression : {c : Allowed} {mark : Bool} {w flags : List ℕ} → ReadsExpression c Primary (piece mark (Beyond (Pattern w flags)) done) (tree.reg_exp_literal (bare (text w ∷ text flags ∷ [])))
+    -- a template; one without substitutions is a string (13.2.8)
+    a_template : {c : Allowed} {mark : Bool} {w : List ℕ} {ts : Tokens} {v : Tree} {qs es : Trees} → read_piece false w ≡ Some v → ReadsPieces (with_in c) false ts qs es → ReadsExpression c Primary (piece mark (Beyond (Head w)) ts) (tree.template_literal (nothing_of 0) (more v qs) es)
+    -- a template behind its tag (13.3.11)
+    a_tagged_template : {c : Allowed} {ts a b : Tokens} {o q : Tree} → ts ≡ a ⧺ b → ReadsTemplate (with_in c) b q → ReadsExpression c Member a o → ReadsExpression c Member ts (tree.tagged_template (nothing_of 0) o q)
+    a_tagged_template_of_call : {c : Allowed} {ts a b : Tokens} {o q : Tree} → ts ≡ a ⧺ b → ReadsTemplate (with_in c) b q → ReadsExpression c Call a o → ReadsExpression c Call ts (tree.tagged_template (nothing_of 0) o q)
+    -- `import(..)` and `import.meta` (13.3.10 and 13.3.12)
+    an_import_call : {c : Allowed} {mark next : Bool} {inside : Tokens} {e : Tree} {options : Maybe} → ReadsImported (with_in c) inside e options → ReadsExpression c Call (piece mark (Word (codes "import")) (group next Round inside done)) (tree.import_call (nothing_of 0) e options)
+    an_import_meta : {c : Allowed} {mark next last : Bool} → ReadsExpression c Member (piece mark (Word (codes "import")) (piece next (Sign dot) (piece last (Word (codes "meta")) done))) (tree.import_meta (nothing_of 0))
     a_new_target : {c : Allowed} {mark next last : Bool} → ReadsExpression c Member (piece mark (Word (codes "new")) (piece next (Sign dot) (piece last (Word (codes "target")) done))) (tree.new_target (nothing_of 0))
     a_reference : {c : Allowed} {mark : Bool} {w v : List ℕ} → word_value w ≡ Some v → is_free_name v ≡ true → ReadsExpression c Primary (piece mark (Word w) done) (tree.identifier_reference (unnumbered v))
     a_this : {c : Allowed} {mark : Bool} → ReadsExpression c Primary (piece mark (Word (codes "this")) done) (tree.this_expression (nothing_of 0))
@@ -346,21 +450,59 @@ mutual
     an_optional_chain : {c : Allowed} {ts : Tokens} {t : Tree} → ReadsChain c ts t → ReadsExpression c LeftHandSide ts (tree.chain (nothing_of 0) t)
     an_array : {c : Allowed} {mark : Bool} {inside : Tokens} {es : Trees} → ReadsElements (with_in c) inside es → ReadsExpression c Primary (group mark Square inside done) (tree.array (nothing_of 0) es)
     an_object : {c : Allowed} {mark : Bool} {inside : Tokens} {ps : Trees} → ReadsProperties (with_in c) inside ps → ReadsExpression c Primary (group mark Brace inside done) (tree.object_expression (nothing_of 0) ps)
-    a_function : {c : Allowed} {mark : Bool} {ts : Tokens} {t : Tree} → ReadsFunction kinds.Expression ts t → ReadsExpression c Primary (piece mark (Word (codes "function")) ts) t
-    -- on the line of its parameters; its body is an expression that begins with no brace (15.3)
-    an_arrow_function : {c : Allowed} {ts a b : Tokens} {ps e : Tree} → ts ≡ a ⧺ piece false (Sign arrow) b → ReadsArrowParameters c a ps → starts_in_brace b ≡ false → ReadsExpression (in_arrow_body c) Assignment b e → ReadsExpression c Assignment ts (tree.arrow_function (nothing_of 3) ps e)
-    -- or stands in braces
-    an_arrow_with_body : {c : Allowed} {ts a inside : Tokens} {ps : Tree} {ds ss : Trees} (mark : Bool) → ts ≡ a ⧺ piece false (Sign arrow) (group mark Brace inside done) → ReadsArrowParameters c a ps → ReadsBody in_function true inside ds ss → ReadsExpression c Assignment ts (tree.arrow_function (nothing_of 3) ps (tree.function_body (nothing_of 0) ds ss))
+    a_function : {c : Allowed} {ts : Tokens} {t : Tree} → ReadsFunction kinds.Expression true ts t → ReadsExpression c Primary ts t
+    a_class : {c : Allowed} {ts : Tokens} {t : Tree} → ReadsClass (with_in c) class_kinds.Expression true ts t → ReadsExpression c Primary ts t
+    an_arrow : {c : Allowed} {ts : Tokens} {t : Tree} → ReadsArrow c false ts t → ReadsExpression c Assignment ts t
+    -- the word stands on the line of the parameters (15.9)
+    an_async_arrow : {c : Allowed} {mark : Bool} {ts : Tokens} {t : Tree} → on_same_line ts ≡ true → ReadsArrow c true ts t → ReadsExpression c Assignment (piece mark (Word (codes "async")) ts) t
+    -- `await` and its operand (15.8)
+    an_await : {c : Allowed} {mark : Bool} {ts : Tokens} {t : Tree} → c.await_operand ≡ true → ReadsExpression c Unary ts t → ReadsExpression c Unary (piece mark (Word (codes "await")) ts) (tree.await_expression (nothing_of 0) t)
+    -- `yield`, alone or with what it gives, which is on its line, as is the star before what hands on its values (15.5)
+    a_yield_alone : {c : Allowed} {mark : Bool} → c.yield_operand ≡ true → ReadsExpression c Assignment (piece mark (Word (codes "yield")) done) (tree.yield_expression (bare (flag false ∷ [])) absent)
+    a_yield : {c : Allowed} {mark : Bool} {ts : Tokens} {t : Tree} → c.yield_operand ≡ true → on_same_line ts ≡ true → ReadsExpression c Assignment ts t → ReadsExpression c Assignment (piece mark (Word (codes "yield")) ts) (tree.yield_expression (bare (flag false ∷ [])) (given t))
+    a_delegation : {c : Allowed} {mark : Bool} {ts : Tokens} {t : Tree} → c.yield_operand ≡ true → ReadsExpression c Assignment ts t → ReadsExpression c Assignment (piece mark (Word (codes "yield")) (piece false (Sign star) ts)) (tree.yield_expression (bare (flag true ∷ [])) (given t))
 
-  -- behind the word `function`: a name, which may be omitted in an expression, parameters and a body (15.2)
-  pub data ReadsFunction : FunctionKind → Tokens → Tree → Type 0 where
-    a_named_function : {kind : FunctionKind} {mark next third : Bool} {w v : List ℕ} {head inside : Tokens} {ps ds ss : Trees} {rest : Maybe} → word_value w ≡ Some v → is_free_name v ≡ true → ReadsParameters in_function head ps rest → ReadsBody in_function true inside ds ss → ReadsFunction kind (piece mark (Word w) (group next Round head (group third Brace inside done))) (function_of kind (given (tree.binding_identifier (unnumbered v))) ps rest ds ss)
-    a_nameless_function : {next third : Bool} {head inside : Tokens} {ps ds ss : Trees} {rest : Maybe} → ReadsParameters in_function head ps rest → ReadsBody in_function true inside ds ss → ReadsFunction kinds.Expression (group next Round head (group third Brace inside done)) (function_of kinds.Expression absent ps rest ds ss)
+  -- a template behind a tag: of one piece, which a string may spell, or of more
+  pub data ReadsTemplate : Allowed → Tokens → Tree → Type 0 where
+    a_template_of_a_string : {c : Allowed} {mark : Bool} {w : List ℕ} → ReadsTemplate c (piece mark (Quoted quotes.Backtick w) done) (tree.template_literal (nothing_of 0) (more (raw_piece w) no_trees) no_trees)
+    a_whole_template : {c : Allowed} {mark : Bool} {w : List ℕ} → ReadsTemplate c (piece mark (Beyond (Whole w)) done) (tree.template_literal (nothing_of 0) (more (raw_piece w) no_trees) no_trees)
+    a_template_of_parts : {c : Allowed} {mark : Bool} {w : List ℕ} {ts : Tokens} {qs es : Trees} → ReadsPieces c true ts qs es → ReadsTemplate c (piece mark (Beyond (Head w)) ts) (tree.template_literal (nothing_of 0) (more (raw_piece w) qs) es)
+
+  -- behind `${`: an expression, and the piece behind it, of which the last ends the template; the flag tells that it has a tag
+  pub data ReadsPieces : Allowed → Bool → Tokens → Trees → Trees → Type 0 where
+    a_last_piece : {c : Allowed} {tagged : Bool} {ts a : Tokens} {v e : Tree} (w : List ℕ) (mark : Bool) → ts ≡ a ⧺ piece mark (Beyond (Tail w)) done → ReadsExpression c Expression a e → read_piece tagged w ≡ Some v → ReadsPieces c tagged ts (more v no_trees) (more e no_trees)
+    a_piece_between : {c : Allowed} {tagged : Bool} {ts a b : Tokens} {v e : Tree} {qs es : Trees} (w : List ℕ) (mark : Bool) → ts ≡ a ⧺ piece mark (Beyond (Middle w)) b → ReadsExpression c Expression a e → read_piece tagged w ≡ Some v → ReadsPieces c tagged b qs es → ReadsPieces c tagged ts (more v qs) (more e es)
+
+  -- between the parentheses of `import`: what is imported, and options; a comma may end them (13.3.10)
+  pub data ReadsImported : Allowed → Tokens → Tree → Maybe → Type 0 where
+    an_imported : {c : Allowed} {ts : Tokens} {e : Tree} → ReadsExpression c Assignment ts e → ReadsImported c ts e absent
+    an_imported_and_a_comma : {c : Allowed} {ts a : Tokens} {e : Tree} (mark : Bool) → ts ≡ a ⧺ piece mark (Sign comma) done → ReadsExpression c Assignment a e → ReadsImported c ts e absent
+    with_options : {c : Allowed} {ts a b : Tokens} {e f : Tree} (mark : Bool) → ts ≡ a ⧺ piece mark (Sign comma) b → ReadsExpression c Assignment a e → ReadsExpression c Assignment b f → ReadsImported c ts e (given f)
+    with_options_and_a_comma : {c : Allowed} {ts a b : Tokens} {e f : Tree} (mark next : Bool) → ts ≡ a ⧺ piece mark (Sign comma) (b ⧺ piece next (Sign comma) done) → ReadsExpression c Assignment a e → ReadsExpression c Assignment b f → ReadsImported c ts e (given f)
+
+  -- a function from its first word on: the word `async` before `function`, on its line, and a star behind it (15.2, 15.5, 15.6 and 15.8). The flag tells that its name may be omitted
+  pub data ReadsFunction : FunctionKind → Bool → Tokens → Tree → Type 0 where
+    a_plain_function : {kind : FunctionKind} {nameless mark : Bool} {ts : Tokens} {t : Tree} → ReadsFunctionAs kind nameless false false ts t → ReadsFunction kind nameless (piece mark (Word (codes "function")) ts) t
+    a_generator : {kind : FunctionKind} {nameless mark next : Bool} {ts : Tokens} {t : Tree} → ReadsFunctionAs kind nameless false true ts t → ReadsFunction kind nameless (piece mark (Word (codes "function")) (piece next (Sign star) ts)) t
+    an_async_function : {kind : FunctionKind} {nameless mark : Bool} {ts : Tokens} {t : Tree} → ReadsFunctionAs kind nameless true false ts t → ReadsFunction kind nameless (piece mark (Word (codes "async")) (piece false (Word (codes "function")) ts)) t
+    an_async_generator : {kind : FunctionKind} {nameless mark next : Bool} {ts : Tokens} {t : Tree} → ReadsFunctionAs kind nameless true true ts t → ReadsFunction kind nameless (piece mark (Word (codes "async")) (piece false (Word (codes "function")) (piece next (Sign star) ts))) t
+
+  -- behind these: a name, parameters and a body. The flags tell that the name may be omitted, and that it is `async`, and a generator
+  pub data ReadsFunctionAs : FunctionKind → Bool → Bool → Bool → Tokens → Tree → Type 0 where
+    a_named_function : {kind : FunctionKind} {nameless async generator mark next third : Bool} {w v : List ℕ} {head inside : Tokens} {ps ds ss : Trees} {rest : Maybe} → word_value w ≡ Some v → is_free_name v ≡ true → ReadsParameters in_parameters head ps rest → ReadsBody (in_body async generator) true inside ds ss → ReadsFunctionAs kind nameless async generator (piece mark (Word w) (group next Round head (group third Brace inside done))) (function_of kind async generator (given (tree.binding_identifier (unnumbered v))) ps rest ds ss)
+    a_nameless_function : {kind : FunctionKind} {async generator next third : Bool} {head inside : Tokens} {ps ds ss : Trees} {rest : Maybe} → ReadsParameters in_parameters head ps rest → ReadsBody (in_body async generator) true inside ds ss → ReadsFunctionAs kind true async generator (group next Round head (group third Brace inside done)) (function_of kind async generator absent ps rest ds ss)
+
+  -- an arrow function behind its word `async`, where the flag tells that it is so: the arrow is on the line of its parameters (15.3 and 15.9)
+  pub data ReadsArrow : Allowed → Bool → Tokens → Tree → Type 0 where
+    -- its body is an expression that begins with no brace
+    an_arrow_function : {c : Allowed} {async : Bool} {ts a b : Tokens} {ps e : Tree} → ts ≡ a ⧺ piece false (Sign arrow) b → ReadsArrowParameters a ps → starts_in_brace b ≡ false → ReadsExpression (in_arrow_body async c) Assignment b e → ReadsArrow c async ts (tree.arrow_function (arrow_values async) ps e)
+    -- or stands in braces
+    an_arrow_with_body : {c : Allowed} {async : Bool} {ts a inside : Tokens} {ps : Tree} {ds ss : Trees} (mark : Bool) → ts ≡ a ⧺ piece false (Sign arrow) (group mark Brace inside done) → ReadsArrowParameters a ps → ReadsBody (in_body async false) true inside ds ss → ReadsArrow c async ts (tree.arrow_function (arrow_values async) ps (tree.function_body (nothing_of 0) ds ss))
 
   -- before an arrow: a name alone, or parameters in parentheses (15.3)
-  pub data ReadsArrowParameters : Allowed → Tokens → Tree → Type 0 where
-    a_parameter_name : {c : Allowed} {mark : Bool} {w v : List ℕ} → word_value w ≡ Some v → is_free_name v ≡ true → ReadsArrowParameters c (piece mark (Word w) done) (tree.formal_parameters (nothing_of 0) (more (tree.formal_parameter (nothing_of 3) (tree.binding_identifier (unnumbered v)) absent) no_trees) absent)
-    grouped_parameters : {c : Allowed} {mark : Bool} {inside : Tokens} {ps : Trees} {rest : Maybe} → ReadsParameters (with_in c) inside ps rest → ReadsArrowParameters c (group mark Round inside done) (tree.formal_parameters (nothing_of 0) ps rest)
+  pub data ReadsArrowParameters : Tokens → Tree → Type 0 where
+    a_parameter_name : {mark : Bool} {w v : List ℕ} → word_value w ≡ Some v → is_free_name v ≡ true → ReadsArrowParameters (piece mark (Word w) done) (tree.formal_parameters (nothing_of 0) (more (tree.formal_parameter (nothing_of 3) (tree.binding_identifier (unnumbered v)) absent) no_trees) absent)
+    grouped_parameters : {mark : Bool} {inside : Tokens} {ps : Trees} {rest : Maybe} → ReadsParameters in_parameters inside ps rest → ReadsArrowParameters (group mark Round inside done) (tree.formal_parameters (nothing_of 0) ps rest)
 
   -- parameters, and the one that takes the rest (15.1); a comma may end them where nothing takes the rest
   pub data ReadsParameters : Allowed → Tokens → Trees → Maybe → Type 0 where
@@ -384,6 +526,8 @@ mutual
     an_optional_named_member : {c : Allowed} {ts a : Tokens} {o : Tree} {v : List ℕ} (w : List ℕ) (mark next : Bool) → ts ≡ a ⧺ piece mark (Sign question_dot) (piece next (Word w) done) → word_value w ≡ Some v → ReadsChainBase c a o → ReadsChain c ts (tree.static_member (link_values true) o (tree.identifier_name (named v)))
     an_optional_computed_member : {c : Allowed} {ts a inside : Tokens} {o e : Tree} (mark next : Bool) → ts ≡ a ⧺ piece mark (Sign question_dot) (group next Square inside done) → ReadsChainBase c a o → ReadsExpression (with_in c) Expression inside e → ReadsChain c ts (tree.computed_member (link_values true) o e)
     an_optional_call : {c : Allowed} {ts a inside : Tokens} {f : Tree} {es : Trees} (mark next : Bool) → ts ≡ a ⧺ piece mark (Sign question_dot) (group next Round inside done) → ReadsChainBase c a f → ReadsArguments (with_in c) inside es → ReadsChain c ts (tree.call (call_values true) f es)
+    an_optional_private_member : {c : Allowed} {ts a : Tokens} {o : Tree} {v : List ℕ} (w : List ℕ) (mark next : Bool) → ts ≡ a ⧺ piece mark (Sign question_dot) (piece next (Beyond (Private w)) done) → word_value w ≡ Some v → ReadsChainBase c a o → ReadsChain c ts (tree.private_member (link_values true) o (private_name v))
+    a_further_private_member : {c : Allowed} {ts a : Tokens} {o : Tree} {v : List ℕ} (w : List ℕ) (mark next : Bool) → ts ≡ a ⧺ piece mark (Sign dot) (piece next (Beyond (Private w)) done) → word_value w ≡ Some v → ReadsChain c a o → ReadsChain c ts (tree.private_member (link_values false) o (private_name v))
     a_further_named_member : {c : Allowed} {ts a : Tokens} {o : Tree} {v : List ℕ} (w : List ℕ) (mark next : Bool) → ts ≡ a ⧺ piece mark (Sign dot) (piece next (Word w) done) → word_value w ≡ Some v → ReadsChain c a o → ReadsChain c ts (tree.static_member (link_values false) o (tree.identifier_name (named v)))
     a_further_computed_member : {c : Allowed} {ts a inside : Tokens} {o e : Tree} (mark : Bool) → ts ≡ a ⧺ group mark Square inside done → ReadsChain c a o → ReadsExpression (with_in c) Expression inside e → ReadsChain c ts (tree.computed_member (link_values false) o e)
     a_further_call : {c : Allowed} {ts a inside : Tokens} {f : Tree} {es : Trees} (mark : Bool) → ts ≡ a ⧺ group mark Round inside done → ReadsChain c a f → ReadsArguments (with_in c) inside es → ReadsChain c ts (tree.call (call_values false) f es)
@@ -403,13 +547,68 @@ mutual
   pub data ReadsProperty : Allowed → Tokens → Tree → Type 0 where
     a_shorthand : {c : Allowed} {mark : Bool} {w v : List ℕ} → word_value w ≡ Some v → is_free_name v ≡ true → ReadsProperty c (piece mark (Word w) done) (tree.object_property (property_values Init false true false) (tree.identifier_name (named v)) (tree.identifier_reference (unnumbered v)))
     a_property : {c : Allowed} {computed : Bool} {ts a b : Tokens} {k e : Tree} (mark : Bool) → ts ≡ a ⧺ piece mark (Sign colon) b → ReadsKey c computed a k → ReadsExpression c Assignment b e → ReadsProperty c ts (tree.object_property (property_values Init false false computed) k e)
-    -- methods and accessors (15.4); what a setter takes is one parameter
-    a_method : {c : Allowed} {computed : Bool} {ts a head inside : Tokens} {k : Tree} {ps ds ss : Trees} {rest : Maybe} (next third : Bool) → ts ≡ a ⧺ group next Round head (group third Brace inside done) → ReadsKey c computed a k → ReadsParameters in_function head ps rest → ReadsBody in_function true inside ds ss → ReadsProperty c ts (tree.object_property (property_values Init true false computed) k (method_of ps rest ds ss))
-    a_getter : {c : Allowed} {computed mark : Bool} {ts a inside : Tokens} {k : Tree} {ds ss : Trees} (next third : Bool) → ts ≡ a ⧺ group next Round done (group third Brace inside done) → ReadsKey c computed a k → ReadsBody in_function true inside ds ss → ReadsProperty c (piece mark (Word (codes "get")) ts) (tree.object_property (property_values Get false false computed) k (method_of no_trees absent ds ss))
-    a_setter : {c : Allowed} {computed mark : Bool} {ts a head inside : Tokens} {k p : Tree} {ds ss : Trees} (next third : Bool) → ts ≡ a ⧺ group next Round head (group third Brace inside done) → ReadsKey c computed a k → ReadsParameter in_function head p → ReadsBody in_function true inside ds ss → ReadsProperty c (piece mark (Word (codes "set")) ts) (tree.object_property (property_values Set false false computed) k (method_of (more p no_trees) absent ds ss))
+    -- a method or an accessor (15.4)
+    a_method : {c : Allowed} {kind : PropertyKind} {computed : Bool} {ts : Tokens} {k v : Tree} → ReadsMethod c false kind computed ts k v → ReadsProperty c ts (tree.object_property (property_values kind (is_plain_method kind) false computed) k v)
     a_spread_property : {c : Allowed} {mark : Bool} {ts : Tokens} {e : Tree} → ReadsExpression c Assignment ts e → ReadsProperty c (piece mark (Sign ellipsis) ts) (tree.spread (nothing_of 0) e)
 
-  -- a property's name (13.2.5); the flag tells that it is computed
+  -- the key and the function of a method or an accessor, and what it is (15.4 to 15.6 and 15.8). The first flag tells that its key may be a private name, the second that it is computed; what a setter takes is one parameter
+  pub data ReadsMethod : Allowed → Bool → PropertyKind → Bool → Tokens → Tree → Tree → Type 0 where
+    a_plain_method : {c : Allowed} {private computed : Bool} {ts : Tokens} {k v : Tree} → ReadsMethodAs c private false false computed ts k v → ReadsMethod c private Init computed ts k v
+    a_generator_method : {c : Allowed} {private computed mark : Bool} {ts : Tokens} {k v : Tree} → ReadsMethodAs c private false true computed ts k v → ReadsMethod c private Init computed (piece mark (Sign star) ts) k v
+    -- `async` is on the line of what follows
+    an_async_method : {c : Allowed} {private computed mark : Bool} {ts : Tokens} {k v : Tree} → on_same_line ts ≡ true → ReadsMethodAs c private true false computed ts k v → ReadsMethod c private Init computed (piece mark (Word (codes "async")) ts) k v
+    an_async_generator_method : {c : Allowed} {private computed mark : Bool} {ts : Tokens} {k v : Tree} → ReadsMethodAs c private true true computed ts k v → ReadsMethod c private Init computed (piece mark (Word (codes "async")) (piece false (Sign star) ts)) k v
+    a_getter : {c : Allowed} {private computed mark : Bool} {ts a inside : Tokens} {k : Tree} {ds ss : Trees} (next third : Bool) → ts ≡ a ⧺ group next Round done (group third Brace inside done) → ReadsMemberKey c private computed a k → ReadsBody (in_body false false) true inside ds ss → ReadsMethod c private Get computed (piece mark (Word (codes "get")) ts) k (method_of false false no_trees absent ds ss)
+    a_setter : {c : Allowed} {private computed mark : Bool} {ts a head inside : Tokens} {k p : Tree} {ds ss : Trees} (next third : Bool) → ts ≡ a ⧺ group next Round head (group third Brace inside done) → ReadsMemberKey c private computed a k → ReadsParameter in_parameters head p → ReadsBody (in_body false false) true inside ds ss → ReadsMethod c private Set computed (piece mark (Word (codes "set")) ts) k (method_of false false (more p no_trees) absent ds ss)
+
+  -- behind the words of a method, which tell that it is `async`, and a generator: its key, its parameters and its body
+  pub data ReadsMethodAs : Allowed → Bool → Bool → Bool → Bool → Tokens → Tree → Tree → Type 0 where
+    a_method_behind_words : {c : Allowed} {private async generator computed : Bool} {ts a head inside : Tokens} {k : Tree} {ps ds ss : Trees} {rest : Maybe} (next third : Bool) → ts ≡ a ⧺ group next Round head (group third Brace inside done) → ReadsMemberKey c private computed a k → ReadsParameters in_parameters head ps rest → ReadsBody (in_body async generator) true inside ds ss → ReadsMethodAs c private async generator computed ts k (method_of async generator ps rest ds ss)
+
+  -- ---- classes (15.7)
+
+  -- a class from its word on; the flag tells that its name may be omitted. What may stand round it may stand in what it extends and in its keys
+  pub data ReadsClass : Allowed → ClassKind → Bool → Tokens → Tree → Type 0 where
+    a_named_class : {c : Allowed} {kind : ClassKind} {nameless mark next : Bool} {w v : List ℕ} {ts : Tokens} {heritage : Maybe} {ms : Trees} → word_value w ≡ Some v → is_free_name v ≡ true → ReadsClassTail c ts heritage ms → ReadsClass c kind nameless (piece mark (Word (codes "class")) (piece next (Word w) ts)) (class_of kind (given (tree.binding_identifier (unnumbered v))) heritage ms)
+    a_nameless_class : {c : Allowed} {kind : ClassKind} {mark : Bool} {ts : Tokens} {heritage : Maybe} {ms : Trees} → ReadsClassTail c ts heritage ms → ReadsClass c kind true (piece mark (Word (codes "class")) ts) (class_of kind absent heritage ms)
+
+  -- behind its name: what it extends, and its members
+  pub data ReadsClassTail : Allowed → Tokens → Maybe → Trees → Type 0 where
+    without_heritage : {c : Allowed} {mark : Bool} {inside : Tokens} {ms : Trees} → ReadsMembers c inside ms → ReadsClassTail c (group mark Brace inside done) absent ms
+    with_heritage : {c : Allowed} {mark : Bool} {ts a inside : Tokens} {e : Tree} {ms : Trees} (next : Bool) → ts ≡ a ⧺ group next Brace inside done → ReadsExpression c LeftHandSide a e → ReadsMembers c inside ms → ReadsClassTail c (piece mark (Word (codes "extends")) ts) (given e) ms
+
+  -- between the braces: methods and static blocks one behind the other, and fields, each with a semicolon, which may be omitted as the last token (12.10). A semicolon may also stand alone
+  pub data ReadsMembers : Allowed → Tokens → Trees → Type 0 where
+    no_member : {c : Allowed} → ReadsMembers c done no_trees
+    a_semicolon_alone : {c : Allowed} {mark : Bool} {ts : Tokens} {ms : Trees} → ReadsMembers c ts ms → ReadsMembers c (piece mark (Sign semicolon) ts) ms
+    a_last_field : {c : Allowed} {ts : Tokens} {t : Tree} → ReadsField c ts t → ReadsMembers c ts (more t no_trees)
+    a_first_field : {c : Allowed} {ts a b : Tokens} {t : Tree} {ms : Trees} (mark : Bool) → ts ≡ a ⧺ piece mark (Sign semicolon) b → ReadsField c a t → ReadsMembers c b ms → ReadsMembers c ts (more t ms)
+    a_first_member : {c : Allowed} {ts a b : Tokens} {t : Tree} {ms : Trees} → ts ≡ a ⧺ b → ReadsMember c a t → ReadsMembers c b ms → ReadsMembers c ts (more t ms)
+
+  -- a method or an accessor, static or not, or a static block
+  pub data ReadsMember : Allowed → Tokens → Tree → Type 0 where
+    a_member_method : {c : Allowed} {kind : PropertyKind} {computed : Bool} {ts : Tokens} {k v : Tree} → ReadsMethod c true kind computed ts k v → ReadsMember c ts (tree.method_definition (member_values kind false computed) k v)
+    a_static_method : {c : Allowed} {kind : PropertyKind} {computed mark : Bool} {ts : Tokens} {k v : Tree} → ReadsMethod c true kind computed ts k v → ReadsMember c (piece mark (Word (codes "static")) ts) (tree.method_definition (member_values kind true computed) k v)
+    a_static_block : {c : Allowed} {mark next : Bool} {inside : Tokens} {ss : Trees} → ReadsStatements in_member true inside ss → ReadsMember c (piece mark (Word (codes "static")) (group next Brace inside done)) (tree.static_block (nothing_of 0) ss)
+
+  -- a field, static or not
+  pub data ReadsField : Allowed → Tokens → Tree → Type 0 where
+    a_field : {c : Allowed} {computed : Bool} {ts : Tokens} {k : Tree} {value : Maybe} → ReadsFieldAs c computed ts k value → ReadsField c ts (tree.property_definition (field_values false computed) k value)
+    a_static_field : {c : Allowed} {computed mark : Bool} {ts : Tokens} {k : Tree} {value : Maybe} → ReadsFieldAs c computed ts k value → ReadsField c (piece mark (Word (codes "static")) ts) (tree.property_definition (field_values true computed) k value)
+
+  -- its key, and its value, which may be omitted
+  pub data ReadsFieldAs : Allowed → Bool → Tokens → Tree → Maybe → Type 0 where
+    a_field_alone : {c : Allowed} {computed : Bool} {ts : Tokens} {k : Tree} → ReadsMemberKey c true computed ts k → ReadsFieldAs c computed ts k absent
+    a_field_with_value : {c : Allowed} {computed : Bool} {ts a b : Tokens} {k e : Tree} (mark : Bool) → ts ≡ a ⧺ piece mark (Sign equal) b → ReadsMemberKey c true computed a k → ReadsExpression in_member Assignment b e → ReadsFieldAs c computed ts k (given e)
+
+  -- ---- keys (13.2.5)
+
+  -- the name of a member of a class, or of an object, whose is no private one; the first flag tells that it may be one (15.7, ClassElementName)
+  pub data ReadsMemberKey : Allowed → Bool → Bool → Tokens → Tree → Type 0 where
+    a_public_key : {c : Allowed} {private computed : Bool} {ts : Tokens} {k : Tree} → ReadsKey c computed ts k → ReadsMemberKey c private computed ts k
+    a_private_key : {c : Allowed} {mark : Bool} {w v : List ℕ} → word_value w ≡ Some v → ReadsMemberKey c true false (piece mark (Beyond (Private w)) done) (private_name v)
+
+  -- a property's name; the flag tells that it is computed
   pub data ReadsKey : Allowed → Bool → Tokens → Tree → Type 0 where
     a_name_key : {c : Allowed} {mark : Bool} {w v : List ℕ} → word_value w ≡ Some v → ReadsKey c false (piece mark (Word w) done) (tree.identifier_name (named v))
     a_string_key : {c : Allowed} {mark : Bool} {q : Quote} {w us : List ℕ} → is_backtick q ≡ false → string_value q w ≡ Some us → ReadsKey c false (piece mark (Quoted q w) done) (tree.string_literal (bare (units us ∷ [])))
@@ -539,7 +738,9 @@ mutual
     a_variable_statement : {c : Allowed} {last before_else : Bool} {ts a : Tokens} {d : Tree} → EndsBy last ts a → ReadsVariables (with_in c) Var a d → ReadsStatement c last before_else ts d
     a_for : {c : Allowed} {last before_else mark next : Bool} {head a b d ts : Tokens} {init test update : Maybe} {s : Tree} (k l : Bool) → head ≡ a ⧺ piece k (Sign semicolon) (b ⧺ piece l (Sign semicolon) d) → ReadsInit c a init → ReadsPart (with_in c) b test → ReadsPart (with_in c) d update → ReadsStatement c last before_else ts s → ReadsStatement c last before_else (piece mark (Word (codes "for")) (group next Round head ts)) (tree.for_statement (nothing_of 0) init test update s)
     a_for_in : {c : Allowed} {last before_else mark next : Bool} {head a b ts : Tokens} {l e s : Tree} (k : Bool) → head ≡ a ⧺ piece k (Word (codes "in")) b → ReadsLeft (with_in c) false a l → ReadsExpression (with_in c) Expression b e → ReadsStatement c last before_else ts s → ReadsStatement c last before_else (piece mark (Word (codes "for")) (group next Round head ts)) (tree.for_in_statement (nothing_of 0) l e s)
-    a_for_of : {c : Allowed} {last before_else mark next : Bool} {head a b ts : Tokens} {l e s : Tree} (k : Bool) → head ≡ a ⧺ piece k (Word (codes "of")) b → ReadsLeft (with_in c) true a l → ReadsExpression (with_in c) Assignment b e → ReadsStatement c last before_else ts s → ReadsStatement c last before_else (piece mark (Word (codes "for")) (group next Round head ts)) (tree.for_of_statement (nothing_of 1) l e s)
+    a_for_of : {c : Allowed} {last before_else mark next : Bool} {head a b ts : Tokens} {l e s : Tree} (k : Bool) → head ≡ a ⧺ piece k (Word (codes "of")) b → ReadsLeft (with_in c) true a l → ReadsExpression (with_in c) Assignment b e → ReadsStatement c last before_else ts s → ReadsStatement c last before_else (piece mark (Word (codes "for")) (group next Round head ts)) (tree.for_of_statement (loop_values false) l e s)
+    -- the loop waits for each value where `await` is an operator; then what it gives them to may be `async` (14.7.5)
+    a_for_await : {c : Allowed} {last before_else mark second next : Bool} {head a b ts : Tokens} {l e s : Tree} (k : Bool) → c.await_operand ≡ true → head ≡ a ⧺ piece k (Word (codes "of")) b → ReadsLeft (with_in c) false a l → ReadsExpression (with_in c) Assignment b e → ReadsStatement c last before_else ts s → ReadsStatement c last before_else (piece mark (Word (codes "for")) (piece second (Word (codes "await")) (group next Round head ts))) (tree.for_of_statement (loop_values true) l e s)
     a_while : {c : Allowed} {last before_else mark next : Bool} {test ts : Tokens} {t s : Tree} → ReadsExpression (with_in c) Expression test t → ReadsStatement c last before_else ts s → ReadsStatement c last before_else (piece mark (Word (codes "while")) (group next Round test ts)) (tree.while_statement (nothing_of 0) t s)
     a_do_while : {c : Allowed} {last before_else mark : Bool} {ts a b test : Tokens} {s t : Tree} (k next : Bool) → EndsBy last ts a → a ≡ piece mark (Word (codes "do")) (b ⧺ piece k (Word (codes "while")) (group next Round test done)) → ReadsStatement c false false b s → ReadsExpression (with_in c) Expression test t → ReadsStatement c last before_else ts (tree.do_while_statement (nothing_of 0) s t)
     a_labelled_statement : {c : Allowed} {last before_else mark next : Bool} {w v : List ℕ} {ts : Tokens} {s : Tree} → word_value w ≡ Some v → is_free_name v ≡ true → ReadsStatement c last before_else ts s → ReadsStatement c last before_else (piece mark (Word w) (piece next (Sign colon) ts)) (tree.labeled_statement (nothing_of 0) (tree.label_identifier (named v)) s)
@@ -605,7 +806,8 @@ mutual
   -- what stands in a list of statements: a statement or a declaration (14.2)
   pub data ReadsItem : Allowed → Bool → Tokens → Tree → Type 0 where
     a_statement : {c : Allowed} {last : Bool} {ts : Tokens} {s : Tree} → ReadsStatement c last false ts s → ReadsItem c last ts s
-    a_function_declaration : {c : Allowed} {last mark : Bool} {ts : Tokens} {t : Tree} → ReadsFunction kinds.Declaration ts t → ReadsItem c last (piece mark (Word (codes "function")) ts) t
+    a_function_declaration : {c : Allowed} {last : Bool} {ts : Tokens} {t : Tree} → ReadsFunction kinds.Declaration false ts t → ReadsItem c last ts t
+    a_class_declaration : {c : Allowed} {last : Bool} {ts : Tokens} {t : Tree} → ReadsClass (with_in c) class_kinds.Declaration false ts t → ReadsItem c last ts t
     a_declaration : {c : Allowed} {last : Bool} {ts a : Tokens} {d : Tree} (kind : VariableDeclarationKind) → is_var kind ≡ false → EndsBy last ts a → ReadsVariables (with_in c) kind a d → ReadsItem c last ts d
 
   pub data ReadsStatements : Allowed → Bool → Tokens → Trees → Type 0 where
@@ -620,5 +822,107 @@ mutual
     a_last_directive : {c : Allowed} {mark : Bool} {q : Quote} {w us : List ℕ} → is_backtick q ≡ false → string_value q w ≡ Some us → ReadsBody c true (piece mark (Quoted q w) done) (more (tree.directive (bare (units us ∷ []))) no_trees) no_trees
     statements : {c : Allowed} {last : Bool} {ts : Tokens} {ss : Trees} → starts_with_directive ts ≡ false → ReadsStatements c last ts ss → ReadsBody c last ts no_trees ss
 
+-- ---- modules (16.2)
+
+-- a name of an import or an export: a word, be it reserved or not, or a string (16.2, ModuleExportName)
+pub data ReadsModuleName : Tokens → List ℕ → Type 0 where
+  a_word_name : {mark : Bool} {w v : List ℕ} → word_value w ≡ Some v → ReadsModuleName (piece mark (Word w) done) (units_of v)
+  a_string_name : {mark : Bool} {q : Quote} {w us : List ℕ} → is_backtick q ≡ false → string_value q w ≡ Some us → ReadsModuleName (piece mark (Quoted q w) done) us
+
+-- an attribute by its key, a name or a string, and its value, a string (16.2.2, WithClause)
+pub data ReadsAttribute : Tokens → Tree → Type 0 where
+  an_attribute : {mark next third : Bool} {w v x us : List ℕ} {q : Quote} → word_value w ≡ Some v → is_backtick q ≡ false → string_value q x ≡ Some us → ReadsAttribute (piece mark (Word w) (piece next (Sign colon) (piece third (Quoted q x) done))) (tree.import_attribute (nothing_of 0) (tree.identifier_name (named v)) (text_of us))
+  an_attribute_by_string : {mark next third : Bool} {w v x us : List ℕ} {q r : Quote} → is_backtick r ≡ false → string_value r w ≡ Some v → is_backtick q ≡ false → string_value q x ≡ Some us → ReadsAttribute (piece mark (Quoted r w) (piece next (Sign colon) (piece third (Quoted q x) done))) (tree.import_attribute (nothing_of 0) (text_of v) (text_of us))
+
+-- a comma may end them
+pub data ReadsAttributes : Tokens → Trees → Type 0 where
+  no_attribute : ReadsAttributes done no_trees
+  last_attribute : {ts : Tokens} {t : Tree} → ReadsAttribute ts t → ReadsAttributes ts (more t no_trees)
+  first_attribute : {ts a b : Tokens} {t : Tree} {us : Trees} (mark : Bool) → ts ≡ a ⧺ piece mark (Sign comma) b → ReadsAttribute a t → ReadsAttributes b us → ReadsAttributes ts (more t us)
+
+-- a string that names a module, and attributes
+pub data ReadsSource : Tokens → Tree → Maybe → Type 0 where
+  a_source : {mark : Bool} {q : Quote} {w us : List ℕ} → is_backtick q ≡ false → string_value q w ≡ Some us → ReadsSource (piece mark (Quoted q w) done) (text_of us) absent
+  a_source_with : {mark next third : Bool} {q : Quote} {w us : List ℕ} {inside : Tokens} {es : Trees} → is_backtick q ≡ false → string_value q w ≡ Some us → ReadsAttributes inside es → ReadsSource (piece mark (Quoted q w) (piece next (Word (codes "with")) (group third Brace inside done))) (text_of us) (given (tree.with_clause (bare (with_keyword with_keywords.With ∷ [])) es))
+
+-- ---- imports (16.2.2)
+
+-- between the braces: a name that is bound as it is, or behind `as` by another
+pub data ReadsSpecifier : Tokens → Tree → Type 0 where
+  a_specifier : {mark : Bool} {w v : List ℕ} → word_value w ≡ Some v → is_free_name v ≡ true → ReadsSpecifier (piece mark (Word w) done) (tree.import_specifier of_values (text_of (units_of v)) (tree.binding_identifier (unnumbered v)))
+  a_specifier_as : {ts a : Tokens} {k v : List ℕ} (w : List ℕ) (mark next : Bool) → ts ≡ a ⧺ piece mark (Word (codes "as")) (piece next (Word w) done) → ReadsModuleName a k → word_value w ≡ Some v → is_free_name v ≡ true → ReadsSpecifier ts (tree.import_specifier of_values (text_of k) (tree.binding_identifier (unnumbered v)))
+
+-- a comma may end them
+pub data ReadsSpecifiers : Tokens → Trees → Type 0 where
+  no_specifier : ReadsSpecifiers done no_trees
+  last_specifier : {ts : Tokens} {t : Tree} → ReadsSpecifier ts t → ReadsSpecifiers ts (more t no_trees)
+  first_specifier : {ts a b : Tokens} {t : Tree} {us : Trees} (mark : Bool) → ts ≡ a ⧺ piece mark (Sign comma) b → ReadsSpecifier a t → ReadsSpecifiers b us → ReadsSpecifiers ts (more t us)
+
+-- some of what is exported there by name, or all of it under one name
+pub data ReadsNamedImports : Tokens → Trees → Type 0 where
+  imports_in_braces : {mark : Bool} {inside : Tokens} {ss : Trees} → ReadsSpecifiers inside ss → ReadsNamedImports (group mark Brace inside done) ss
+  a_namespace : {mark next last : Bool} {w v : List ℕ} → word_value w ≡ Some v → is_free_name v ≡ true → ReadsNamedImports (piece mark (Sign star) (piece next (Word (codes "as")) (piece last (Word w) done))) (more (tree.import_namespace_specifier (nothing_of 0) (tree.binding_identifier (unnumbered v))) no_trees)
+
+-- before `from`
+pub data ReadsImportClause : Tokens → Trees → Type 0 where
+  a_default_import : {mark : Bool} {w v : List ℕ} → word_value w ≡ Some v → is_free_name v ≡ true → ReadsImportClause (piece mark (Word w) done) (more (tree.import_default_specifier (nothing_of 0) (tree.binding_identifier (unnumbered v))) no_trees)
+  named_imports : {ts : Tokens} {ss : Trees} → ReadsNamedImports ts ss → ReadsImportClause ts ss
+  a_default_and_others : {mark next : Bool} {w v : List ℕ} {ts : Tokens} {ss : Trees} → word_value w ≡ Some v → is_free_name v ≡ true → ReadsNamedImports ts ss → ReadsImportClause (piece mark (Word w) (piece next (Sign comma) ts)) (more (tree.import_default_specifier (nothing_of 0) (tree.binding_identifier (unnumbered v))) ss)
+
+-- behind the word `import`
+pub data ReadsImport : Tokens → Tree → Type 0 where
+  an_import_alone : {ts : Tokens} {s : Tree} {clause : Maybe} → ReadsSource ts s clause → ReadsImport ts (tree.import_declaration of_values no_list s clause)
+  an_import_of : {ts a b : Tokens} {ss : Trees} {s : Tree} {clause : Maybe} (mark : Bool) → ts ≡ a ⧺ piece mark (Word (codes "from")) b → ReadsImportClause a ss → ReadsSource b s clause → ReadsImport ts (tree.import_declaration of_values (listed ss) s clause)
+
+-- ---- exports (16.2.3)
+
+-- between the braces; the flag tells that a source follows, without which what is exported is a reference
+pub data ReadsExported : Bool → Tokens → Tree → Type 0 where
+  an_exported_name : {source : Bool} {a : Tokens} {k : List ℕ} → ReadsModuleName a k → (source || is_reference_alone a) ≡ true → ReadsExported source a (tree.export_specifier of_values (text_of k) (text_of k))
+  an_exported_name_as : {source : Bool} {ts a b : Tokens} {k l : List ℕ} (mark : Bool) → ts ≡ a ⧺ piece mark (Word (codes "as")) b → ReadsModuleName a k → (source || is_reference_alone a) ≡ true → ReadsModuleName b l → ReadsExported source ts (tree.export_specifier of_values (text_of k) (text_of l))
+
+-- a comma may end them
+pub data ReadsAllExported : Bool → Tokens → Trees → Type 0 where
+  none_exported : {source : Bool} → ReadsAllExported source done no_trees
+  last_exported : {source : Bool} {ts : Tokens} {t : Tree} → ReadsExported source ts t → ReadsAllExported source ts (more t no_trees)
+  first_exported : {source : Bool} {ts a b : Tokens} {t : Tree} {us : Trees} (mark : Bool) → ts ≡ a ⧺ piece mark (Sign comma) b → ReadsExported source a t → ReadsAllExported source b us → ReadsAllExported source ts (more t us)
+
+-- a declaration behind `export`
+pub data ReadsDeclared : Bool → Tokens → Tree → Type 0 where
+  declared_variables : {last : Bool} {ts a : Tokens} {d : Tree} (kind : VariableDeclarationKind) → EndsBy last ts a → ReadsVariables in_module kind a d → ReadsDeclared last ts d
+  a_declared_function : {last : Bool} {ts : Tokens} {t : Tree} → ReadsFunction kinds.Declaration false ts t → ReadsDeclared last ts t
+  a_declared_class : {last : Bool} {ts : Tokens} {t : Tree} → ReadsClass in_module class_kinds.Declaration false ts t → ReadsDeclared last ts t
+
+-- behind `export default`: a function or a class, with a name or without, or an expression
+pub data ReadsDefault : Bool → Tokens → Tree → Type 0 where
+  a_default_function : {last : Bool} {ts : Tokens} {t : Tree} → ReadsFunction kinds.Declaration true ts t → ReadsDefault last ts t
+  a_default_class : {last : Bool} {ts : Tokens} {t : Tree} → ReadsClass in_module class_kinds.Declaration true ts t → ReadsDefault last ts t
+  a_default_expression : {last : Bool} {ts a : Tokens} {e : Tree} → EndsBy last ts a → may_be_exported a ≡ true → ReadsExpression in_module Assignment a e → ReadsDefault last ts e
+
+-- behind the word `export`
+pub data ReadsExport : Bool → Tokens → Tree → Type 0 where
+  an_exported_declaration : {last : Bool} {ts : Tokens} {t : Tree} → ReadsDeclared last ts t → ReadsExport last ts (tree.export_declaration (nothing_of 0) t)
+  exported_names : {last mark : Bool} {ts inside : Tokens} {ss : Trees} → EndsBy last ts (group mark Brace inside done) → ReadsAllExported false inside ss → ReadsExport last ts (tree.export_named_declaration of_values ss)
+  exported_names_from : {last mark next : Bool} {ts inside a : Tokens} {ss : Trees} {s : Tree} {clause : Maybe} → EndsBy last ts (group mark Brace inside (piece next (Word (codes "from")) a)) → ReadsAllExported true inside ss → ReadsSource a s clause → ReadsExport last ts (tree.export_from_declaration of_values ss s clause)
+  all_exported : {last mark next : Bool} {ts a : Tokens} {s : Tree} {clause : Maybe} → EndsBy last ts (piece mark (Sign star) (piece next (Word (codes "from")) a)) → ReadsSource a s clause → ReadsExport last ts (tree.export_all_declaration of_values absent s clause)
+  all_exported_as : {last : Bool} {ts d a b : Tokens} {k : List ℕ} {s : Tree} {clause : Maybe} (mark next third : Bool) → EndsBy last ts d → d ≡ piece mark (Sign star) (piece next (Word (codes "as")) (a ⧺ piece third (Word (codes "from")) b)) → ReadsModuleName a k → ReadsSource b s clause → ReadsExport last ts (tree.export_all_declaration of_values (given (text_of k)) s clause)
+  a_default_export : {last mark : Bool} {ts : Tokens} {t : Tree} → ReadsDefault last ts t → ReadsExport last (piece mark (Word (codes "default")) ts) (tree.export_default_declaration (nothing_of 0) t)
+
+-- ---- the statements of a module, its imports and its exports, behind its directives
+
+pub data ReadsModuleItem : Bool → Tokens → Tree → Type 0 where
+  a_module_statement : {last : Bool} {ts : Tokens} {t : Tree} → ReadsItem in_module last ts t → ReadsModuleItem last ts t
+  an_import : {last mark : Bool} {ts a : Tokens} {t : Tree} → EndsBy last ts (piece mark (Word (codes "import")) a) → ReadsImport a t → ReadsModuleItem last ts t
+  an_export : {last mark : Bool} {ts : Tokens} {t : Tree} → ReadsExport last ts t → ReadsModuleItem last (piece mark (Word (codes "export")) ts) t
+
+pub data ReadsModuleItems : Bool → Tokens → Trees → Type 0 where
+  no_module_item : {last : Bool} → ReadsModuleItems last done no_trees
+  last_module_item : {last : Bool} {ts : Tokens} {s : Tree} → ReadsModuleItem last ts s → ReadsModuleItems last ts (more s no_trees)
+  first_module_item : {last : Bool} {ts a b : Tokens} {s : Tree} {ss : Trees} → ts ≡ a ⧺ b → ReadsModuleItem false a s → ReadsModuleItems last b ss → ReadsModuleItems last ts (more s ss)
+
+pub data ReadsModuleBody : Bool → Tokens → Trees → Trees → Type 0 where
+  a_module_directive : {last mark next : Bool} {q : Quote} {w us : List ℕ} {ts : Tokens} {ds ss : Trees} → is_backtick q ≡ false → string_value q w ≡ Some us → ReadsModuleBody last ts ds ss → ReadsModuleBody last (piece mark (Quoted q w) (piece next (Sign semicolon) ts)) (more (tree.directive (bare (units us ∷ []))) ds) ss
+  module_items : {last : Bool} {ts : Tokens} {ss : Trees} → starts_with_directive ts ≡ false → ReadsModuleItems last ts ss → ReadsModuleBody last ts no_trees ss
+
 pub data ReadsModule : Tokens → Tree → Type 0 where
-  a_module : {ts : Tokens} {directives body : Trees} → ReadsBody in_module false ts directives body → ReadsModule ts (tree.program (nothing_of 4) no_trees absent directives body)
+  a_module : {ts : Tokens} {directives body : Trees} → ReadsModuleBody false ts directives body → ReadsModule ts (tree.program (nothing_of 4) no_trees absent directives body)

@@ -13,7 +13,7 @@ use Rattle.jsgen_model.specs.Private.{classes_within, printed_private}
 abbrev pub PlainByTypes : Type 0
 PlainByTypes = (program : Program Node) → Everywhere is_plain_by_type (program_plain program) → IsPlain (program_plain program)
 
--- and core where each is that by its type and flags
+-- and core where each is that by its type and flags, and by what a tag sees
 abbrev pub CoreByTypes : Type 0
 CoreByTypes = (program : Program Node) → Everywhere is_core_by_type (program_plain program) → IsCore (program_plain program)
 

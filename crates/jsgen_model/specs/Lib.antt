@@ -1,4 +1,5 @@
 pub mod Punctuator
+pub mod LineEnds
 pub mod Items
 pub mod Private
 pub mod Spans

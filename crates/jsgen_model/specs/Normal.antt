@@ -8,7 +8,7 @@ use Rattle.jsgen_tree.specs.Number.{NumericKind, Whole, Raw}
 use Rattle.jsgen_tree.specs.Tree.{Tree, node, Slots, no_slots, one, maybe, many, maybe_many, Maybe, absent, given, Trees, no_trees, more, hole, MaybeTrees, no_list, listed, Atoms}
 use Rattle.jsgen_tree.specs.declared.types.NodeType.TheVariants as types
 use Rattle.jsgen_tree.specs.Places.{bare, absent_values}
-use Rattle.jsgen_tree.specs.Values.{directive_directive, variable_declaration_kind, binding_identifier_name, identifier_reference_name, identifier_name_name, label_identifier_name, for_of_statement_is_await, boolean_literal_value, numeric_literal_kind, numeric_literal_negative, numeric_literal_digits, numeric_literal_text, big_int_literal_value, string_literal_value, binary_expression_operator, logical_expression_operator, unary_expression_operator, update_expression_operator, update_expression_prefix, variable_declaration_declare, variable_declarator_definite, static_member_expression_optional, computed_member_expression_optional, call_expression_optional, object_property_kind, object_property_method, object_property_shorthand, object_property_computed, assignment_expression_operator, function_kind, function_is_async, function_generator, function_declare, formal_parameter_is_override, formal_parameter_readonly, formal_parameter_optional, arrow_function_expression_is_async, reg_exp_literal_pattern, reg_exp_literal_flags, method_definition_kind, method_definition_computed, method_definition_is_static, method_definition_is_override, method_definition_is_abstract, method_definition_optional, template_element_raw, template_element_cooked, assignment_target_property_property_computed, binding_property_computed, class_declare, class_is_abstract, class_kind, export_from_declaration_export_kind, export_named_declaration_export_kind, hashbang_value, import_declaration_import_kind, private_field_expression_optional, private_identifier_name, property_definition_computed, property_definition_declare, property_definition_definite, property_definition_is_abstract, property_definition_is_override, property_definition_is_static, property_definition_optional, property_definition_readonly, with_clause_keyword, yield_expression_delegate}
+use Rattle.jsgen_tree.specs.Values.{directive_directive, variable_declaration_kind, binding_identifier_name, identifier_reference_name, identifier_name_name, label_identifier_name, for_of_statement_is_await, boolean_literal_value, numeric_literal_kind, numeric_literal_negative, numeric_literal_digits, numeric_literal_text, big_int_literal_value, string_literal_value, binary_expression_operator, logical_expression_operator, unary_expression_operator, update_expression_operator, update_expression_prefix, variable_declaration_declare, variable_declarator_definite, static_member_expression_optional, computed_member_expression_optional, call_expression_optional, object_property_kind, object_property_method, object_property_shorthand, object_property_computed, assignment_expression_operator, function_kind, function_is_async, function_generator, function_declare, formal_parameter_is_override, formal_parameter_readonly, formal_parameter_optional, arrow_function_expression_is_async, reg_exp_literal_pattern, reg_exp_literal_flags, method_definition_kind, method_definition_computed, method_definition_is_static, method_definition_is_override, method_definition_is_abstract, method_definition_optional, template_element_raw, template_element_cooked, assignment_target_property_property_computed, binding_property_computed, class_declare, class_is_abstract, class_kind, export_from_declaration_export_kind, export_named_declaration_export_kind, export_specifier_export_kind, export_all_declaration_export_kind, hashbang_value, import_declaration_import_kind, import_specifier_import_kind, private_field_expression_optional, private_identifier_name, property_definition_computed, property_definition_declare, property_definition_definite, property_definition_is_abstract, property_definition_is_override, property_definition_is_static, property_definition_optional, property_definition_readonly, with_clause_keyword, yield_expression_delegate}
 use Rattle.jsgen_syntax.specs.Raw.{directive_value, pattern_text}
 use Rattle.jsgen_syntax.specs.declared.operator.LogicalOperator.{LogicalOperator}
 use Rattle.jsgen_syntax.specs.declared.operator.UnaryOperator.TheVariants.{UnaryNegation}
@@ -60,10 +60,6 @@ declared_as kind = bare (declaration_kind kind ∷ no_value ∷ [])
 -- a function by where it stands; whether it is pure or marked as called doesn't count
 abbrev pub function_values : FunctionKind → Atom → Atom → Atom → Atoms
 function_values kind is_async generator declare = bare (kind_of_function kind ∷ is_async ∷ generator ∷ declare ∷ no_value ∷ no_value ∷ [])
-
--- of one that is neither `async` nor a generator
-abbrev pub function_as : FunctionKind → Atoms
-function_as kind = function_values kind no_value no_value no_value
 
 abbrev pub number_text : NumericKind → Atoms → List ℕ
 number_text Whole a = decimal (numeric_literal_digits a)
@@ -240,9 +236,9 @@ abbrev mutual
   normal (tree.target_property_identifier a binding init) = written_out (nothing_of 0) (normal binding) (normal binding) (normal_maybe init)
   normal (tree.template_literal a quasis expressions) = untagged (by_values quasis) (normal_trees expressions)
   normal (tree.tagged_template a tag quasi) = tree.tagged_template (nothing_of 0) (normal tag) (normal_quasi quasi)
-  normal (tree.import_specifier a imported local) = tree.import_specifier (bare a.values) (by_its_text (normal imported)) (normal local)
-  normal (tree.export_specifier a local exported) = tree.export_specifier (bare a.values) (by_its_text (normal local)) (by_its_text (normal exported))
-  normal (tree.export_all_declaration a exported source with_clause) = tree.export_all_declaration (bare a.values) (maybe_by_its_text (normal_maybe exported)) (normal source) (normal_maybe with_clause)
+  normal (tree.import_specifier a imported local) = tree.import_specifier (bare (kind_of_import (import_specifier_import_kind a) ∷ [])) (by_its_text (normal imported)) (normal local)
+  normal (tree.export_specifier a local exported) = tree.export_specifier (bare (kind_of_import (export_specifier_export_kind a) ∷ [])) (by_its_text (normal local)) (by_its_text (normal exported))
+  normal (tree.export_all_declaration a exported source with_clause) = tree.export_all_declaration (bare (kind_of_import (export_all_declaration_export_kind a) ∷ [])) (maybe_by_its_text (normal_maybe exported)) (normal source) (normal_maybe with_clause)
   normal (tree.comment a) = tree.comment (bare a.values)
   normal (tree.template_element a) = tree.template_element (bare a.values)
   -- generated from tools/nodes/table.txt: clauses

@@ -1,5 +1,7 @@
 -- The trees of which a reading is promised: core, and among these the plain ones.
-use Rattle.std.specs.Prelude.{◌≡◌, ◌^◌, ◌&&◌, ◌⊎◌, Bool, true, false, not, nat_lt, codes}
+use Rattle.std.specs.Prelude.{◌≡◌, ◌^◌, ◌&&◌, ◌||◌, ◌⊎◌, Bool, true, false, not, nat_lt, codes}
+use Rattle.std.specs.Str.{all_scalars}
+use Rattle.jsgen_syntax.specs.Raw.{holds_close_tag}
 use Rattle.jsgen_syntax.specs.Wtf8.{are_units}
 use Rattle.jsgen_syntax.specs.declared.span.SourceKind.{SourceKind}
 use Rattle.jsgen_syntax.specs.declared.span.SourceKind.TheVariants as source_kinds
@@ -11,7 +13,7 @@ use Rattle.jsgen_tree.specs.declared.types.NodeType.{NodeType}
 use Rattle.jsgen_tree.specs.declared.types.NodeType.TheVariants as types
 use Rattle.jsgen_tree.specs.Table.{value_named}
 use Rattle.jsgen_tree.specs.Fields.{fields}
-use Rattle.jsgen_tree.specs.Values.{as_flag, program_kind, directive_directive, numeric_literal_kind, numeric_literal_digits, string_literal_value, variable_declaration_declare, variable_declarator_definite, for_of_statement_is_await, function_is_async, function_generator, function_declare, formal_parameter_is_override, formal_parameter_readonly, formal_parameter_optional, arrow_function_expression_is_async, class_declare, class_is_abstract, method_definition_is_override, method_definition_is_abstract, method_definition_optional, property_definition_declare, property_definition_is_abstract, property_definition_is_override, property_definition_readonly, property_definition_optional, property_definition_definite}
+use Rattle.jsgen_tree.specs.Values.{as_flag, program_kind, directive_directive, numeric_literal_kind, numeric_literal_digits, string_literal_value, reg_exp_literal_pattern, template_element_raw, hashbang_value, variable_declaration_declare, variable_declarator_definite, for_of_statement_is_await, function_is_async, function_generator, function_declare, formal_parameter_is_override, formal_parameter_readonly, formal_parameter_optional, arrow_function_expression_is_async, class_declare, class_is_abstract, method_definition_is_override, method_definition_is_abstract, method_definition_optional, property_definition_declare, property_definition_is_abstract, property_definition_is_override, property_definition_readonly, property_definition_optional, property_definition_definite}
 use Rattle.jsgen_tree.specs.Everywhere.{Everywhere}
 use Rattle.jsgen_tree.specs.Options.{Comments, is_none}
 use Rattle.jsgen_tree.specs.Job.{JobData}
@@ -21,35 +23,10 @@ use Rattle.jsgen_tree.specs.Job.{JobData}
 -- Each type of which no reading is promised is left out here by its name.
 abbrev pub is_core_type : NodeType → Bool
 -- generated from tools/nodes/table.txt: types
-is_core_type types.RegExpLiteral = false
-is_core_type types.ImportMeta = false
-is_core_type types.AwaitExpression = false
-is_core_type types.YieldExpression = false
-is_core_type types.TemplateElement = false
-is_core_type types.TemplateLiteral = false
-is_core_type types.TaggedTemplateExpression = false
-is_core_type types.ImportExpression = false
 is_core_type types.PrivateIdentifier = false
 is_core_type types.PrivateFieldExpression = false
 is_core_type types.PrivateInExpression = false
-is_core_type types.Class = false
-is_core_type types.ClassBody = false
-is_core_type types.StaticBlock = false
-is_core_type types.MethodDefinition = false
-is_core_type types.PropertyDefinition = false
 is_core_type types.Hashbang = false
-is_core_type types.ImportDeclaration = false
-is_core_type types.ImportDefaultSpecifier = false
-is_core_type types.ImportNamespaceSpecifier = false
-is_core_type types.ImportSpecifier = false
-is_core_type types.WithClause = false
-is_core_type types.ImportAttribute = false
-is_core_type types.ExportDeclaration = false
-is_core_type types.ExportNamedDeclaration = false
-is_core_type types.ExportFromDeclaration = false
-is_core_type types.ExportSpecifier = false
-is_core_type types.ExportAllDeclaration = false
-is_core_type types.ExportDefaultDeclaration = false
 -- end of what is generated: types
 is_core_type type = true
 
@@ -59,22 +36,39 @@ abbrev pub has_core_flags : NodeType → Atoms → Bool
 has_core_flags types.VariableDeclaration a = not (variable_declaration_declare a)
 has_core_flags types.VariableDeclarator a = not (variable_declarator_definite a)
 has_core_flags types.FormalParameter a = not (formal_parameter_is_override a) && not (formal_parameter_readonly a) && not (formal_parameter_optional a)
-has_core_flags types.Function a = not (function_is_async a) && not (function_generator a) && not (function_declare a)
-has_core_flags types.ArrowFunctionExpression a = not (arrow_function_expression_is_async a)
-has_core_flags types.ForOfStatement a = not (for_of_statement_is_await a)
+has_core_flags types.Function a = not (function_declare a)
 has_core_flags types.Class a = not (class_declare a) && not (class_is_abstract a)
 has_core_flags types.MethodDefinition a = not (method_definition_is_override a) && not (method_definition_is_abstract a) && not (method_definition_optional a)
 has_core_flags types.PropertyDefinition a = not (property_definition_declare a) && not (property_definition_is_abstract a) && not (property_definition_is_override a) && not (property_definition_readonly a) && not (property_definition_optional a) && not (property_definition_definite a)
 -- end of what is generated: flags
 has_core_flags type a = true
 
+-- Behind a tag the raw texts of pieces are seen, of which none may end a script: there it would get a backslash
+abbrev pub keep_raw_texts : Trees → Bool
+keep_raw_texts no_trees = true
+keep_raw_texts (more (tree.template_element a) ts) = not (holds_close_tag (template_element_raw a)) && keep_raw_texts ts
+keep_raw_texts (more t ts) = keep_raw_texts ts
+keep_raw_texts (hole ts) = keep_raw_texts ts
+
+abbrev pub keeps_raw_texts : Tree → Bool
+keeps_raw_texts (tree.tagged_template a tag (tree.template_literal b quasis expressions)) = keep_raw_texts quasis
+keeps_raw_texts t = true
+
 -- by its type and its flags a reading is promised of the node
 abbrev pub is_core_by_type : Tree → Bool
-is_core_by_type (node type a slots) = is_core_type type && has_core_flags type a
+is_core_by_type (node type a slots) = keeps_raw_texts (node type a slots) && (is_core_type type && has_core_flags type a)
 
 -- Of these types all are plain but those that are named here.
 abbrev pub is_core_alone : NodeType → Bool
 -- generated from tools/nodes/table.txt: core_types
+is_core_alone types.RegExpLiteral = true
+is_core_alone types.ImportMeta = true
+is_core_alone types.AwaitExpression = true
+is_core_alone types.YieldExpression = true
+is_core_alone types.TemplateElement = true
+is_core_alone types.TemplateLiteral = true
+is_core_alone types.TaggedTemplateExpression = true
+is_core_alone types.ImportExpression = true
 is_core_alone types.ObjectPattern = true
 is_core_alone types.BindingProperty = true
 is_core_alone types.BindingRestElement = true
@@ -86,12 +80,32 @@ is_core_alone types.AssignmentTargetWithDefault = true
 is_core_alone types.AssignmentTargetPropertyIdentifier = true
 is_core_alone types.AssignmentTargetPropertyProperty = true
 is_core_alone types.AssignmentTargetRest = true
+is_core_alone types.Class = true
+is_core_alone types.ClassBody = true
+is_core_alone types.StaticBlock = true
+is_core_alone types.MethodDefinition = true
+is_core_alone types.PropertyDefinition = true
+is_core_alone types.ImportDeclaration = true
+is_core_alone types.ImportDefaultSpecifier = true
+is_core_alone types.ImportNamespaceSpecifier = true
+is_core_alone types.ImportSpecifier = true
+is_core_alone types.WithClause = true
+is_core_alone types.ImportAttribute = true
+is_core_alone types.ExportDeclaration = true
+is_core_alone types.ExportNamedDeclaration = true
+is_core_alone types.ExportFromDeclaration = true
+is_core_alone types.ExportSpecifier = true
+is_core_alone types.ExportAllDeclaration = true
+is_core_alone types.ExportDefaultDeclaration = true
 -- end of what is generated: core_types
 is_core_alone type = false
 
 -- a flag is set that no plain node has
 abbrev pub sets_core_flag : NodeType → Atoms → Bool
 -- generated from tools/nodes/table.txt: core_flags
+sets_core_flag types.Function a = function_is_async a || function_generator a
+sets_core_flag types.ArrowFunctionExpression a = arrow_function_expression_is_async a
+sets_core_flag types.ForOfStatement a = for_of_statement_is_await a
 -- end of what is generated: core_flags
 sets_core_flag type a = false
 
@@ -129,12 +143,15 @@ abbrev pub has_no_hole_if_listed : MaybeTrees → Bool
 has_no_hole_if_listed no_list = true
 has_no_hole_if_listed (listed ts) = has_no_hole ts
 
--- The node has the children that its type has, and no hole stands in a list but an array's; a program is a module, a whole number is of 128 bits, a string is of units of 16 bits, and a directive has its raw text. Each node that is built in Rust is so.
+-- The node has the children that its type has, and no hole stands in a list but an array's; a program is a module, a whole number is of 128 bits, a string is of units of 16 bits, a directive has its raw text, and the characters of a regular expression, of a piece of a template and of a hashbang are Unicode scalar values. Each node that is built in Rust is so.
 abbrev pub is_formed : Tree → Bool
 is_formed (tree.program a comments hashbang directives body) = is_module (program_kind a) && has_no_hole directives && has_no_hole body
 is_formed (tree.directive a) = is_raw (directive_directive a)
 is_formed (tree.numeric_literal a) = is_number (numeric_literal_kind a) a
 is_formed (tree.string_literal a) = are_units (string_literal_value a)
+is_formed (tree.reg_exp_literal a) = all_scalars (reg_exp_literal_pattern a)
+is_formed (tree.template_element a) = all_scalars (template_element_raw a)
+is_formed (tree.hashbang a) = all_scalars (hashbang_value a)
 -- generated from tools/nodes/table.txt: formed
 is_formed (tree.comment a) = true
 is_formed (tree.variable_declaration a declarations) = has_no_hole declarations
@@ -149,7 +166,6 @@ is_formed (tree.this_expression a) = true
 is_formed (tree.null_literal a) = true
 is_formed (tree.boolean_literal a) = true
 is_formed (tree.big_int_literal a) = true
-is_formed (tree.reg_exp_literal a) = true
 is_formed (tree.parenthesized a expression) = true
 is_formed (tree.binary a left right) = true
 is_formed (tree.logical a left right) = true
@@ -179,7 +195,6 @@ is_formed (tree.function_body a directives statements) = has_no_hole directives 
 is_formed (tree.arrow_function a params body) = true
 is_formed (tree.await_expression a argument) = true
 is_formed (tree.yield_expression a argument) = true
-is_formed (tree.template_element a) = true
 is_formed (tree.template_literal a quasis expressions) = has_no_hole quasis && has_no_hole expressions
 is_formed (tree.tagged_template a tag quasi) = true
 is_formed (tree.import_call a source options) = true
@@ -218,7 +233,6 @@ is_formed (tree.class_body a body) = has_no_hole body
 is_formed (tree.static_block a body) = has_no_hole body
 is_formed (tree.method_definition a key value) = true
 is_formed (tree.property_definition a key value) = true
-is_formed (tree.hashbang a) = true
 is_formed (tree.import_declaration a specifiers source with_clause) = has_no_hole_if_listed specifiers
 is_formed (tree.import_default_specifier a local) = true
 is_formed (tree.import_namespace_specifier a local) = true

@@ -1,7 +1,7 @@
 -- What is a regular expression's body, and what its flags are (ECMA-262, 12.9.5).
 use Rattle.std.specs.Prelude.{ℕ, List, [], ◌∷◌, Bool, true, false, not, ◌&&◌, ◌==◌, codes, if◌then◌else◌}
 use Rattle.std.specs.List.{list_all, list_any}
-use Rattle.jsgen_model.specs.Tokens.{is_line_terminator}
+use Rattle.jsgen_model.specs.LineEnds.{is_line_terminator}
 
 abbrev mutual
   -- RegularExpressionChars, to the end of the body

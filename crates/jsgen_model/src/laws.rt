@@ -7,7 +7,7 @@ pub fn plain_by_types()
     ensures { PlainByTypes }
 {}
 
-/// And it is core where each node is that by its type and flags.
+/// And it is core where each node is that by its type and flags, and by what a tag sees.
 pub fn core_by_types()
     ensures { CoreByTypes }
 {}

@@ -3,5 +3,15 @@ pub mod Claims
 pub mod ExpressionSteps
 pub mod StatementSteps
 pub mod PatternSteps
+pub mod SpecialSteps
+pub mod Shown
+pub mod ModuleSteps
+pub mod Expressions
+pub mod Methods
+pub mod Patterns
+pub mod Functions
+pub mod Statements
+pub mod Classes
 pub mod Complete
+pub mod Modules
 pub mod Meaning

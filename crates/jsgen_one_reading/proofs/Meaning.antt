@@ -12,7 +12,7 @@ use Rattle.jsgen_model.specs.Valid.{IsValid}
 use Rattle.jsgen_model.specs.Plain.{IsPlain, IsQuiet}
 use Rattle.jsgen_token_laws.proofs.OneList.{one_token_list}
 use Rattle.jsgen_reading_laws.proofs.Reading.{printed_is_read, bytes_are_read}
-use Rattle.jsgen_one_reading.proofs.Complete.{one_reading}
+use Rattle.jsgen_one_reading.proofs.Modules.{one_reading}
 
 -- a text that is read as a job's program has no other meaning
 no_other : (text : List ℕ) (job : JobData) → IsReadAs text job → IsReadOnlyAs text job

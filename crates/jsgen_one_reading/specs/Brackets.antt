@@ -3,15 +3,16 @@ use Rattle.std.specs.Prelude.{ℕ, List, [], ◌∷◌, Bool, true, false, ◌||
 use Rattle.std.specs.Str.{bytes_eq}
 use Rattle.jsgen_syntax.specs.Escapes.{word_value}
 use Rattle.jsgen_tree.specs.declared.collections.PropertyKind.{PropertyKind}
-use Rattle.jsgen_tree.specs.declared.collections.PropertyKind.TheVariants.{Init, Get, Set}
 use Rattle.jsgen_tree.specs.Tree.{Tree, Maybe, absent, given, Trees, no_trees, more}
 use Rattle.jsgen_tree.specs.Nodes as tree
 use Rattle.jsgen_model.specs.Punctuator.{comma, equal, Bracket, Round, Square, Brace, Punctuator, arrow}
 use Rattle.jsgen_model.specs.Tokens.{Piece, Tokens, done, piece, group, Word, Sign}
 use Rattle.jsgen_model.specs.Normal.{nothing_of, named, link_values, call_values, property_values, joined}
-use Rattle.jsgen_model.specs.Grammar.{function_of, method_of}
-use Rattle.jsgen_one_reading.specs.States.{in_braces, in_body, a_parameter, sole_parameter, an_element, a_catch, Place, in_array, Holds, names, targets, Frame, new_of, arrow_of, target_of, elements_of, arguments, key_alone, expression_of, throw_of, return_of, list_of, then_of, wrap_of, first_part, test_part, last_part, wanted, Kept, as_operand, as_statement, State, failed, operand, linked, newly, supered, chaining, chained, before_parameters, parameters_read, arrowed, closed, parameter, binding, bound, before_pattern, pattern_behind, target, pattern_elements, pattern_properties, pattern_key, start, ended, ending, tested, thrown, while_head, for_head, switch_head, switch_body, do_behind, do_tested, returning, head, async_first, second_part, third_part, before_case, trying, tried, catching, caught, handled, finalizing, directives, string_first, function_word, function_named, function_headed, property, property_word, keyed, accessor, method_headed, property_done, Answer, one_tree, some_trees, with_rest, a_body, a_loop}
-use Rattle.jsgen_one_reading.specs.Steps.{when, by_word, listed_in, returns, async_reference, try_of, string_of, kept, kept_kind, accessor_state}
+use Rattle.jsgen_model.specs.Grammar.{Allowed, with_in, without_in, in_parameters, in_body, in_arrow_body, arrow_values, is_plain_method, function_of, method_of, in_member, class_of, member_values}
+use Rattle.jsgen_one_reading.specs.Modules.{import_call_of, attributes_of}
+use Rattle.jsgen_one_reading.specs.States.{Exchange, import_start, import_others, source_with, attributes, specifiers, exporting, before_default, default_async, exports, names_exported, imported_of, exported_default, importing, exchange, some_exports, wanted, manner_kind, Place, Holds, Frame, Manner, Owner, State, Answer, in_braces, in_a_body, a_parameter, sole_parameter, an_element, a_catch, in_array, names, targets, new_of, arrow_of, yield_of, target_of, elements_of, arguments, key_alone, expression_of, throw_of, return_of, list_of, then_of, wrap_of, first_part, test_part, last_part, with_words, getting, setting, of_object, failed, operand, linked, async_word, yielded, newly, supered, chaining, chained, before_parameters, parameters_read, arrowed, closed, parameter, binding, bound, before_pattern, pattern_behind, target, pattern_elements, pattern_properties, pattern_key, start, async_start, ended, ending, tested, thrown, while_head, for_head, switch_head, switch_body, do_tested, returning, head, async_first, second_part, third_part, before_case, trying, tried, catching, caught, handled, finalizing, before_directives, string_first, function_word, function_named, function_headed, property, property_word, method_key, keyed, method_headed, property_done, one_tree, some_trees, with_rest, a_body, a_loop, settle, of_class, settled, class_word, class_headed, static_word}
+use Rattle.jsgen_one_reading.specs.ExpressionPieces.{when, by_word, async_reference}
+use Rattle.jsgen_one_reading.specs.Steps.{others_imported, listed_in, try_of, string_of, behind_directives, kept, kept_kind, by_manner, nameless, by_static, kept_class, kept_allowed, extended}
 
 -- ---- brackets
 
@@ -37,11 +38,17 @@ behind (piece mark p ts) = behind_piece p
 behind (group mark b inside ts) = other_next
 
 -- parentheses where an operand is awaited hold parameters where an arrow follows, and other brackets are a pattern before `=`
-abbrev pub faced_operand : Bool → List Frame → Bracket → Behind → State
-faced_operand i k Round arrow_next = before_parameters i k
-faced_operand i k Square equal_next = before_pattern i k
-faced_operand i k Brace equal_next = before_pattern i k
-faced_operand i k b a = operand i k
+abbrev pub faced_operand : Allowed → List Frame → Bracket → Behind → State
+faced_operand c k Round arrow_next = before_parameters c k false
+faced_operand c k Square equal_next = before_pattern c k
+faced_operand c k Brace equal_next = before_pattern c k
+faced_operand c k b a = operand c k
+
+-- behind `async` they do so on its line
+abbrev pub faced_async : Allowed → List Frame → Bool → Bracket → Behind → State
+faced_async c k false Round arrow_next = before_parameters c k true
+faced_async c k mark Brace a = extended (settle 17 c k async_reference)
+faced_async c k mark b a = linked c k async_reference
 
 -- a target ends there
 abbrev pub ends_target : Behind → Bool
@@ -51,146 +58,183 @@ ends_target nothing_next = true
 ends_target a = false
 
 -- brackets that are a whole target are a pattern
-abbrev pub faced_target : Bool → Place → Bracket → Behind → State
-faced_target i g Round a = faced_operand i (target_of g ∷ []) Round a
-faced_target i g b a = if ends_target a then before_pattern i (target_of g ∷ []) else faced_operand i (target_of g ∷ []) b a
+abbrev pub faced_target : Allowed → Place → Bracket → Behind → State
+faced_target c g Round a = faced_operand c (target_of g ∷ []) Round a
+faced_target c g b a = if ends_target a then before_pattern c (target_of g ∷ []) else faced_operand c (target_of g ∷ []) b a
 
 -- brackets where an element of a pattern is awaited
-abbrev pub faced_elements : Holds → Bool → Trees → Bracket → Behind → State
-faced_elements names i es b a = binding i (an_element es) []
-faced_elements targets i es b a = faced_target i (in_array es) b a
+abbrev pub faced_elements : Holds → Allowed → Trees → Bracket → Behind → State
+faced_elements names c es b a = binding c (an_element es) []
+faced_elements targets c es b a = faced_target c (in_array es) b a
 
 abbrev pub is_loop : Behind → Bool
 is_loop loop_next = true
 is_loop a = false
 
 -- first in the head of a loop brackets are a pattern before `of` and `in`
-abbrev pub faced_head : Bracket → Behind → State
-faced_head Round a = faced_operand false (first_part ∷ []) Round a
-faced_head b a = if is_loop a then before_pattern false (first_part ∷ []) else faced_operand false (first_part ∷ []) b a
+abbrev pub faced_head : Bool → Allowed → Bracket → Behind → State
+faced_head waits c Round a = faced_operand c (first_part waits ∷ []) Round a
+faced_head waits c b a = if is_loop a then before_pattern c (first_part waits ∷ []) else faced_operand c (first_part waits ∷ []) b a
 
 -- brackets where a statement is awaited: only braces are one
 abbrev pub faced_start : State → Bracket → Behind → State
-faced_start (start k) Brace a = start k
-faced_start (start k) b a = faced_operand true (expression_of ∷ k) b a
-faced_start (do_behind k s) b a = failed
+faced_start (start c k) Brace a = start c k
+faced_start (start c k) b a = faced_operand c (expression_of ∷ k) b a
 faced_start s b a = failed
 
 -- behind an arrow braces are a body
-abbrev pub faced_arrow : Bool → List Frame → Tree → Bracket → Behind → State
-faced_arrow i k p Brace a = arrowed i k p
-faced_arrow i k p b a = faced_operand i (arrow_of p ∷ k) b a
+abbrev pub faced_arrow : Allowed → List Frame → Bool → Tree → Bracket → Behind → State
+faced_arrow c k async x Brace a = arrowed c k async x
+faced_arrow c k async x b a = faced_operand (in_arrow_body async c) (arrow_of c async x ∷ k) b a
 
--- a word that is a key, or what says that an accessor with a computed key follows
-abbrev pub faced_word : Bool → Trees → List ℕ → Bracket → State
-faced_word i ps w Square = accessor_state i ps w (λ kd. accessor i ps kd)
-faced_word i ps w b = by_word (word_value w) (λ v. keyed i ps Init false (tree.identifier_name (named v)))
+-- `static` before braces
+abbrev pub static_braces : Allowed → Owner → List ℕ → State
+static_braces c (of_class ms false) w = when (bytes_eq w (codes "static")) (static_word c ms)
+static_braces c o w = failed
+
+-- a word that is a key, or what says that a method or a member with a computed key follows, or a static block
+abbrev pub faced_word : Allowed → Owner → List ℕ → Bool → Bracket → State
+faced_word c o w mark Round = by_word (word_value w) (λ v. keyed c o (with_words false false) false (tree.identifier_name (named v)))
+faced_word c o w mark Square = by_manner mark w (λ m. method_key c o m) (by_static o w (λ x. property c x))
+faced_word c o w mark Brace = static_braces c o w
+
+-- behind `import` braces hold names, and parentheses are a call's; behind `export default` an expression begins
+abbrev pub faced_exchange : Exchange → Bool → Bracket → Behind → State
+faced_exchange (import_start c k) mark Brace a = exchange (import_others c k no_trees)
+faced_exchange (import_start c k) mark b a = importing c (expression_of ∷ k)
+faced_exchange (before_default c k) mark b a = faced_operand c (exported_default ∷ k) b a
+faced_exchange (default_async c k) mark b a = faced_async c (exported_default ∷ k) mark b a
+faced_exchange x mark b a = exchange x
 
 -- the state that faces a bracket, by what stands behind the whole
 abbrev pub faced : State → Bool → Bracket → Behind → State
-faced (operand i k) mark b a = faced_operand i k b a
-faced (newly i k) mark b a = faced_operand i (new_of ∷ k) b a
-faced (arrowed i k p) mark b a = faced_arrow i k p b a
-faced async_first mark b a = linked false (first_part ∷ []) async_reference
-faced head mark b a = faced_head b a
-faced (parameter i ps) mark b a = binding i (a_parameter ps) []
-faced (target i g) mark b a = faced_target i g b a
-faced (pattern_elements h i es) mark b a = faced_elements h i es b a
-faced (second_part m) mark b a = faced_operand true (test_part m ∷ []) b a
-faced (third_part m n) mark b a = faced_operand true (last_part m n ∷ []) b a
-faced (returning k) mark b a = if mark then failed else faced_operand true (return_of ∷ k) b a
-faced (directives r ds) mark b a = faced_start (start (list_of (in_body r ds) no_trees ∷ [])) b a
-faced (string_first r ds us) mark b a = linked true (expression_of ∷ list_of (in_body r ds) no_trees ∷ []) (string_of us)
-faced (handled k body h) mark b a = faced_start (listed_in k (try_of body (given h) absent)) b a
-faced (property_word i ps w) mark b a = faced_word i ps w b
-faced (thrown k) mark b a = if mark then failed else faced_operand true (throw_of ∷ k) b a
-faced (start k) mark b a = faced_start (start k) b a
-faced (ended k s) mark b a = faced_start (listed_in k s) b a
+faced (operand c k) mark b a = faced_operand c k b a
+faced (async_word c k) mark b a = faced_async c k mark b a
+faced (yielded c k) mark b a = if mark then failed else faced_operand c (yield_of false ∷ k) b a
+faced (newly c k) mark b a = faced_operand c (new_of ∷ k) b a
+faced (arrowed c k async x) mark b a = faced_arrow c k async x b a
+faced (head waits c) mark b a = faced_head waits c b a
+faced (async_first c) mark b a = faced_async c (first_part true ∷ []) mark b a
+faced (parameter c ps) mark b a = binding c (a_parameter ps) []
+faced (target c g) mark b a = faced_target c g b a
+faced (pattern_elements h c es) mark b a = faced_elements h c es b a
+faced (second_part c m) mark b a = faced_operand c (test_part m ∷ []) b a
+faced (third_part c m n) mark b a = faced_operand c (last_part m n ∷ []) b a
+faced (returning c k) mark b a = if mark then failed else faced_operand c (return_of ∷ k) b a
+faced (before_directives c ds) mark b a = faced_start (start c (list_of (in_a_body c.return_statement ds) no_trees ∷ [])) b a
+faced (string_first c ds us) mark b a = linked c (behind_directives c ds) (string_of us)
+faced (handled c k body h) mark b a = faced_start (listed_in c k (try_of body (given h) absent)) b a
+faced (property_word c o w) mark b a = faced_word c o w mark b
+faced (thrown c k) mark b a = if mark then failed else faced_operand c (throw_of ∷ k) b a
+faced (start c k) mark b a = faced_start (start c k) b a
+faced (async_start c k) mark b a = faced_async c (expression_of ∷ k) mark b a
+faced (ended c k s) mark b a = faced_start (listed_in c k s) b a
+faced (linked c k t) mark Brace a = extended (settle 17 c k t)
+faced (settled c k t) mark Brace a = extended (settle 17 c k t)
+faced (chained c k t) mark Brace a = extended (settle 17 c k (tree.chain (nothing_of 0) t))
+faced (class_word g) mark b a = nameless g (class_headed g absent absent)
+faced (exchange x) mark b a = faced_exchange x mark b a
 faced s mark b a = s
+
+-- what may stand in the body of a method
+abbrev pub manner_body : Manner → Allowed
+manner_body (with_words async generator) = in_body async generator
+manner_body m = in_body false false
+
+-- the braces of imports, exports and attributes
+abbrev pub inner_exchange : Exchange → Bracket → State
+inner_exchange (import_others c k ss) Brace = exchange (specifiers no_trees)
+inner_exchange (source_with c k f s) Brace = exchange (attributes no_trees)
+inner_exchange (exporting c k) Brace = exchange (exports true no_trees)
+inner_exchange x b = failed
 
 -- where what stands in brackets begins
 abbrev pub inner : State → Bracket → State
-inner (operand i k) Round = operand true []
-inner (operand i k) Square = operand true (elements_of no_trees ∷ [])
-inner (operand i k) Brace = property true no_trees
-inner (binding i g k) Square = pattern_elements names true no_trees
-inner (binding i g k) Brace = pattern_properties names true no_trees
-inner (before_pattern i k) Square = pattern_elements targets true no_trees
-inner (before_pattern i k) Brace = pattern_properties targets true no_trees
-inner (pattern_properties h i ps) Square = operand true (key_alone ∷ [])
-inner (arrowed i k p) Brace = directives true no_trees
-inner (while_head k) Round = operand true []
-inner (for_head k) Round = head
-inner (switch_head k) Round = operand true []
-inner (switch_body k t) Brace = before_case (returns k) true no_trees
-inner (do_tested k s) Round = operand true []
-inner (trying k) Brace = start (list_of (in_braces (returns k)) no_trees ∷ [])
-inner (catching k body) Round = binding true a_catch []
-inner (catching k body) Brace = start (list_of (in_braces (returns k)) no_trees ∷ [])
-inner (caught k body m) Brace = start (list_of (in_braces (returns k)) no_trees ∷ [])
-inner (finalizing k body h) Brace = start (list_of (in_braces (returns k)) no_trees ∷ [])
-inner (function_word g) Round = parameter true no_trees
-inner (function_named g m) Round = parameter true no_trees
-inner (function_headed g m ps rest) Brace = directives true no_trees
-inner (property i ps) Square = operand true (key_alone ∷ [])
-inner (accessor i ps kd) Square = operand true (key_alone ∷ [])
-inner (keyed i ps Set computed key) Round = binding true sole_parameter []
-inner (keyed i ps kd computed key) Round = parameter true no_trees
-inner (method_headed i ps kd computed key xs rest) Brace = directives true no_trees
-inner (before_parameters i k) Round = parameter true no_trees
-inner (linked i k t) Round = operand true (arguments no_trees ∷ [])
-inner (linked i k t) Square = operand true []
-inner (supered i k) Round = operand true (arguments no_trees ∷ [])
-inner (supered i k) Square = operand true []
-inner (chaining i k t) Round = operand true (arguments no_trees ∷ [])
-inner (chaining i k t) Square = operand true []
-inner (chained i k t) Round = operand true (arguments no_trees ∷ [])
-inner (chained i k t) Square = operand true []
-inner (tested k) Round = operand true []
-inner (start k) Brace = start (list_of (in_braces (returns k)) no_trees ∷ [])
+inner (operand c k) Round = operand (with_in c) []
+inner (operand c k) Square = operand (with_in c) (elements_of no_trees ∷ [])
+inner (operand c k) Brace = property (with_in c) (of_object no_trees)
+inner (binding c g k) Square = pattern_elements names (with_in c) no_trees
+inner (binding c g k) Brace = pattern_properties names (with_in c) no_trees
+inner (before_pattern c k) Square = pattern_elements targets (with_in c) no_trees
+inner (before_pattern c k) Brace = pattern_properties targets (with_in c) no_trees
+inner (pattern_properties h c ps) Square = operand (with_in c) (key_alone ∷ [])
+inner (arrowed c k async x) Brace = before_directives (in_body async false) no_trees
+inner (while_head c k) Round = operand c []
+inner (for_head waits c k) Round = head waits (without_in c)
+inner (switch_head c k) Round = operand c []
+inner (switch_body c k t) Brace = before_case c true no_trees
+inner (do_tested c k s) Round = operand c []
+inner (trying c k) Brace = start c (list_of in_braces no_trees ∷ [])
+inner (catching c k body) Round = binding c a_catch []
+inner (catching c k body) Brace = start c (list_of in_braces no_trees ∷ [])
+inner (caught c k body m) Brace = start c (list_of in_braces no_trees ∷ [])
+inner (finalizing c k body h) Brace = start c (list_of in_braces no_trees ∷ [])
+inner (function_word g async generator) Round = parameter in_parameters no_trees
+inner (function_named g async generator m) Round = parameter in_parameters no_trees
+inner (function_headed g async generator m ps rest) Brace = before_directives (in_body async generator) no_trees
+inner (property c o) Square = operand (with_in c) (key_alone ∷ [])
+inner (method_key c o m) Square = operand (with_in c) (key_alone ∷ [])
+inner (keyed c o setting computed key) Round = binding in_parameters sole_parameter []
+inner (keyed c o m computed key) Round = parameter in_parameters no_trees
+inner (method_headed c o m computed key xs rest) Brace = before_directives (manner_body m) no_trees
+inner (before_parameters c k async) Round = parameter in_parameters no_trees
+inner (linked c k t) Round = operand (with_in c) (arguments no_trees ∷ [])
+inner (linked c k t) Square = operand (with_in c) []
+inner (supered c k) Round = operand (with_in c) (arguments no_trees ∷ [])
+inner (supered c k) Square = operand (with_in c) []
+inner (importing c k) Round = operand (with_in c) (imported_of no_trees ∷ [])
+inner (chaining c k t) Round = operand (with_in c) (arguments no_trees ∷ [])
+inner (chaining c k t) Square = operand (with_in c) []
+inner (chained c k t) Round = operand (with_in c) (arguments no_trees ∷ [])
+inner (chained c k t) Square = operand (with_in c) []
+inner (tested c k) Round = operand c []
+inner (start c k) Brace = start c (list_of in_braces no_trees ∷ [])
+inner (class_headed g id h) Brace = property (with_in (kept_allowed g)) (of_class no_trees false)
+inner (static_word c ms) Brace = start in_member (list_of in_braces no_trees ∷ [])
+inner (exchange x) b = inner_exchange x b
 inner s b = failed
 
-abbrev pub in_parentheses_behind : Bool → List Frame → Answer → State
-in_parentheses_behind i k (one_tree t) = linked i k (tree.parenthesized (nothing_of 0) t)
-in_parentheses_behind i k a = failed
+abbrev pub in_parentheses_behind : Allowed → List Frame → Answer → State
+in_parentheses_behind c k (one_tree t) = linked c k (tree.parenthesized (nothing_of 0) t)
+in_parentheses_behind c k a = failed
 
 -- parameters before an arrow
-abbrev pub parameters_behind : Bool → List Frame → Answer → State
-parameters_behind i k (with_rest ps rest) = parameters_read i k (tree.formal_parameters (nothing_of 0) ps rest)
-parameters_behind i k a = failed
+abbrev pub parameters_behind : Allowed → List Frame → Bool → Answer → State
+parameters_behind c k async (with_rest ps rest) = parameters_read c k async (tree.formal_parameters (nothing_of 0) ps rest)
+parameters_behind c k async a = failed
 
 abbrev pub without_first : List Frame → List Frame
 without_first [] = []
 without_first (f ∷ k) = k
 
 -- arguments are those of a `new` that waits
-abbrev pub called_with : Bool → List Frame → Tree → Answer → State
-called_with i k t (some_trees es) = if nat_le (wanted k) 17 then linked i k (tree.call (call_values false) t es) else linked i (without_first k) (tree.new_expression (nothing_of 1) t es)
-called_with i k t a = failed
+abbrev pub called_with : Allowed → List Frame → Tree → Answer → State
+called_with c k t (some_trees es) = if nat_le (wanted k) 17 then linked c k (tree.call (call_values false) t es) else linked c (without_first k) (tree.new_expression (nothing_of 1) t es)
+called_with c k t a = failed
 
-abbrev pub super_called_with : Bool → List Frame → Answer → State
-super_called_with i k (some_trees es) = when (nat_le (wanted k) 17) (linked i k (tree.call (call_values false) (tree.super (nothing_of 0)) es))
-super_called_with i k a = failed
+abbrev pub super_called_with : Allowed → List Frame → Answer → State
+super_called_with c k (some_trees es) = when (nat_le (wanted k) 17) (linked c k (tree.call (call_values false) (tree.super (nothing_of 0)) es))
+super_called_with c k a = failed
 
-abbrev pub computed_with : Bool → List Frame → Tree → Answer → State
-computed_with i k t (one_tree e) = linked i k (tree.computed_member (link_values false) t e)
-computed_with i k t a = failed
+abbrev pub computed_with : Allowed → List Frame → Tree → Answer → State
+computed_with c k t (one_tree e) = linked c k (tree.computed_member (link_values false) t e)
+computed_with c k t a = failed
 
-abbrev pub chain_called_with : Bool → Bool → List Frame → Tree → Answer → State
-chain_called_with optional i k t (some_trees es) = chained i k (tree.call (call_values optional) t es)
-chain_called_with optional i k t a = failed
+abbrev pub chain_called_with : Bool → Allowed → List Frame → Tree → Answer → State
+chain_called_with optional c k t (some_trees es) = chained c k (tree.call (call_values optional) t es)
+chain_called_with optional c k t a = failed
 
-abbrev pub chain_computed_with : Bool → Bool → List Frame → Tree → Answer → State
-chain_computed_with optional i k t (one_tree e) = chained i k (tree.computed_member (link_values optional) t e)
-chain_computed_with optional i k t a = failed
+abbrev pub chain_computed_with : Bool → Allowed → List Frame → Tree → Answer → State
+chain_computed_with optional c k t (one_tree e) = chained c k (tree.computed_member (link_values optional) t e)
+chain_computed_with optional c k t a = failed
 
-abbrev pub tested_with : List Frame → Answer → State
-tested_with k (one_tree t) = start (then_of t ∷ k)
-tested_with k a = failed
+abbrev pub tested_with : Allowed → List Frame → Answer → State
+tested_with c k (one_tree t) = start c (then_of t ∷ k)
+tested_with c k a = failed
 
-abbrev pub block_behind : List Frame → Answer → State
-block_behind k (some_trees ss) = ended k (tree.block (nothing_of 0) ss)
-block_behind k a = failed
+abbrev pub block_behind : Allowed → List Frame → Answer → State
+block_behind c k (some_trees ss) = ended c k (tree.block (nothing_of 0) ss)
+block_behind c k a = failed
 
 abbrev pub tree_then : Answer → (Tree → State) → State
 tree_then (one_tree t) f = f t
@@ -208,77 +252,99 @@ abbrev pub body_then : Answer → (Trees → Trees → State) → State
 body_then (a_body ds ss) f = f ds ss
 body_then a f = failed
 
-abbrev pub loop_behind : List Frame → Answer → State
-loop_behind k (a_loop f) = start (wrap_of f ∷ k)
-loop_behind k a = failed
+abbrev pub loop_behind : Allowed → List Frame → Answer → State
+loop_behind c k (a_loop f) = start c (wrap_of f ∷ k)
+loop_behind c k a = failed
 
-abbrev pub array_behind : Bool → List Frame → Answer → State
-array_behind i k a = trees_then a (λ es. linked i k (tree.array (nothing_of 0) es))
+abbrev pub array_behind : Allowed → List Frame → Answer → State
+array_behind c k a = trees_then a (λ es. linked c k (tree.array (nothing_of 0) es))
 
-abbrev pub object_behind : Bool → List Frame → Answer → State
-object_behind i k a = trees_then a (λ ps. linked i k (tree.object_expression (nothing_of 0) ps))
+abbrev pub object_behind : Allowed → List Frame → Answer → State
+object_behind c k a = trees_then a (λ ps. linked c k (tree.object_expression (nothing_of 0) ps))
 
-abbrev pub arrow_body_behind : Bool → List Frame → Tree → Answer → State
-arrow_body_behind i k p a = body_then a (λ ds ss. closed i k (tree.arrow_function (nothing_of 3) p (tree.function_body (nothing_of 0) ds ss)))
+abbrev pub arrow_body_behind : Allowed → List Frame → Bool → Tree → Answer → State
+arrow_body_behind c k async x a = body_then a (λ ds ss. closed c k (tree.arrow_function (arrow_values async) x (tree.function_body (nothing_of 0) ds ss)))
 
 abbrev pub catch_of : Maybe → Trees → Tree
 catch_of m ss = tree.catch_clause (nothing_of 0) m (tree.block (nothing_of 0) ss)
 
-abbrev pub is_init : PropertyKind → Bool
-is_init Init = true
-is_init kd = false
+-- the function of a method
+abbrev pub manner_function : Manner → Trees → Maybe → Trees → Trees → Tree
+manner_function (with_words async generator) xs rest ds ss = method_of async generator xs rest ds ss
+manner_function m xs rest ds ss = method_of false false xs rest ds ss
 
-abbrev pub method_with : PropertyKind → Bool → Tree → Trees → Maybe → Trees → Trees → Tree
-method_with kd computed key xs rest ds ss = tree.object_property (property_values kd (is_init kd) false computed) key (method_of xs rest ds ss)
+-- a method of an object
+abbrev pub method_with : PropertyKind → Bool → Tree → Tree → Tree
+method_with kd computed key f = tree.object_property (property_values kd (is_plain_method kd) false computed) key f
 
--- a declared function has a name
-abbrev pub nameless : Kept → State → State
-nameless (as_operand i k) s = s
-nameless (as_statement k) s = failed
+-- behind a method, by what it belongs to
+abbrev pub method_behind : Allowed → Owner → PropertyKind → Bool → Tree → Tree → State
+method_behind c (of_object ps) kd computed key f = property_done c (joined ps (more (method_with kd computed key f) no_trees))
+method_behind c (of_class ms static) kd computed key f = property c (of_class (joined ms (more (tree.method_definition (member_values kd static computed) key f) no_trees)) false)
 
 -- a getter has no parameter
-abbrev pub may_take : PropertyKind → Trees → Maybe → Bool
-may_take Get no_trees absent = true
-may_take Get xs rest = false
-may_take kd xs rest = true
+abbrev pub may_take : Manner → Trees → Maybe → Bool
+may_take getting no_trees absent = true
+may_take getting xs rest = false
+may_take m xs rest = true
+
+-- `import(..)`, with options or without
+abbrev pub imported_with : Allowed → List Frame → Answer → State
+imported_with c k (some_trees (more e no_trees)) = when (nat_le (wanted k) 17) (linked c k (import_call_of e absent))
+imported_with c k (some_trees (more e (more options no_trees))) = when (nat_le (wanted k) 17) (linked c k (import_call_of e (given options)))
+imported_with c k a = failed
+
+abbrev pub exports_then : Answer → (Bool → Trees → State) → State
+exports_then (some_exports r ss) f = f r ss
+exports_then a f = failed
+
+abbrev pub enter_exchange : Exchange → Bracket → Answer → State
+enter_exchange (import_others c k ss) Brace a = trees_then a (λ us. others_imported c k ss us)
+enter_exchange (source_with c k f s) Brace a = trees_then a (λ es. ending c k (f s (attributes_of es)))
+enter_exchange (exporting c k) Brace a = exports_then a (λ r ss. exchange (names_exported c k r ss))
+enter_exchange x b a = failed
 
 -- the state behind brackets, by what was read in them
 abbrev pub enter : State → Bracket → Answer → State
-enter (operand i k) Round a = in_parentheses_behind i k a
-enter (operand i k) Square a = array_behind i k a
-enter (operand i k) Brace a = object_behind i k a
-enter (binding i g k) Square a = rest_then a (λ es rest. bound i g k (tree.array_pattern (nothing_of 0) es rest))
-enter (binding i g k) Brace a = rest_then a (λ ps rest. bound i g k (tree.object_pattern (nothing_of 0) ps rest))
-enter (before_pattern i k) Square a = rest_then a (λ es rest. pattern_behind i k (tree.array_target (nothing_of 0) es rest))
-enter (before_pattern i k) Brace a = rest_then a (λ ps rest. pattern_behind i k (tree.object_target (nothing_of 0) ps rest))
-enter (pattern_properties h i ps) Square a = tree_then a (λ e. pattern_key h i ps true e)
-enter (arrowed i k p) Brace a = arrow_body_behind i k p a
-enter (while_head k) Round a = tree_then a (λ t. start (wrap_of (λ s. tree.while_statement (nothing_of 0) t s) ∷ k))
-enter (for_head k) Round a = loop_behind k a
-enter (switch_head k) Round a = tree_then a (λ t. switch_body k t)
-enter (switch_body k t) Brace a = trees_then a (λ cs. ended k (tree.switch_statement (nothing_of 0) t cs))
-enter (do_tested k s) Round a = tree_then a (λ t. ending k (tree.do_while_statement (nothing_of 0) s t))
-enter (trying k) Brace a = trees_then a (λ ss. tried k ss)
-enter (catching k body) Round a = tree_then a (λ b. caught k body (given b))
-enter (catching k body) Brace a = trees_then a (λ ss. handled k body (catch_of absent ss))
-enter (caught k body m) Brace a = trees_then a (λ ss. handled k body (catch_of m ss))
-enter (finalizing k body h) Brace a = trees_then a (λ ss. ended k (try_of body h (given (tree.block (nothing_of 0) ss))))
-enter (function_word g) Round a = rest_then a (λ ps rest. nameless g (function_headed g absent ps rest))
-enter (function_named g m) Round a = rest_then a (λ ps rest. function_headed g m ps rest)
-enter (function_headed g m ps rest) Brace a = body_then a (λ ds ss. kept g (function_of (kept_kind g) m ps rest ds ss))
-enter (property i ps) Square a = tree_then a (λ e. keyed i ps Init true e)
-enter (accessor i ps kd) Square a = tree_then a (λ e. keyed i ps kd true e)
-enter (keyed i ps kd computed key) Round a = rest_then a (λ xs rest. when (may_take kd xs rest) (method_headed i ps kd computed key xs rest))
-enter (method_headed i ps kd computed key xs rest) Brace a = body_then a (λ ds ss. property_done i (joined ps (more (method_with kd computed key xs rest ds ss) no_trees)))
-enter (before_parameters i k) Round a = parameters_behind i k a
-enter (linked i k t) Round a = called_with i k t a
-enter (linked i k t) Square a = computed_with i k t a
-enter (supered i k) Round a = super_called_with i k a
-enter (supered i k) Square a = computed_with i k (tree.super (nothing_of 0)) a
-enter (chaining i k t) Round a = chain_called_with true i k t a
-enter (chaining i k t) Square a = chain_computed_with true i k t a
-enter (chained i k t) Round a = chain_called_with false i k t a
-enter (chained i k t) Square a = chain_computed_with false i k t a
-enter (tested k) Round a = tested_with k a
-enter (start k) Brace a = block_behind k a
+enter (operand c k) Round a = in_parentheses_behind c k a
+enter (operand c k) Square a = array_behind c k a
+enter (operand c k) Brace a = object_behind c k a
+enter (binding c g k) Square a = rest_then a (λ es rest. bound c g k (tree.array_pattern (nothing_of 0) es rest))
+enter (binding c g k) Brace a = rest_then a (λ ps rest. bound c g k (tree.object_pattern (nothing_of 0) ps rest))
+enter (before_pattern c k) Square a = rest_then a (λ es rest. pattern_behind c k (tree.array_target (nothing_of 0) es rest))
+enter (before_pattern c k) Brace a = rest_then a (λ ps rest. pattern_behind c k (tree.object_target (nothing_of 0) ps rest))
+enter (pattern_properties h c ps) Square a = tree_then a (λ e. pattern_key h c ps true e)
+enter (arrowed c k async x) Brace a = arrow_body_behind c k async x a
+enter (while_head c k) Round a = tree_then a (λ t. start c (wrap_of (λ s. tree.while_statement (nothing_of 0) t s) ∷ k))
+enter (for_head waits c k) Round a = loop_behind c k a
+enter (switch_head c k) Round a = tree_then a (λ t. switch_body c k t)
+enter (switch_body c k t) Brace a = trees_then a (λ cs. ended c k (tree.switch_statement (nothing_of 0) t cs))
+enter (do_tested c k s) Round a = tree_then a (λ t. ending c k (tree.do_while_statement (nothing_of 0) s t))
+enter (trying c k) Brace a = trees_then a (λ ss. tried c k ss)
+enter (catching c k body) Round a = tree_then a (λ b. caught c k body (given b))
+enter (catching c k body) Brace a = trees_then a (λ ss. handled c k body (catch_of absent ss))
+enter (caught c k body m) Brace a = trees_then a (λ ss. handled c k body (catch_of m ss))
+enter (finalizing c k body h) Brace a = trees_then a (λ ss. ended c k (try_of body h (given (tree.block (nothing_of 0) ss))))
+enter (function_word g async generator) Round a = rest_then a (λ ps rest. nameless g (function_headed g async generator absent ps rest))
+enter (function_named g async generator m) Round a = rest_then a (λ ps rest. function_headed g async generator m ps rest)
+enter (function_headed g async generator m ps rest) Brace a = body_then a (λ ds ss. kept g (function_of (kept_kind g) async generator m ps rest ds ss))
+enter (property c o) Square a = tree_then a (λ e. keyed c o (with_words false false) true e)
+enter (method_key c o m) Square a = tree_then a (λ e. keyed c o m true e)
+enter (keyed c o m computed key) Round a = rest_then a (λ xs rest. when (may_take m xs rest) (method_headed c o m computed key xs rest))
+enter (method_headed c o m computed key xs rest) Brace a = body_then a (λ ds ss. method_behind c o (manner_kind m) computed key (manner_function m xs rest ds ss))
+enter (before_parameters c k async) Round a = parameters_behind c k async a
+enter (linked c k t) Round a = called_with c k t a
+enter (linked c k t) Square a = computed_with c k t a
+enter (supered c k) Round a = super_called_with c k a
+enter (supered c k) Square a = computed_with c k (tree.super (nothing_of 0)) a
+enter (importing c k) Round a = imported_with c k a
+enter (chaining c k t) Round a = chain_called_with true c k t a
+enter (chaining c k t) Square a = chain_computed_with true c k t a
+enter (chained c k t) Round a = chain_called_with false c k t a
+enter (chained c k t) Square a = chain_computed_with false c k t a
+enter (tested c k) Round a = tested_with c k a
+enter (start c k) Brace a = block_behind c k a
+enter (class_headed g id h) Brace a = trees_then a (λ ms. kept g (class_of (kept_class g) id h ms))
+enter (static_word c ms) Brace a = trees_then a (λ ss. property c (of_class (joined ms (more (tree.static_block (nothing_of 0) ss) no_trees)) false))
+enter (exchange x) b a = enter_exchange x b a
 enter s b a = failed

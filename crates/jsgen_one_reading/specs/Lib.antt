@@ -1,4 +1,6 @@
 pub mod States
+pub mod Modules
+pub mod ExpressionPieces
 pub mod Steps
 pub mod Brackets
 pub mod Ends

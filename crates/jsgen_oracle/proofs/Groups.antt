@@ -46,7 +46,7 @@ pub record GroupRow (line : Bool) (b : Bracket) (inner rest : List ℕ) : Type 0
 -- a row that an opening bracket begins begins with a group
 group_row : (line : Bool) (b : Bracket) (inner : List ℕ) (ts : Tokens) (rest : List ℕ) → IsRow line (opening b ++ inner) ts rest → GroupRow line b inner rest
 group_row line b inner done rest h = absurd (both_ways (ends_row rest) (subst (λ t. ends_row t ≡ false) h.0 (opening_goes_on b inner)) h.1)
-group_row line b inner (piece m p ts) rest h = let s = h.2 in absurd (piece_or_group p b h.0 inner s.spelled (sym s.text_is ∙ opened_text b inner))
+group_row line b inner (piece m p ts) rest h = let s = h.2 in absurd (piece_or_group p b h.0 inner s.plain s.spelled (sym s.text_is ∙ opened_text b inner))
 group_row line b inner (group m d inside ts) rest h =
     let e : opening_char b ∷ inner ≡ opening_char d ∷ h.0 = sym (opened_text b inner) ∙ (h.3 ∙ opened_text d h.0) in
     let f : opening_char b ≡ opening_char d = cc in
@@ -100,5 +100,5 @@ pub no_others : (line : Bool) (text : List ℕ) (p : Piece) (behind : List ℕ) 
 no_others line text p behind g o s none ts rest h =
     let q = piece_row line text ts rest g o h in
     let t = q.stands in
-    let k = one_piece p q.first behind q.behind s.spelled t.spelled s.ends t.ends (sym s.text_is ∙ t.text_is) in
+    let k = one_piece p q.first behind q.behind s.plain t.plain s.spelled t.spelled s.ends t.ends (sym s.text_is ∙ t.text_is) in
     none q.others rest (subst (λ x. IsRow (mark_at false x) (behind_blanks x) q.others rest) (sym k.1) q.others_row)

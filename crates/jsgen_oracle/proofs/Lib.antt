@@ -9,10 +9,8 @@ pub mod Groups
 pub mod Made
 pub mod Samples
 pub mod Assigned
+pub mod Functions
 pub mod Arrows
 pub mod Looped
-pub mod Named
 pub mod Nested
 pub mod Bodies
-pub mod Sieve
-pub mod Refused

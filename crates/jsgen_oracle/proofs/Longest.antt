@@ -93,7 +93,7 @@ front text n e =
 pub number_stands : (text : List ℕ) (n : ℕ) → count_number start text ≡ Some n → not (begins is_barred_behind_number (drop n text)) ≡ true → StandsAt text (Number (take n text)) (drop n text)
 number_stands text n e h =
     let f = front text n e in
-    record { text_is = sym (take-append-drop n text); spelled = f.spelled; ends = and_from _ _ h (ap not f.longest) }
+    record { plain = refl; text_is = sym (take-append-drop n text); spelled = f.spelled; ends = and_from _ _ h (ap not f.longest) }
 
 pub barred : (text : List ℕ) (n : ℕ) → begins_number text ≡ true → count_number start text ≡ Some n → not (begins is_barred_behind_number (drop n text)) ≡ false → HasNoPiece text
 barred text n h e b =

@@ -7,7 +7,7 @@ use Rattle.jsgen_syntax.specs.Escapes as escapes
 use Rattle.jsgen_syntax.specs.Strings.{quote_char}
 use Rattle.jsgen_syntax.specs.declared.quote.Quote.{Quote}
 use Rattle.jsgen_syntax.specs.declared.quote.Quote.TheVariants as quotes
-use Rattle.jsgen_model.specs.Tokens.{Piece, Word, Number, Quoted, Sign, is_spelled, ends_before, stands, longer_stands}
+use Rattle.jsgen_model.specs.Tokens.{Piece, Word, Number, Quoted, Sign, Beyond, is_spelled, ends_before, stands, longer_stands}
 use Rattle.jsgen_token_laws.proofs.Characters.{digit_goes, no_word_no_start}
 use Rattle.jsgen_token_laws.proofs.OneList.{Begins, begins, begins_sign, starts_piece, sign_or, no_sign_at}
 use Rattle.jsgen_model.specs.Numbers.{spells_number}
@@ -27,7 +27,7 @@ word_begins f w text rest s b = ap (λ t. escapes.begins f t) (s.text_is ∙ ap 
 
 -- behind a token the text is shorter
 pub stands_shorter : (text : List ℕ) (p : Piece) (rest : List ℕ) → StandsAt text p rest → length rest < length text
-stands_shorter text p rest s = let b = begins p s.spelled in omega (arith, ap length (s.text_is ∙ ap (λ t. t ++ rest) b.text), length-append b.tail rest)
+stands_shorter text p rest s = let b = begins p s.plain s.spelled in omega (arith, ap length (s.text_is ∙ ap (λ t. t ++ rest) b.text), length-append b.tail rest)
 
 -- ---- how a number begins
 
@@ -89,9 +89,10 @@ no_word text w rest h e f none (Word v) r s =
     none (subst (λ x. is_spelled (Word x) ≡ true) (sym front) s.spelled) (subst (λ x. ends_before (Word []) x ≡ true) (sym back) (again v r s.ends))
 no_word text w rest h e f none (Number v) r s = both_ways (escapes.begins starts_word text) (number_no_word text (begins_so text v r s)) h
 no_word text w rest h e f none (Sign q) r s =
-    let b = begins (Sign q) s.spelled in
+    let b = begins (Sign q) refl s.spelled in
     both_ways (begins_sign b.head) (starts_no_digit_or_sign b.head (sym (begins_as starts_word (Sign q) text r s b) ∙ h)).1 b.starts
 no_word text w rest h e f none (Quoted q v) r s = both_ways (starts_word (quote_char q)) (starts_no_quote q) (sym (ap (λ t. escapes.begins starts_word t) s.text_is) ∙ h)
+no_word text w rest h e f none (Beyond q) r s = both_ways false refl s.plain
 
 -- ---- numbers
 
@@ -110,6 +111,7 @@ pub numbers_alone : (text : List ℕ) → begins_number text ≡ true → ((w r 
 unfolding starts_piece
 numbers_alone text h none (Number w) r s = none w r s
 numbers_alone text h none (Word w) r s = let b = word_front w s.spelled in both_ways (escapes.begins starts_word text) (number_no_word text h) (word_begins starts_word w text r s b ∙ b.starts)
+numbers_alone text h none (Beyond q) r s = both_ways false refl s.plain
 numbers_alone text h none (Quoted q w) r s = by (digits_there text h)
   where
     by : Digits text → ⊥
@@ -118,5 +120,5 @@ numbers_alone text h none (Quoted q w) r s = by (digits_there text h)
 numbers_alone text h none (Sign q) r s = by (digits_there text h)
   where
     by : Digits text → ⊥
-    by (digit c cs e d) = let b = begins (Sign q) s.spelled in sign_or b.head b.starts (digit_goes b.head (sym (begins_as is_ascii_digit (Sign q) text r s b) ∙ (ap (λ t. escapes.begins is_ascii_digit t) e ∙ d)))
+    by (digit c cs e d) = let b = begins (Sign q) refl s.spelled in sign_or b.head b.starts (digit_goes b.head (sym (begins_as is_ascii_digit (Sign q) text r s b) ∙ (ap (λ t. escapes.begins is_ascii_digit t) e ∙ d)))
     by (dotted d ds e i) = no_sign_at q d ds i (subst (λ t. stands q t ≡ true) (sym s.text_is ∙ e) (and_parts (stands q (punctuator_text q ++ r)) (not (longer_stands q (punctuator_text q ++ r))) s.ends).0)

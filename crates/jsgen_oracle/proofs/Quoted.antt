@@ -8,7 +8,7 @@ use Rattle.jsgen_syntax.specs.Strings.{quote_char, string_value}
 use Rattle.jsgen_syntax.specs.declared.quote.Quote.{Quote}
 use Rattle.jsgen_syntax.specs.declared.quote.Quote.TheVariants as quotes
 use Rattle.jsgen_syntax.proofs.Strings.{closed_after, valued_closed}
-use Rattle.jsgen_model.specs.Tokens.{Word, Number, Quoted, Sign, stands}
+use Rattle.jsgen_model.specs.Tokens.{Word, Number, Quoted, Sign, Beyond, stands}
 use Rattle.jsgen_token_laws.proofs.Last.{clear_quoted}
 use Rattle.jsgen_token_laws.proofs.OneList.{begins, begins_sign, starts_piece}
 use Rattle.jsgen_oracle.specs.Steps.{begins_number, starts_word, StandsAt, HasNoPiece, HasNoSign, quote_at, count_before}
@@ -92,6 +92,7 @@ pub string_stands : (q : Quote) (text w : List ℕ) (n : ℕ) → count_before q
 string_stands q text w n e f h =
     let k : text ≡ w ++ (quote_char q ∷ drop 1 (drop n text)) = ends_found q false text n e ∙ ap (λ t. t ++ (quote_char q ∷ drop 1 (drop n text))) (sym f) in
     record {
+      plain = refl;
       text_is = ap (λ t. quote_char q ∷ t) (k ∙ sym (append_assoc w (quote_char q ∷ []) (drop 1 (drop n text))));
       spelled = h;
       ends = clear_quoted q w (drop 1 (drop n text));
@@ -115,7 +116,8 @@ no_quoted : (q : Quote) (text : List ℕ) → NoString q text → HasNoPiece (qu
 unfolding starts_piece NoString
 no_quoted q text none (Word w) r s = let b = word_front w s.spelled in both_ways (starts_word (quote_char q)) (starts_no_quote q) (word_begins starts_word w _ r s b ∙ b.starts)
 no_quoted q text none (Number w) r s = both_ways (begins_number (quote_char q ∷ text)) (no_quote_number q text) (begins_so (quote_char q ∷ text) w r s)
-no_quoted q text none (Sign p) r s = let b = begins (Sign p) s.spelled in both_ways (begins_sign (quote_char q)) (no_quote_sign q) (begins_as begins_sign (Sign p) _ r s b ∙ b.starts)
+no_quoted q text none (Sign p) r s = let b = begins (Sign p) refl s.spelled in both_ways (begins_sign (quote_char q)) (no_quote_sign q) (begins_as begins_sign (Sign p) _ r s b ∙ b.starts)
+no_quoted q text none (Beyond p) r s = both_ways false refl s.plain
 no_quoted q text none (Quoted p w) r s =
     let k : quote_char q ∷ text ≡ quote_char p ∷ (w ++ (quote_char p ∷ r)) = s.text_is ∙ ap (λ t. quote_char p ∷ t) (append_assoc w (quote_char p ∷ []) r) in
     let f : Some q ≡ Some p = sym (quote_found q text) ∙ (ap quote_at k ∙ quote_found p (w ++ (quote_char p ∷ r))) in
@@ -149,6 +151,7 @@ unfolding starts_piece
 no_piece text f g h none (Word w) r s = let b = word_front w s.spelled in both_ways (escapes.begins starts_word text) f (word_begins starts_word w text r s b ∙ b.starts)
 no_piece text f g h none (Number w) r s = both_ways (begins_number text) g (begins_so text w r s)
 no_piece text f g h none (Quoted q w) r s = let k : None ≡ Some q = sym h ∙ (ap quote_at s.text_is ∙ quote_found q ((w ++ quote_char q ∷ []) ++ r)) in absurd (cc)
+no_piece text f g h none (Beyond p) r s = both_ways false refl s.plain
 no_piece text f g h none (Sign p) r s = both_ways (stands p text) (none p) (subst (λ t. stands p t ≡ true) (sym s.text_is) (and_parts _ _ s.ends).0)
 
 pub sign_or_none : {A : Type 0} (o : Option A) (P : A → Type 0) (text : List ℕ) → escapes.begins starts_word text ≡ false → begins_number text ≡ false → quote_at text ≡ None → MatchOption o (HasNoSign text) P → MatchOption o (HasNoPiece text) P

@@ -1,10 +1,10 @@
--- Rows of tokens: they are the tokens of a front of the text, and there is one at most.
+-- Rows of plain tokens: they are the tokens of a front of the text, and there is one at most.
 use Rattle.std.proofs.Common.{◌≡◌, ℕ, Bool, true, false, ◌||◌, ◌==◌, ◌⊎◌, inl, inr, List, [], ◌∷◌, ◌++◌, length, take, refl, sym, ap, ◌∙◌, subst, append_assoc, append-nil, arith}
 use Rattle.std.specs.List.{list_all, prefix_len}
-use Rattle.std.proofs.lemmas.Bool.{both_ways, or_cases, eqb-true}
+use Rattle.std.proofs.lemmas.Bool.{both_ways, and_from, and_parts, or_cases, eqb-true}
 use Rattle.std.proofs.lemmas.List.{take-append-drop, append_cancel_left}
 use Rattle.jsgen_model.specs.Punctuator.{Bracket, Round, Square, Brace, opening, closing}
-use Rattle.jsgen_model.specs.Tokens.{Tokens, done, piece, group, Piece, Word, Number, Quoted, Sign, piece_text, ends_before, is_blank, has_line_end, AreTokensAfter, AreTokensOf}
+use Rattle.jsgen_model.specs.Tokens.{Tokens, done, piece, group, Piece, Word, Number, Quoted, Sign, Beyond, is_plain_piece, are_plain, piece_text, ends_before, is_blank, has_line_end, AreTokensAfter, AreTokensOf}
 use Rattle.jsgen_token_laws.proofs.Last.{clear_quoted}
 use Rattle.jsgen_token_laws.proofs.Numbers.{number_ends_same}
 use Rattle.jsgen_token_laws.proofs.Signs.{Shut, closing_char, sign_ends_same}
@@ -46,6 +46,8 @@ ends_less (Sign q) r x h s = sym (sign_ends_same q r x s) ∙ h
 ends_less (Quoted q w) r x h s = clear_quoted q w r
 ends_less (Word w) [] x h s = refl
 ends_less (Word w) (c ∷ cs) x h s = h
+ends_less (Beyond q) [] x h s = refl
+ends_less (Beyond q) (c ∷ cs) x h s = h
 ends_less (Number w) r x h s = sym (number_ends_same w r x s) ∙ h
 
 -- ---- blanks
@@ -60,6 +62,7 @@ pub record Front (line : Bool) (text : List ℕ) (ts : Tokens) (rest : List ℕ)
   pub front : List ℕ
   pub cut : text ≡ front ++ rest
   pub tokens : AreTokensAfter line front ts
+  pub plain : are_plain ts ≡ true
   pub shut : Shut rest
 
 pub row_front : (ts : Tokens) (line : Bool) (text rest : List ℕ) → IsRow (mark_at line text) (behind_blanks text) ts rest → Front line text ts rest
@@ -67,6 +70,7 @@ row_front done line text rest h = record {
   front = take (prefix_len is_blank text) text;
   cut = sym (ap (λ t. take (prefix_len is_blank text) text ++ t) (sym h.0) ∙ take-append-drop (prefix_len is_blank text) text);
   tokens = front_passes is_blank text;
+  plain = refl;
   shut = ends_shut rest h.1;
 }
 row_front (piece m p ts) line text rest h =
@@ -77,6 +81,7 @@ row_front (piece m p ts) line text rest h =
       front = gap ++ (piece_text p ++ f.front);
       cut = sym (take-append-drop (prefix_len is_blank text) text) ∙ (ap (λ t. gap ++ t) (s.text_is ∙ ap (λ t. piece_text p ++ t) f.cut) ∙ sym (append_assoc gap (piece_text p ++ f.front) rest ∙ ap (λ t. gap ++ t) (append_assoc (piece_text p) f.front rest)));
       tokens = (gap, f.front, front_passes is_blank text, h.1, s.spelled, ends_less p f.front rest (subst (λ t. ends_before p t ≡ true) f.cut s.ends) f.shut, refl, f.tokens);
+      plain = and_from (is_plain_piece p) (are_plain ts) s.plain f.plain;
       shut = f.shut;
     }
 row_front (group m b inside ts) line text rest h =
@@ -88,6 +93,7 @@ row_front (group m b inside ts) line text rest h =
       front = gap ++ (opening b ++ (i.front ++ (closing b ++ f.front)));
       cut = whole ∙ sym (append_assoc gap (opening b ++ (i.front ++ (closing b ++ f.front))) rest ∙ ap (λ t. gap ++ t) (append_assoc (opening b) (i.front ++ (closing b ++ f.front)) rest ∙ ap (λ t. opening b ++ t) (append_assoc i.front (closing b ++ f.front) rest ∙ ap (λ t. i.front ++ t) (append_assoc (closing b) f.front rest))));
       tokens = (gap, i.front, f.front, front_passes is_blank text, h.2, refl, i.tokens, f.tokens);
+      plain = and_from (are_plain inside) (are_plain ts) i.plain f.plain;
       shut = f.shut;
     }
 
@@ -96,22 +102,24 @@ row_front (group m b inside ts) line text rest h =
 opening_text_stops : (b : Bracket) (x : List ℕ) → Stops is_blank (opening b ++ x)
 opening_text_stops b x = subst (λ t. Stops is_blank (t ++ x)) (sym (opened b)) (opening_stops b)
 
-pub front_row : (ts : Tokens) (line : Bool) (front rest : List ℕ) → AreTokensAfter line front ts → Shut rest → IsRow (mark_at line (front ++ rest)) (behind_blanks (front ++ rest)) ts rest
-front_row done line front rest h s = ((one_gap front rest h (shut_stops rest s)).1, shut_ends rest s)
-front_row (piece m p ts) line front rest h s =
+pub front_row : (ts : Tokens) (line : Bool) (front rest : List ℕ) → AreTokensAfter line front ts → are_plain ts ≡ true → Shut rest → IsRow (mark_at line (front ++ rest)) (behind_blanks (front ++ rest)) ts rest
+front_row done line front rest h e s = ((one_gap front rest h (shut_stops rest s)).1, shut_ends rest s)
+front_row (piece m p ts) line front rest h e s =
+    let k = and_parts (is_plain_piece p) (are_plain ts) e in
     let gap = h.0 in
     let text : front ++ rest ≡ gap ++ (piece_text p ++ (h.1 ++ rest)) = ap (λ t. t ++ rest) h.6 ∙ (append_assoc gap (piece_text p ++ h.1) rest ∙ ap (λ t. gap ++ t) (append_assoc (piece_text p) h.1 rest)) in
-    let g = one_gap gap (piece_text p ++ (h.1 ++ rest)) h.2 (piece_stops p (h.1 ++ rest) h.4) in
+    let g = one_gap gap (piece_text p ++ (h.1 ++ rest)) h.2 (piece_stops p (h.1 ++ rest) k.0 h.4) in
     let made : IsRow (mark_at line (gap ++ (piece_text p ++ (h.1 ++ rest)))) (behind_blanks (gap ++ (piece_text p ++ (h.1 ++ rest)))) (piece m p ts) rest =
-    (h.1 ++ rest, h.3 ∙ ap (λ t. line || has_line_end t) (sym g.0), record { text_is = g.1; spelled = h.4; ends = ends_more p h.1 rest h.5 s }, front_row ts false h.1 rest h.7 s) in
+    (h.1 ++ rest, h.3 ∙ ap (λ t. line || has_line_end t) (sym g.0), record { plain = k.0; text_is = g.1; spelled = h.4; ends = ends_more p h.1 rest k.0 h.5 s }, front_row ts false h.1 rest h.7 k.1 s) in
     subst (λ t. IsRow (mark_at line t) (behind_blanks t) (piece m p ts) rest) (sym text) made
-front_row (group m b inside ts) line front rest h s =
+front_row (group m b inside ts) line front rest h e s =
+    let k = and_parts (are_plain inside) (are_plain ts) e in
     let gap = h.0 in
     let inner = h.1 ++ (closing b ++ (h.2 ++ rest)) in
     let text : front ++ rest ≡ gap ++ (opening b ++ inner) = ap (λ t. t ++ rest) h.5 ∙ (append_assoc gap (opening b ++ (h.1 ++ (closing b ++ h.2))) rest ∙ ap (λ t. gap ++ t) (append_assoc (opening b) (h.1 ++ (closing b ++ h.2)) rest ∙ ap (λ t. opening b ++ t) (append_assoc h.1 (closing b ++ h.2) rest ∙ ap (λ t. h.1 ++ t) (append_assoc (closing b) h.2 rest)))) in
     let g = one_gap gap (opening b ++ inner) h.3 (opening_text_stops b inner) in
     let made : IsRow (mark_at line (gap ++ (opening b ++ inner))) (behind_blanks (gap ++ (opening b ++ inner))) (group m b inside ts) rest =
-    (inner, h.2 ++ rest, h.4 ∙ ap (λ t. line || has_line_end t) (sym g.0), g.1, front_row inside false h.1 (closing b ++ (h.2 ++ rest)) h.6 (closing_shut b (h.2 ++ rest)), front_row ts false h.2 rest h.7 s) in
+    (inner, h.2 ++ rest, h.4 ∙ ap (λ t. line || has_line_end t) (sym g.0), g.1, front_row inside false h.1 (closing b ++ (h.2 ++ rest)) h.6 k.0 (closing_shut b (h.2 ++ rest)), front_row ts false h.2 rest h.7 k.1 s) in
     subst (λ t. IsRow (mark_at line t) (behind_blanks t) (group m b inside ts) rest) (sym text) made
 
 -- ---- there is one
@@ -120,7 +128,7 @@ pub one_row : (ts us : Tokens) (line : Bool) (text x y : List ℕ) → IsRow (ma
 one_row ts us line text x y g h =
     let a = row_front ts line text x g in
     let b = row_front us line text y h in
-    let k = one_list ts us line a.front b.front x y a.tokens b.tokens a.shut b.shut (sym a.cut ∙ b.cut) in
+    let k = one_list ts us line a.front b.front x y a.plain b.plain a.tokens b.tokens a.shut b.shut (sym a.cut ∙ b.cut) in
     append_cancel_left a.front x y (sym a.cut ∙ (b.cut ∙ ap (λ t. t ++ y) (sym k.1)))
 
 -- ---- of the whole text
@@ -128,20 +136,20 @@ one_row ts us line text x y g h =
 pub row_tokens : (ts : Tokens) (text : List ℕ) → IsRow (mark_at false text) (behind_blanks text) ts [] → AreTokensOf text ts
 row_tokens ts text h = let f = row_front ts false text [] h in subst (λ t. AreTokensOf t ts) (sym (append-nil f.front) ∙ sym f.cut) f.tokens
 
-pub tokens_row : (ts : Tokens) (text : List ℕ) → AreTokensOf text ts → IsRow (mark_at false text) (behind_blanks text) ts []
-tokens_row ts text h = subst (λ t. IsRow (mark_at false t) (behind_blanks t) ts []) (append-nil text) (front_row ts false text [] h tt)
+pub tokens_row : (ts : Tokens) (text : List ℕ) → AreTokensOf text ts → are_plain ts ≡ true → IsRow (mark_at false text) (behind_blanks text) ts []
+tokens_row ts text h e = subst (λ t. IsRow (mark_at false t) (behind_blanks t) ts []) (append-nil text) (front_row ts false text [] h e tt)
 
-pub no_row_no_tokens : (text : List ℕ) → HasNoRow (mark_at false text) (behind_blanks text) → (ts : Tokens) → AreTokensOf text ts → ⊥
-no_row_no_tokens text none ts h = none ts [] (tokens_row ts text h)
+pub no_row_no_tokens : (text : List ℕ) → HasNoRow (mark_at false text) (behind_blanks text) → (ts : Tokens) → AreTokensOf text ts → are_plain ts ≡ true → ⊥
+no_row_no_tokens text none ts h e = none ts [] (tokens_row ts text h e)
 
 -- what ends early has none
-early_no_tokens : (text : List ℕ) (us : Tokens) (c : ℕ) (cs : List ℕ) → IsRow (mark_at false text) (behind_blanks text) us (c ∷ cs) → (ts : Tokens) → AreTokensOf text ts → ⊥
-early_no_tokens text us c cs r ts h = let e = one_row us ts false text (c ∷ cs) [] r (tokens_row ts text h) in absurd (cc)
+early_no_tokens : (text : List ℕ) (us : Tokens) (c : ℕ) (cs : List ℕ) → IsRow (mark_at false text) (behind_blanks text) us (c ∷ cs) → (ts : Tokens) → AreTokensOf text ts → are_plain ts ≡ true → ⊥
+early_no_tokens text us c cs r ts h g = let e = one_row us ts false text (c ∷ cs) [] r (tokens_row ts text h g) in absurd (cc)
 
 pub nothing_left : (x : List ℕ) → (length x == 0) ≡ true → x ≡ []
 nothing_left [] h = refl
 nothing_left (c ∷ cs) h = let e : length (c ∷ cs) ≡ 0 = eqb-true _ 0 h in absurd (omega arith)
 
-pub something_left : (text : List ℕ) (us : Tokens) (x : List ℕ) → (length x == 0) ≡ false → IsRow (mark_at false text) (behind_blanks text) us x → (ts : Tokens) → AreTokensOf text ts → ⊥
-something_left text us [] h r ts g = both_ways true h refl
-something_left text us (c ∷ cs) h r ts g = early_no_tokens text us c cs r ts g
+pub something_left : (text : List ℕ) (us : Tokens) (x : List ℕ) → (length x == 0) ≡ false → IsRow (mark_at false text) (behind_blanks text) us x → (ts : Tokens) → AreTokensOf text ts → are_plain ts ≡ true → ⊥
+something_left text us [] h r ts g e = both_ways true h refl
+something_left text us (c ∷ cs) h r ts g e = early_no_tokens text us c cs r ts g e

@@ -14,7 +14,7 @@ use Rattle.jsgen_tree.specs.Tree.{Tree, absent, given, Trees, no_trees, more}
 use Rattle.jsgen_model.specs.Punctuator.{Punctuator, plus, plus_plus, minus, star, star_star, comma, semicolon, dot, equal, Round, Square, Brace}
 use Rattle.jsgen_model.specs.Numbers.{spells_number}
 use Rattle.jsgen_model.specs.Tokens.{Tokens, done, piece, group, ◌⧺◌, Word, Number, Quoted, Sign, longer_stands, longer_number_stands, AreTokensOf}
-use Rattle.jsgen_model.specs.Grammar.{Allowed, Expression, Assignment, ShortCircuit, Multiplicative, Additive, Exponent, Unary, Update, LeftHandSide, Primary, in_module, with_in, ReadsExpression, ReadsStatement, ReadsItem, ReadsStatements, ReadsModule, a_module, starts_with_directive, starts_statement}
+use Rattle.jsgen_model.specs.Grammar.{Allowed, Expression, Assignment, ShortCircuit, Multiplicative, Additive, Exponent, Unary, Update, LeftHandSide, Primary, in_module, with_in, ReadsExpression, ReadsStatement, ReadsItem, ReadsStatements, ReadsModuleItems, ReadsModule, a_module, starts_with_directive, starts_statement}
 use Rattle.jsgen_model.specs.Grammar as grammar
 use Rattle.jsgen_oracle.specs.Samples.{IsRead}
 use Rattle.jsgen_oracle.specs.Samples as samples
@@ -48,9 +48,15 @@ word w ts = piece false (Word w) ts
 abbrev pub sign : Punctuator → Tokens → Tokens
 sign s ts = piece false (Sign s) ts
 
+-- statements are items of a module
+pub module_items : {last : Bool} {ts : Tokens} {ss : Trees} → ReadsStatements in_module last ts ss → ReadsModuleItems last ts ss
+module_items grammar.no_statement = grammar.no_module_item
+module_items (grammar.last_statement r) = grammar.last_module_item (grammar.a_module_statement r)
+module_items (grammar.first_statement e r s) = grammar.first_module_item e (grammar.a_module_statement r) (module_items s)
+
 -- a program without directives
 pub undirected : {ts : Tokens} {body : Trees} → starts_with_directive ts ≡ false → ReadsStatements in_module false ts body → ReadsModule ts (samples.module_of body)
-undirected h r = a_module (grammar.statements h r)
+undirected h r = a_module (grammar.module_items h (module_items r))
 
 -- an expression with its semicolon, as a statement and in a list of statements
 pub ended : {c : Allowed} {last before_else : Bool} {a : Tokens} {e : Tree} → starts_statement a ≡ true → ReadsExpression (with_in c) Expression a e → ReadsStatement c last before_else (a ⧺ sign semicolon done) (samples.statement_of e)
@@ -306,7 +312,7 @@ unfolding unicode_ident longer_stands word_value string_value
 directive = (
   piece false (Quoted Double (codes "a")) (sign semicolon done),
   ([], codes ";", refl, refl, refl, refl, refl, ([], [], refl, refl, refl, refl, refl, refl)),
-  a_module (grammar.a_directive {q = Double} {w = codes "a"} {us = codes "a"} refl refl (grammar.statements refl grammar.no_statement)),
+  a_module (grammar.a_module_directive {q = Double} {w = codes "a"} {us = codes "a"} refl refl (grammar.module_items refl grammar.no_module_item)),
 )
 
 pub use_strict : IsRead (codes "'use strict';a;") (samples.directed (codes "use strict") (more (samples.statement_of samples.a) no_trees))
@@ -316,7 +322,7 @@ use_strict =
     let second = word (codes "a") (sign semicolon done) in (
       first ⧺ second,
       ([], codes ";a;", refl, refl, refl, refl, refl, ([], codes "a;", refl, refl, refl, refl, refl, ([], codes ";", refl, refl, refl, refl, refl, ([], [], refl, refl, refl, refl, refl, refl)))),
-      a_module (grammar.a_directive {q = Single} {w = codes "use strict"} {us = codes "use strict"} refl refl (grammar.statements refl (grammar.last_statement (item {a = word (codes "a") done} refl (whole (first_of_sum read_a)))))),
+      a_module (grammar.a_module_directive {q = Single} {w = codes "use strict"} {us = codes "use strict"} refl refl (grammar.module_items refl (module_items (grammar.last_statement (item {a = word (codes "a") done} refl (whole (first_of_sum read_a))))))),
     )
 
 pub escaped_name : IsRead (codes "\\u0061;") (samples.module_of (more (samples.statement_of samples.a) no_trees))
@@ -376,19 +382,3 @@ last_if = (
   ([], codes "(a)if(b)c;else;", refl, refl, refl, refl, refl, ([], codes "a", codes "if(b)c;else;", refl, refl, refl, ([], [], refl, refl, refl, refl, refl, refl), ([], codes "(b)c;else;", refl, refl, refl, refl, refl, ([], codes "b", codes "c;else;", refl, refl, refl, ([], [], refl, refl, refl, refl, refl, refl), ([], codes ";else;", refl, refl, refl, refl, refl, ([], codes "else;", refl, refl, refl, refl, refl, ([], codes ";", refl, refl, refl, refl, refl, ([], [], refl, refl, refl, refl, refl, refl)))))))),
   undirected refl (grammar.last_statement (grammar.a_statement (grammar.an_if (whole (first_of_sum read_a)) (grammar.an_if_with_else {a = word (codes "c") (sign semicolon done)} {b = sign semicolon done} false refl (whole (first_of_sum read_b)) (ended {a = word (codes "c") done} refl (whole (first_of_sum read_c))) grammar.an_empty_statement)))),
 )
-
--- an `if` without `else` stands before no `else`
-no_open_if : {c : Allowed} {last : Bool} {ts : Tokens} {t s : Tree} → ReadsStatement c last true ts (samples.if_of t s absent) → ⊥
-no_open_if (grammar.a_variable_statement e r) = elim r [ ]
-
-no_other_statement : {c : Allowed} {last : Bool} {ts : Tokens} → ReadsStatement c last false ts (samples.if_of samples.a (samples.if_of samples.b (samples.statement_of samples.c) absent) (given samples.empty)) → ⊥
-no_other_statement (grammar.an_if_with_else k e t s u) = no_open_if s
-no_other_statement (grammar.a_variable_statement e r) = elim r [ ]
-
-pub no_other_if : (ts : Tokens) → AreTokensOf (codes "if(a)if(b)c;else;") ts → ReadsModule ts (samples.module_of (more (samples.if_of samples.a (samples.if_of samples.b (samples.statement_of samples.c) absent) (given samples.empty)) no_trees)) → ⊥
-no_other_if ts h (a_module (grammar.statements n (grammar.last_statement (grammar.a_statement r)))) = no_other_statement r
-no_other_if ts h (a_module (grammar.statements n (grammar.first_statement e (grammar.a_statement r) s))) = no_other_statement r
-no_other_if ts h (a_module (grammar.statements n (grammar.last_statement (grammar.a_declaration kind v e r)))) = elim r [ ]
-no_other_if ts h (a_module (grammar.statements n (grammar.first_statement e (grammar.a_declaration kind v f r) s))) = elim r [ ]
-no_other_if ts h (a_module (grammar.statements n (grammar.last_statement (grammar.a_function_declaration r)))) = elim r [ ]
-no_other_if ts h (a_module (grammar.statements n (grammar.first_statement e (grammar.a_function_declaration r) s))) = elim r [ ]

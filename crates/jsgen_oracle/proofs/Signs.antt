@@ -105,7 +105,7 @@ sign_stands p text h =
     let b = behind_sign p text h.0 in
     let r : drop (length (punctuator_text p)) text ≡ b.rest = ap (λ t. drop (length (punctuator_text p)) t) b.text_is ∙ drop-append_seam (punctuator_text p) b.rest in
     let t : text ≡ punctuator_text p ++ drop (length (punctuator_text p)) text = b.text_is ∙ ap (λ x. punctuator_text p ++ x) (sym r) in
-    record { text_is = t; spelled = refl; ends = subst (λ x. (stands p x && not (longer_stands p x)) ≡ true) t (and_from (stands p text) _ h.0 (ap not h.1)) }
+    record { plain = refl; text_is = t; spelled = refl; ends = subst (λ x. (stands p x && not (longer_stands p x)) ≡ true) t (and_from (stands p text) _ h.0 (ap not h.1)) }
 
 pub sign_fits : (p : Punctuator) (text : List ℕ) → IsSignAt text p → length (punctuator_text p) ≤ length text
 sign_fits p text h = let b = behind_sign p text h.0 in omega (arith, ap length b.text_is, length-append (punctuator_text p) b.rest)

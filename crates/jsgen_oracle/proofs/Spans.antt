@@ -30,4 +30,4 @@ word_ends w [] h = refl
 word_ends w (c ∷ cs) h = h
 
 pub word_stands : (text w rest : List ℕ) → is_spelled (Word w) ≡ true → ends_before (Word []) rest ≡ true → w ++ rest ≡ text → StandsAt text (Word w) rest
-word_stands text w rest h e f = record { text_is = sym f; spelled = h; ends = word_ends w rest e }
+word_stands text w rest h e f = record { plain = refl; text_is = sym f; spelled = h; ends = word_ends w rest e }

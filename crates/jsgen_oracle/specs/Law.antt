@@ -1,7 +1,7 @@
--- That a text has no tokens.
-use Rattle.std.specs.Prelude.{ℕ, List}
-use Rattle.jsgen_model.specs.Tokens.{Tokens, AreTokensOf}
+-- That a text has no plain tokens.
+use Rattle.std.specs.Prelude.{◌≡◌, ℕ, List, true}
+use Rattle.jsgen_model.specs.Tokens.{Tokens, AreTokensOf, are_plain}
 
--- no list of tokens is this text's
-abbrev pub HasNoTokens : List ℕ → Type 0
-HasNoTokens text = (ts : Tokens) → AreTokensOf text ts → ⊥
+-- no list of plain tokens is this text's
+abbrev pub HasNoPlainTokens : List ℕ → Type 0
+HasNoPlainTokens text = (ts : Tokens) → AreTokensOf text ts → are_plain ts ≡ true → ⊥

@@ -7,6 +7,5 @@ pub mod StatementSamples
 pub mod FunctionSamples
 pub mod NumberSamples
 pub mod Values
-pub mod RefusedTexts
 pub mod NormalSamples
 pub mod PrivateSamples

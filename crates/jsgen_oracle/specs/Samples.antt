@@ -1,4 +1,4 @@
--- What a few texts are read as by ECMA-262, worked out by hand, and one that is read as nothing else.
+-- What a few texts are read as by ECMA-262, worked out by hand.
 use Rattle.std.specs.Prelude.{ℕ, List, [], ◌∷◌, true, false, codes}
 use Rattle.jsgen_syntax.specs.declared.operator.BinaryOperator.TheVariants.{Addition, Subtraction, Multiplication, Exponential}
 use Rattle.jsgen_syntax.specs.declared.operator.UnaryOperator.{UnaryOperator}
@@ -222,7 +222,5 @@ pub record GrammarSamples : Type 0 where
   pub empty_in_block : IsRead (codes "{;}") (module_of (more (block_of (more empty no_trees)) no_trees))
   pub without_else : IsRead (codes "if(a)b;") (module_of (more (if_of a (statement_of b) absent) no_trees))
   pub with_else : IsRead (codes "if(a)b;else c;") (module_of (more (if_of a (statement_of b) (given (statement_of c))) no_trees))
-  -- `else` goes with the last `if` that has none (14.6)
+  -- `else` goes with the last `if` that has none (14.6); that the grammar reads no tokens twice is a law of jsgen_one_reading
   pub last_if : IsRead (codes "if(a)if(b)c;else;") (module_of (more (if_of a (if_of b (statement_of c) (given empty)) absent) no_trees))
-  -- and never with one further out
-  pub no_other_if : (ts : Tokens) → AreTokensOf (codes "if(a)if(b)c;else;") ts → ReadsModule ts (module_of (more (if_of a (if_of b (statement_of c) absent) (given empty)) no_trees)) → ⊥

@@ -10,10 +10,11 @@ use Rattle.jsgen_syntax.specs.declared.quote.Quote.TheVariants as quotes
 use Rattle.jsgen_model.proofs.NumberKinds.{kind}
 use Rattle.jsgen_model.proofs.NumberStates.{State, accepts, is_dead, step}
 use Rattle.jsgen_model.specs.Punctuator.{Punctuator, Bracket, Round, Square, Brace, opening, closing}
-use Rattle.jsgen_model.specs.Tokens.{Tokens, done, piece, group, Piece, piece_text, is_spelled, ends_before, stands, longer_stands, is_blank, has_line_end}
+use Rattle.jsgen_model.specs.Tokens.{Tokens, done, piece, group, Piece, is_plain_piece, piece_text, is_spelled, ends_before, stands, longer_stands, is_blank, has_line_end}
 
--- the text begins with this token
+-- the text begins with this token, which is plain
 pub record StandsAt (text : List ℕ) (p : Piece) (rest : List ℕ) : Type 0 where
+  pub plain : is_plain_piece p ≡ true
   pub text_is : text ≡ piece_text p ++ rest
   pub spelled : is_spelled p ≡ true
   pub ends : ends_before p rest ≡ true
@@ -100,7 +101,7 @@ behind_blanks text = drop (prefix_len is_blank text) text
 abbrev pub mark_at : Bool → List ℕ → Bool
 mark_at line text = line || has_line_end (take (prefix_len is_blank text) text)
 
--- These are the tokens of a text that no blank begins, up to this rest, and the first has this mark.
+-- These are plain tokens of a text that no blank begins, up to this rest, and the first has this mark.
 abbrev pub IsRow : Bool → List ℕ → Tokens → List ℕ → Type 0
 IsRow line text done rest = (text ≡ rest) × (ends_row rest ≡ true)
 IsRow line text (piece mark p ts) rest = (behind : List ℕ) × (mark ≡ line) × StandsAt text p behind × IsRow (mark_at false behind) (behind_blanks behind) ts rest

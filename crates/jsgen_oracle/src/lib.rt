@@ -1,17 +1,16 @@
 //! Plain, slow programs for the definitions of the model, for tests to compare with, and samples: what a few texts are read as,
-//! which are not read, which trees have one normal form, and what private names are printed as.
+//! which trees have one normal form, and what private names are printed as.
 #![tactic(auto)]
 
 ghost use Rattle.std.specs.Prelude.{IfOk, MatchOption};
 ghost use Rattle.std.specs.Str.{chars};
 ghost use Rattle.jsgen_model.specs.Tokens.{AreTokensOf};
 ghost use Rattle.jsgen_oracle.specs.Plain.{tokens_plain};
-ghost use Rattle.jsgen_oracle.specs.Law.{HasNoTokens};
+ghost use Rattle.jsgen_oracle.specs.Law.{HasNoPlainTokens};
 ghost use Rattle.jsgen_oracle.specs.Samples.{GrammarSamples};
 ghost use Rattle.jsgen_oracle.specs.StatementSamples.{StatementSamples};
 ghost use Rattle.jsgen_oracle.specs.FunctionSamples.{FunctionSamples};
 ghost use Rattle.jsgen_oracle.specs.NumberSamples.{NumberSamples};
-ghost use Rattle.jsgen_oracle.specs.RefusedTexts.{RefusedTexts};
 ghost use Rattle.jsgen_oracle.specs.NormalSamples.{NormalSamples};
 ghost use Rattle.jsgen_oracle.specs.PrivateSamples.{PrivateSamples};
 
@@ -34,10 +33,11 @@ pub use string::string_value_of;
 pub use token::{Bracket, Piece, Token};
 pub use word::word_value_of;
 
-/// The tokens of a text (ECMA-262, clause 12), or none where it has no list of them. Reads the text from left to
-/// right, and always takes the longest token that stands there.
+/// The plain tokens of a text (ECMA-262, clause 12), or none where it has no list of them: of private names, regular
+/// expressions and templates that no string spells it knows nothing. Reads the text from left to right, and always takes
+/// the longest token that stands there.
 pub fn tokens_of(alloc: Global, text: &str) -> Result<Option<Vec<Token>>, Memory>
-    ensures { IfOk result (λ r. MatchOption r (HasNoTokens (chars text.now))
+    ensures { IfOk result (λ r. MatchOption r (HasNoPlainTokens (chars text.now))
         (λ ts. AreTokensOf (chars text.now) (tokens_plain ts.items))) }
 {
     let characters = characters_of(alloc, text)?;
@@ -69,11 +69,6 @@ pub fn statement_samples()
 /// It reads functions, methods and accessors so too.
 pub fn function_samples()
     ensures { FunctionSamples }
-{}
-
-/// It doesn't read a few texts that ECMA-262 doesn't read.
-pub fn refused_texts()
-    ensures { RefusedTexts }
 {}
 
 /// The normal form keeps what a program means, and drops parentheses, spans and how a number is held.

@@ -2,11 +2,9 @@
 use Rattle.std.specs.Prelude.{◌≡◌}
 use Rattle.std.specs.Str.{chars}
 use Rattle.jsgen_tree.specs.declared.types.NodeType.TheVariants as types
-use Rattle.jsgen_tree.specs.Tree.{Tree, type_of}
-use Rattle.jsgen_tree.specs.Job.{no_tables, JobData}
+use Rattle.jsgen_tree.specs.Tree.{type_of}
+use Rattle.jsgen_tree.specs.Job.{JobData}
 use Rattle.jsgen_model.specs.Spell.{printed, text_bytes}
-use Rattle.jsgen_model.specs.Normal.{normal}
-use Rattle.jsgen_model.specs.Renamed.{renamed}
 use Rattle.jsgen_model.specs.Valid.{IsValid}
 use Rattle.jsgen_model.specs.Plain.{IsCore, IsPlain, IsQuiet}
 use Rattle.jsgen_model.specs.Reading.{HasReading, IsReadAs}
@@ -26,11 +24,3 @@ CoreIsRead = (job : JobData) → type_of job.program ≡ types.Program → IsVal
 -- and so has that of its bytes
 abbrev pub CoreBytesAreRead : Type 0
 CoreBytesAreRead = (job : JobData) → type_of job.program ≡ types.Program → IsValid job → IsCore job.program → IsQuiet job → HasReading (chars (text_bytes job)) job
-
--- a normal form is its own normal form
-abbrev pub NormalIsNormal : Type 0
-NormalIsNormal = (t : Tree) → normal (normal t) ≡ normal t
-
--- without tables a program keeps its names
-abbrev pub NoTablesRenameNothing : Type 0
-NoTablesRenameNothing = (t : Tree) → normal (renamed no_tables t) ≡ normal t

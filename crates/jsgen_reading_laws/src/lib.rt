@@ -1,7 +1,7 @@
 //! The reading law: what is printed reads back. It goes over definitions alone, and mentions no printer.
 #![tactic(auto)]
 
-ghost use Rattle.jsgen_reading_laws.specs.Law.{BytesAreRead, CoreBytesAreRead, CoreIsRead, NoTablesRenameNothing, NormalIsNormal, PrintedIsRead};
+ghost use Rattle.jsgen_reading_laws.specs.Law.{BytesAreRead, CoreBytesAreRead, CoreIsRead, PrintedIsRead};
 
 /// The characters of a job's text are read as its program.
 pub fn printed_is_read()
@@ -21,14 +21,4 @@ pub fn core_is_read()
 /// So have the characters of its bytes in UTF-8.
 pub fn core_bytes_are_read()
     ensures { CoreBytesAreRead }
-{}
-
-/// A normal form is its own.
-pub fn normal_is_normal()
-    ensures { NormalIsNormal }
-{}
-
-/// Without tables a program keeps its names.
-pub fn no_tables_rename_nothing()
-    ensures { NoTablesRenameNothing }
 {}

@@ -9,3 +9,6 @@ pub mod Steps
 pub mod Scalars
 pub mod Signs
 pub mod OneList
+pub mod Specials
+pub mod PatternTexts
+pub mod TemplateTexts

@@ -15,7 +15,7 @@ use Rattle.jsgen_model.proofs.NumberRuns.{NumberFront, a_digit, a_dot, number_fr
 use Rattle.jsgen_model.specs.Numbers.{spells_number}
 use Rattle.std.specs.Option.{option_map_or}
 use Rattle.jsgen_model.specs.Punctuator.{Punctuator, dot, Bracket, Round, Square, Brace, opening, closing, ellipsis}
-use Rattle.jsgen_model.specs.Tokens.{Tokens, done, piece, group, Piece, Word, Number, Quoted, Sign, piece_text, is_spelled, is_blank, is_line_terminator, has_line_end, ends_before, AreTokensAfter, AreTokensOf, are_plain, stands, may_precede, longer_stands, text_behind}
+use Rattle.jsgen_model.specs.Tokens.{Tokens, done, piece, group, Piece, Word, Number, Quoted, Sign, Beyond, is_plain_piece, piece_text, is_spelled, is_blank, is_line_terminator, has_line_end, ends_before, AreTokensAfter, AreTokensOf, are_plain, stands, may_precede, longer_stands, text_behind}
 use Rattle.jsgen_token_laws.proofs.Characters.{continues_goes, digit_goes, found_passes, no_word_no_start, no_word_no_digit, starts_no_digit}
 pub use Rattle.jsgen_token_laws.proofs.Words.{Stops}
 use Rattle.jsgen_token_laws.proofs.Words.{between, goes_on_in_word, begins_word, word_begins, word_shaped, one_word}
@@ -48,6 +48,8 @@ starts_piece (Word w) c = begins_word c
 starts_piece (Number w) c = is_ascii_digit c || (c == 46)
 starts_piece (Quoted q w) c = is_quote c
 starts_piece (Sign s) c = begins_sign c
+-- nothing is said of the others
+starts_piece (Beyond s) c = false
 
 pub record Begins (p : Piece) : Type 0 where
   pub head : ℕ
@@ -69,13 +71,14 @@ number_starts : (c : ℕ) (cs : List ℕ) → NumberFront c cs → (is_ascii_dig
 number_starts c cs (a_digit d) = or_left (is_ascii_digit c) (c == 46) d
 number_starts c cs (a_dot d v e f g) = or_right (is_ascii_digit c) (c == 46) (eq-eqb c 46 e)
 
-pub begins : (p : Piece) → is_spelled p ≡ true → Begins p
+pub begins : (p : Piece) → is_plain_piece p ≡ true → is_spelled p ≡ true → Begins p
 unfolding starts_piece
-begins (Word w) h = let b = word_begins w h in record { head = b.head; tail = b.tail; text = b.text; starts = b.starts }
-begins (Number []) h = absurd (both_ways (spells_number []) no_number h)
-begins (Number (c ∷ cs)) h = record { head = c; tail = cs; text = refl; starts = number_starts c cs (number_front c cs h) }
-begins (Quoted q w) h = record { head = quote_char q; tail = w ++ quote_char q ∷ []; text = refl; starts = quote_is_one q }
-begins (Sign s) h = sign_begins s
+begins (Word w) i h = let b = word_begins w h in record { head = b.head; tail = b.tail; text = b.text; starts = b.starts }
+begins (Number []) i h = absurd (both_ways (spells_number []) no_number h)
+begins (Number (c ∷ cs)) i h = record { head = c; tail = cs; text = refl; starts = number_starts c cs (number_front c cs h) }
+begins (Quoted q w) i h = record { head = quote_char q; tail = w ++ quote_char q ∷ []; text = refl; starts = quote_is_one q }
+begins (Sign s) i h = sign_begins s
+begins (Beyond s) i h = absurd (both_ways false refl i)
 
 sign_no_word : (c : ℕ) → begins_sign c ≡ true → goes_in_word c ≡ false
 sign_no_word c h = not-true (goes_in_word c) (found_passes (λ d. not (goes_in_word d)) c (codes ".;,:?=<>!+-*/%&|^~") refl h)
@@ -123,6 +126,7 @@ unfolding starts_piece
 starts_no_blank (Word w) c h = false_from_ne_true (is_blank c) (λ e. both_ways (begins_word c) (blank_passes begins_word c (no_word_begins 32 refl refl) (no_word_begins 9 refl refl) (no_word_begins 10 refl refl) (no_word_begins 13 refl refl) line_separators.0 line_separators.1 e) h)
 starts_no_blank (Number w) c h = false_from_ne_true (is_blank c) (λ e. both_ways (is_ascii_digit c || (c == 46)) (blank_passes (λ d. is_ascii_digit d || (d == 46)) c refl refl refl refl refl refl e) h)
 starts_no_blank (Quoted q w) c h = false_from_ne_true (is_blank c) (λ e. both_ways (is_quote c) (blank_passes is_quote c refl refl refl refl refl refl e) h)
+starts_no_blank (Beyond s) c h = absurd (both_ways false refl h)
 starts_no_blank (Sign s) c h = false_from_ne_true (is_blank c) (λ e. both_ways (begins_sign c) (blank_passes begins_sign c refl refl refl refl refl refl e) h)
 
 starts_none : (d : ℕ) → goes_in_word d ≡ false → (d == 92) ≡ false → begins_sign d ≡ false → is_quote d ≡ false → (p : Piece) → starts_piece p d ≡ false
@@ -131,6 +135,7 @@ starts_none d h b g i (Word w) = no_word_begins d h b
 starts_none d h b g i (Number w) = or_from (is_ascii_digit d) (d == 46) (no_word_no_digit d h) (or_parts (d == 46) _ g).0
 starts_none d h b g i (Quoted q w) = i
 starts_none d h b g i (Sign s) = g
+starts_none d h b g i (Beyond s) = refl
 
 pub starts_no_closing : (p : Piece) (b : Bracket) → starts_piece p (closing_char b) ≡ false
 unfolding closing_char
@@ -155,10 +160,10 @@ pub word_stops : (w x : List ℕ) → ends_before (Word w) x ≡ true → Stops 
 word_stops w [] h = tt
 word_stops w (c ∷ cs) h = not-true (goes_on_in_word c) h
 
-apart : (p q : Piece) (x y : List ℕ) → is_spelled p ≡ true → is_spelled q ≡ true → ((c : ℕ) → starts_piece p c ≡ true → starts_piece q c ≡ true → ⊥) → piece_text p ++ x ≡ piece_text q ++ y → ⊥
-apart p q x y g h clash e =
-    let b = begins p g in
-    let d = begins q h in
+apart : (p q : Piece) (x y : List ℕ) → is_plain_piece p ≡ true → is_plain_piece q ≡ true → is_spelled p ≡ true → is_spelled q ≡ true → ((c : ℕ) → starts_piece p c ≡ true → starts_piece q c ≡ true → ⊥) → piece_text p ++ x ≡ piece_text q ++ y → ⊥
+apart p q x y i j g h clash e =
+    let b = begins p i g in
+    let d = begins q j h in
     let k : b.head ∷ (b.tail ++ x) ≡ d.head ∷ (d.tail ++ y) = sym (ap (λ t. t ++ x) b.text) ∙ (e ∙ ap (λ t. t ++ y) d.text) in
     let f : d.head ≡ b.head = cc in
     clash b.head b.starts (subst (λ c. starts_piece q c ≡ true) f d.starts)
@@ -248,7 +253,7 @@ sign_or_number s (c ∷ cs) x y h k e = by (number_front c cs h)
   where
     by : NumberFront c cs → ⊥
     by (a_digit d) =
-        let b = begins (Sign s) refl in
+        let b = begins (Sign s) refl refl in
         let f : b.head ∷ (b.tail ++ x) ≡ c ∷ (cs ++ y) = sym (ap (λ t. t ++ x) b.text) ∙ e in
         let g : b.head ≡ c = cc in
         sign_or c (subst (λ z. begins_sign z ≡ true) g b.starts) (digit_goes c d)
@@ -256,24 +261,26 @@ sign_or_number s (c ∷ cs) x y h k e = by (number_front c cs h)
         let t : piece_text (Sign s) ++ x ≡ 46 ∷ (d ∷ (v ++ y)) = e ∙ (ap (λ z. z ∷ (cs ++ y)) f ∙ ap (λ z. 46 ∷ (z ++ y)) g) in
         no_sign_at s d (v ++ y) i (subst (λ z. stands s z ≡ true) t (and_parts (stands s (piece_text (Sign s) ++ x)) (not (longer_stands s (piece_text (Sign s) ++ x))) k).0)
 
-pub one_piece : (p q : Piece) (x y : List ℕ) → is_spelled p ≡ true → is_spelled q ≡ true → ends_before p x ≡ true → ends_before q y ≡ true → piece_text p ++ x ≡ piece_text q ++ y → (p ≡ q) × (x ≡ y)
+pub one_piece : (p q : Piece) (x y : List ℕ) → is_plain_piece p ≡ true → is_plain_piece q ≡ true → is_spelled p ≡ true → is_spelled q ≡ true → ends_before p x ≡ true → ends_before q y ≡ true → piece_text p ++ x ≡ piece_text q ++ y → (p ≡ q) × (x ≡ y)
 unfolding starts_piece
-one_piece (Word v) (Word w) x y g h s t e = let k = one_word (Some between) v w x y (word_shaped v g) (word_shaped w h) (word_stops v x s) (word_stops w y t) e in (ap Word k.0, k.1)
-one_piece (Number v) (Number w) x y g h s t e = let k = one_number v w x y g h s t e in (ap Number k.0, k.1)
-one_piece (Quoted q v) (Quoted r w) x y g h s t e = one_quoted q r v w x y g h e
-one_piece (Sign v) (Sign w) x y g h s t e = let k = one_sign v w x y s t e in (ap Sign k.0, k.1)
-one_piece (Word v) (Number w) x y g h s t e = absurd (apart (Word v) (Number w) x y g h word_or_number e)
-one_piece (Number v) (Word w) x y g h s t e = absurd (apart (Number v) (Word w) x y g h (λ c a b. word_or_number c b a) e)
-one_piece (Sign v) (Word w) x y g h s t e = absurd (apart (Sign v) (Word w) x y g h (λ c a b. word_or_sign c b a) e)
-one_piece (Word v) (Sign w) x y g h s t e = absurd (apart (Word v) (Sign w) x y g h word_or_sign e)
-one_piece (Sign v) (Number w) x y g h s t e = absurd (sign_or_number v w x y h s e)
-one_piece (Number v) (Sign w) x y g h s t e = absurd (sign_or_number w v y x g t (sym e))
-one_piece (Quoted q v) (Word w) x y g h s t e = absurd (apart (Quoted q v) (Word w) x y g h (λ c a b. word_or_quote c b a) e)
-one_piece (Word v) (Quoted q w) x y g h s t e = absurd (apart (Word v) (Quoted q w) x y g h word_or_quote e)
-one_piece (Quoted q v) (Number w) x y g h s t e = absurd (apart (Quoted q v) (Number w) x y g h quote_or_number e)
-one_piece (Number v) (Quoted q w) x y g h s t e = absurd (apart (Number v) (Quoted q w) x y g h (λ c a b. quote_or_number c b a) e)
-one_piece (Quoted q v) (Sign w) x y g h s t e = absurd (apart (Quoted q v) (Sign w) x y g h (λ c a b. quote_or_sign c a b) e)
-one_piece (Sign v) (Quoted q w) x y g h s t e = absurd (apart (Sign v) (Quoted q w) x y g h (λ c a b. quote_or_sign c b a) e)
+one_piece (Beyond v) q x y i j g h s t e = absurd (both_ways false refl i)
+one_piece p (Beyond w) x y i j g h s t e = absurd (both_ways false refl j)
+one_piece (Word v) (Word w) x y i j g h s t e = let k = one_word (Some between) v w x y (word_shaped v g) (word_shaped w h) (word_stops v x s) (word_stops w y t) e in (ap Word k.0, k.1)
+one_piece (Number v) (Number w) x y i j g h s t e = let k = one_number v w x y g h s t e in (ap Number k.0, k.1)
+one_piece (Quoted q v) (Quoted r w) x y i j g h s t e = one_quoted q r v w x y g h e
+one_piece (Sign v) (Sign w) x y i j g h s t e = let k = one_sign v w x y s t e in (ap Sign k.0, k.1)
+one_piece (Word v) (Number w) x y i j g h s t e = absurd (apart (Word v) (Number w) x y i j g h word_or_number e)
+one_piece (Number v) (Word w) x y i j g h s t e = absurd (apart (Number v) (Word w) x y i j g h (λ c a b. word_or_number c b a) e)
+one_piece (Sign v) (Word w) x y i j g h s t e = absurd (apart (Sign v) (Word w) x y i j g h (λ c a b. word_or_sign c b a) e)
+one_piece (Word v) (Sign w) x y i j g h s t e = absurd (apart (Word v) (Sign w) x y i j g h word_or_sign e)
+one_piece (Sign v) (Number w) x y i j g h s t e = absurd (sign_or_number v w x y h s e)
+one_piece (Number v) (Sign w) x y i j g h s t e = absurd (sign_or_number w v y x g t (sym e))
+one_piece (Quoted q v) (Word w) x y i j g h s t e = absurd (apart (Quoted q v) (Word w) x y i j g h (λ c a b. word_or_quote c b a) e)
+one_piece (Word v) (Quoted q w) x y i j g h s t e = absurd (apart (Word v) (Quoted q w) x y i j g h word_or_quote e)
+one_piece (Quoted q v) (Number w) x y i j g h s t e = absurd (apart (Quoted q v) (Number w) x y i j g h quote_or_number e)
+one_piece (Number v) (Quoted q w) x y i j g h s t e = absurd (apart (Number v) (Quoted q w) x y i j g h (λ c a b. quote_or_number c b a) e)
+one_piece (Quoted q v) (Sign w) x y i j g h s t e = absurd (apart (Quoted q v) (Sign w) x y i j g h (λ c a b. quote_or_sign c a b) e)
+one_piece (Sign v) (Quoted q w) x y i j g h s t e = absurd (apart (Sign v) (Quoted q w) x y i j g h (λ c a b. quote_or_sign c b a) e)
 
 -- ---- blanks, tokens and brackets
 
@@ -287,8 +294,8 @@ shut_stops (c ∷ cs) h = subst (λ d. is_blank d ≡ false) (sym h.1) (go h.0)
     go Square = refl
     go Brace = refl
 
-pub piece_stops : (p : Piece) (r : List ℕ) → is_spelled p ≡ true → Stops is_blank (piece_text p ++ r)
-piece_stops p r h = let b = begins p h in subst (λ t. Stops is_blank (t ++ r)) (sym b.text) (starts_no_blank p b.head b.starts)
+pub piece_stops : (p : Piece) (r : List ℕ) → is_plain_piece p ≡ true → is_spelled p ≡ true → Stops is_blank (piece_text p ++ r)
+piece_stops p r i h = let b = begins p i h in subst (λ t. Stops is_blank (t ++ r)) (sym b.text) (starts_no_blank p b.head b.starts)
 
 pub opening_stops : (b : Bracket) → is_blank (opening_char b) ≡ false
 unfolding opening_char
@@ -296,10 +303,10 @@ opening_stops Round = refl
 opening_stops Square = refl
 opening_stops Brace = refl
 
-no_piece : (p : Piece) (x r : List ℕ) → is_spelled p ≡ true → Shut x → x ≡ piece_text p ++ r → ⊥
-no_piece p [] r h s e = let b = begins p h in let k : [] ≡ b.head ∷ (b.tail ++ r) = e ∙ ap (λ t. t ++ r) b.text in absurd (cc)
-no_piece p (c ∷ cs) r h s e =
-    let b = begins p h in
+no_piece : (p : Piece) (x r : List ℕ) → is_plain_piece p ≡ true → is_spelled p ≡ true → Shut x → x ≡ piece_text p ++ r → ⊥
+no_piece p [] r j h s e = let b = begins p j h in let k : [] ≡ b.head ∷ (b.tail ++ r) = e ∙ ap (λ t. t ++ r) b.text in absurd (cc)
+no_piece p (c ∷ cs) r j h s e =
+    let b = begins p j h in
     let k : c ∷ cs ≡ b.head ∷ (b.tail ++ r) = e ∙ ap (λ t. t ++ r) b.text in
     let i = s.1 in
     let f : b.head ≡ closing_char s.0 = cc in
@@ -321,9 +328,9 @@ no_group : (b : Bracket) (x r : List ℕ) → Shut x → x ≡ opening_char b �
 no_group b [] r s e = absurd (cc)
 no_group b (c ∷ cs) r s e = let i = s.1 in open_or_close b s.0 cc
 
-pub piece_or_group : (p : Piece) (b : Bracket) (r s : List ℕ) → is_spelled p ≡ true → piece_text p ++ r ≡ opening_char b ∷ s → ⊥
-piece_or_group p b r s h e =
-    let k = begins p h in
+pub piece_or_group : (p : Piece) (b : Bracket) (r s : List ℕ) → is_plain_piece p ≡ true → is_spelled p ≡ true → piece_text p ++ r ≡ opening_char b ∷ s → ⊥
+piece_or_group p b r s i h e =
+    let k = begins p i h in
     let l : k.head ∷ (k.tail ++ r) ≡ opening_char b ∷ s = sym (ap (λ t. t ++ r) k.text) ∙ e in
     let f : k.head ≡ opening_char b = cc in
     both_ways (starts_piece p (opening_char b)) (starts_no_opening p b) (subst (λ d. starts_piece p d ≡ true) f k.starts)
@@ -353,13 +360,14 @@ closed Square = refl
 closed Brace = refl
 
 -- a token that ends before a text does so before it and what a closing bracket begins
-pub ends_more : (p : Piece) (r x : List ℕ) → ends_before p r ≡ true → Shut x → ends_before p (r ++ x) ≡ true
-ends_more (Sign q) r x h s = sign_ends_shut q r x h s
-ends_more (Quoted q w) r x h s = clear_quoted q w (r ++ x)
-ends_more (Word w) [] [] h s = refl
-ends_more (Word w) [] (c ∷ cs) h s = subst (λ t. ends_before (Word w) t ≡ true) (ap (λ t. t ++ cs) (closed s.0) ∙ ap (λ d. d ∷ cs) (sym s.1)) (clear_closing s.0 (After (Word w)) cs)
-ends_more (Word w) (d ∷ r) x h s = h
-ends_more (Number w) r x h s = number_ends_same w r x s ∙ h
+pub ends_more : (p : Piece) (r x : List ℕ) → is_plain_piece p ≡ true → ends_before p r ≡ true → Shut x → ends_before p (r ++ x) ≡ true
+ends_more (Sign q) r x i h s = sign_ends_shut q r x h s
+ends_more (Quoted q w) r x i h s = clear_quoted q w (r ++ x)
+ends_more (Word w) [] [] i h s = refl
+ends_more (Word w) [] (c ∷ cs) i h s = subst (λ t. ends_before (Word w) t ≡ true) (ap (λ t. t ++ cs) (closed s.0) ∙ ap (λ d. d ∷ cs) (sym s.1)) (clear_closing s.0 (After (Word w)) cs)
+ends_more (Word w) (d ∷ r) x i h s = h
+ends_more (Number w) r x i h s = number_ends_same w r x s ∙ h
+ends_more (Beyond q) r x i h s = absurd (both_ways false refl i)
 
 behind_piece : (a gap w rest x : List ℕ) → a ≡ gap ++ (w ++ rest) → a ++ x ≡ gap ++ (w ++ (rest ++ x))
 behind_piece a gap w rest x e = ap (λ t. t ++ x) e ∙ (append_assoc gap (w ++ rest) x ∙ ap (λ t. gap ++ t) (append_assoc w rest x))
@@ -374,29 +382,31 @@ behind_group a gap b inner rest x e =
 
 -- ---- the whole
 
-pub one_list : (ts us : Tokens) (line : Bool) (a b x y : List ℕ) → AreTokensAfter line a ts → AreTokensAfter line b us → Shut x → Shut y → a ++ x ≡ b ++ y → (ts ≡ us) × (a ≡ b)
-one_list done done line a b x y l m s t e = (refl, (one_span is_blank a b x y l m (shut_stops x s) (shut_stops y t) e).0)
-one_list done (piece n q us) line a b x y l m s t e =
+pub one_list : (ts us : Tokens) (line : Bool) (a b x y : List ℕ) → are_plain ts ≡ true → are_plain us ≡ true → AreTokensAfter line a ts → AreTokensAfter line b us → Shut x → Shut y → a ++ x ≡ b ++ y → (ts ≡ us) × (a ≡ b)
+one_list done done line a b x y i j l m s t e = (refl, (one_span is_blank a b x y l m (shut_stops x s) (shut_stops y t) e).0)
+one_list done (piece n q us) line a b x y i j l m s t e =
     let f : a ++ x ≡ m.0 ++ (piece_text q ++ (m.1 ++ y)) = e ∙ behind_piece b m.0 (piece_text q) m.1 y m.6 in
-    let k = one_span is_blank a m.0 x (piece_text q ++ (m.1 ++ y)) l m.2 (shut_stops x s) (piece_stops q _ m.4) f in
-    absurd (no_piece q x (m.1 ++ y) m.4 s k.1)
-one_list (piece n q us) done line a b x y l m s t e =
+    let k = one_span is_blank a m.0 x (piece_text q ++ (m.1 ++ y)) l m.2 (shut_stops x s) (piece_stops q _ (and_parts (is_plain_piece q) (are_plain us) j).0 m.4) f in
+    absurd (no_piece q x (m.1 ++ y) (and_parts (is_plain_piece q) (are_plain us) j).0 m.4 s k.1)
+one_list (piece n q us) done line a b x y i j l m s t e =
     let f : b ++ y ≡ l.0 ++ (piece_text q ++ (l.1 ++ x)) = sym e ∙ behind_piece a l.0 (piece_text q) l.1 x l.6 in
-    let k = one_span is_blank b l.0 y (piece_text q ++ (l.1 ++ x)) m l.2 (shut_stops y t) (piece_stops q _ l.4) f in
-    absurd (no_piece q y (l.1 ++ x) l.4 t k.1)
-one_list done (group n d hs us) line a b x y l m s t e =
+    let k = one_span is_blank b l.0 y (piece_text q ++ (l.1 ++ x)) m l.2 (shut_stops y t) (piece_stops q _ (and_parts (is_plain_piece q) (are_plain us) i).0 l.4) f in
+    absurd (no_piece q y (l.1 ++ x) (and_parts (is_plain_piece q) (are_plain us) i).0 l.4 t k.1)
+one_list done (group n d hs us) line a b x y i j l m s t e =
     let f : a ++ x ≡ m.0 ++ (opening_char d ∷ (m.1 ++ (closing_char d ∷ (m.2 ++ y)))) = e ∙ behind_group b m.0 d m.1 m.2 y m.5 in
     let k = one_span is_blank a m.0 x (opening_char d ∷ (m.1 ++ (closing_char d ∷ (m.2 ++ y)))) l m.3 (shut_stops x s) (opening_stops d) f in
     absurd (no_group d x _ s k.1)
-one_list (group n d hs us) done line a b x y l m s t e =
+one_list (group n d hs us) done line a b x y i j l m s t e =
     let f : b ++ y ≡ l.0 ++ (opening_char d ∷ (l.1 ++ (closing_char d ∷ (l.2 ++ x)))) = sym e ∙ behind_group a l.0 d l.1 l.2 x l.5 in
     let k = one_span is_blank b l.0 y (opening_char d ∷ (l.1 ++ (closing_char d ∷ (l.2 ++ x)))) m l.3 (shut_stops y t) (opening_stops d) f in
     absurd (no_group d y _ t k.1)
-one_list (piece n p ts) (piece o q us) line a b x y l m s t e =
+one_list (piece n p ts) (piece o q us) line a b x y i j l m s t e =
     let f : l.0 ++ (piece_text p ++ (l.1 ++ x)) ≡ m.0 ++ (piece_text q ++ (m.1 ++ y)) = sym (behind_piece a l.0 (piece_text p) l.1 x l.6) ∙ (e ∙ behind_piece b m.0 (piece_text q) m.1 y m.6) in
-    let k = one_span is_blank l.0 m.0 _ _ l.2 m.2 (piece_stops p (l.1 ++ x) l.4) (piece_stops q (m.1 ++ y) m.4) f in
-    let j = one_piece p q (l.1 ++ x) (m.1 ++ y) l.4 m.4 (ends_more p l.1 x l.5 s) (ends_more q m.1 y m.5 t) k.1 in
-    let i = one_list ts us false l.1 m.1 x y l.7 m.7 s t j.1 in
+    let v = and_parts (is_plain_piece p) (are_plain ts) i in
+    let w = and_parts (is_plain_piece q) (are_plain us) j in
+    let k = one_span is_blank l.0 m.0 _ _ l.2 m.2 (piece_stops p (l.1 ++ x) v.0 l.4) (piece_stops q (m.1 ++ y) w.0 m.4) f in
+    let j = one_piece p q (l.1 ++ x) (m.1 ++ y) v.0 w.0 l.4 m.4 (ends_more p l.1 x v.0 l.5 s) (ends_more q m.1 y w.0 m.5 t) k.1 in
+    let i = one_list ts us false l.1 m.1 x y v.1 w.1 l.7 m.7 s t j.1 in
     let g : n ≡ o = l.3 ∙ (ap (λ z. line || has_line_end z) k.0 ∙ sym m.3) in
     (same_row n o p q ts us g j.0 i.0, l.6 ∙ (same_text l.0 m.0 p q l.1 m.1 k.0 j.0 i.1 ∙ sym m.6))
   where
@@ -405,26 +415,28 @@ one_list (piece n p ts) (piece o q us) line a b x y l m s t e =
 
     same_text : (g h : List ℕ) (p q : Piece) (r z : List ℕ) → g ≡ h → p ≡ q → r ≡ z → g ++ (piece_text p ++ r) ≡ h ++ (piece_text q ++ z)
     same_text g h p q r z e f k = λ i. e i ++ (piece_text (f i) ++ k i)
-one_list (piece n p ts) (group o d hs us) line a b x y l m s t e =
+one_list (piece n p ts) (group o d hs us) line a b x y i j l m s t e =
     let f : l.0 ++ (piece_text p ++ (l.1 ++ x)) ≡ m.0 ++ (opening_char d ∷ (m.1 ++ (closing_char d ∷ (m.2 ++ y)))) = sym (behind_piece a l.0 (piece_text p) l.1 x l.6) ∙ (e ∙ behind_group b m.0 d m.1 m.2 y m.5) in
-    let k = one_span is_blank l.0 m.0 _ _ l.2 m.3 (piece_stops p (l.1 ++ x) l.4) (opening_stops d) f in
-    absurd (piece_or_group p d _ _ l.4 k.1)
-one_list (group o d hs us) (piece n p ts) line a b x y l m s t e =
+    let k = one_span is_blank l.0 m.0 _ _ l.2 m.3 (piece_stops p (l.1 ++ x) (and_parts (is_plain_piece p) (are_plain ts) i).0 l.4) (opening_stops d) f in
+    absurd (piece_or_group p d _ _ (and_parts (is_plain_piece p) (are_plain ts) i).0 l.4 k.1)
+one_list (group o d hs us) (piece n p ts) line a b x y i j l m s t e =
     let f : m.0 ++ (piece_text p ++ (m.1 ++ y)) ≡ l.0 ++ (opening_char d ∷ (l.1 ++ (closing_char d ∷ (l.2 ++ x)))) = sym (behind_piece b m.0 (piece_text p) m.1 y m.6) ∙ (sym e ∙ behind_group a l.0 d l.1 l.2 x l.5) in
-    let k = one_span is_blank m.0 l.0 _ _ m.2 l.3 (piece_stops p (m.1 ++ y) m.4) (opening_stops d) f in
-    absurd (piece_or_group p d _ _ m.4 k.1)
-one_list (group n c gs ts) (group o d hs us) line a b x y l m s t e =
+    let k = one_span is_blank m.0 l.0 _ _ m.2 l.3 (piece_stops p (m.1 ++ y) (and_parts (is_plain_piece p) (are_plain ts) j).0 m.4) (opening_stops d) f in
+    absurd (piece_or_group p d _ _ (and_parts (is_plain_piece p) (are_plain ts) j).0 m.4 k.1)
+one_list (group n c gs ts) (group o d hs us) line a b x y i j l m s t e =
     let f : l.0 ++ (opening_char c ∷ (l.1 ++ (closing_char c ∷ (l.2 ++ x)))) ≡ m.0 ++ (opening_char d ∷ (m.1 ++ (closing_char d ∷ (m.2 ++ y)))) = sym (behind_group a l.0 c l.1 l.2 x l.5) ∙ (e ∙ behind_group b m.0 d m.1 m.2 y m.5) in
     let k = one_span is_blank l.0 m.0 _ _ l.3 m.3 (opening_stops c) (opening_stops d) f in
     let k1 = k.1 in
     let h : opening_char c ≡ opening_char d = cc in
     let z : c ≡ d = same_bracket c d h in
     let r : l.1 ++ (closing_char c ∷ (l.2 ++ x)) ≡ m.1 ++ (closing_char d ∷ (m.2 ++ y)) = cc in
-    let i = one_list gs hs false l.1 m.1 (closing_char c ∷ (l.2 ++ x)) (closing_char d ∷ (m.2 ++ y)) l.6 m.6 (c, refl) (d, refl) r in
+    let i1 = and_parts (are_plain gs) (are_plain ts) i in
+    let j1 = and_parts (are_plain hs) (are_plain us) j in
+    let i = one_list gs hs false l.1 m.1 (closing_char c ∷ (l.2 ++ x)) (closing_char d ∷ (m.2 ++ y)) i1.0 j1.0 l.6 m.6 (c, refl) (d, refl) r in
     let q : l.1 ++ (closing_char c ∷ (l.2 ++ x)) ≡ l.1 ++ (closing_char d ∷ (m.2 ++ y)) = r ∙ ap (λ w. w ++ (closing_char d ∷ (m.2 ++ y))) (sym i.1) in
     let v : closing_char c ∷ (l.2 ++ x) ≡ closing_char d ∷ (m.2 ++ y) = append_cancel_left l.1 _ _ q in
     let w : l.2 ++ x ≡ m.2 ++ y = cc in
-    let j = one_list ts us false l.2 m.2 x y l.7 m.7 s t w in
+    let j = one_list ts us false l.2 m.2 x y i1.1 j1.1 l.7 m.7 s t w in
     let g : n ≡ o = l.4 ∙ (ap (λ z. line || has_line_end z) k.0 ∙ sym m.4) in
     (same_row n o c d gs hs ts us g z i.0 j.0, l.5 ∙ (same_text l.0 m.0 c d l.1 m.1 l.2 m.2 k.0 z i.1 j.1 ∙ sym m.5))
   where
@@ -435,4 +447,4 @@ one_list (group n c gs ts) (group o d hs us) line a b x y l m s t e =
     same_text g h c d q r z w e f k l = λ i. e i ++ (opening (f i) ++ (k i ++ (closing (f i) ++ l i)))
 
 pub one_token_list : (text : List ℕ) (ts us : Tokens) → AreTokensOf text ts → are_plain ts ≡ true → AreTokensOf text us → are_plain us ≡ true → ts ≡ us
-one_token_list text ts us l p m q = (one_list ts us false text text [] [] l m tt tt refl).0
+one_token_list text ts us l p m q = (one_list ts us false text text [] [] p q l m tt tt refl).0

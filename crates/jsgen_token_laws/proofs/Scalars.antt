@@ -1,5 +1,5 @@
 -- The characters of a text that has tokens are Unicode scalar values.
-use Rattle.std.proofs.Common.{◌∙◌, ◌≡◌, ℕ, ◌-◌, ◌<◌, Bool, true, false, cond, ◌||◌, ◌==◌, ◌⊎◌, inl, inr, Option, Some, None, is_some, List, [], ◌∷◌, ◌++◌, refl, sym, if◌then◌else◌, subst, arith, nat_lt}
+use Rattle.std.proofs.Common.{◌∙◌, ◌≡◌, ℕ, ◌-◌, ◌<◌, Bool, true, false, not, ◌&&◌, codes, cond, ◌||◌, ◌==◌, ◌⊎◌, inl, inr, Option, Some, None, is_some, List, [], ◌∷◌, ◌++◌, refl, sym, if◌then◌else◌, subst, arith, nat_lt}
 use Rattle.std.specs.Char.{is_ascii_digit, is_ascii_hexdigit}
 use Rattle.std.specs.Int.{is_in_range}
 use Rattle.std.specs.List.{list_all}
@@ -16,7 +16,9 @@ use Rattle.jsgen_model.proofs.NumberRuns.{ascii_number}
 use Rattle.jsgen_model.proofs.NumberStates.{start}
 use Rattle.jsgen_model.proofs.NumberMachine.{number_runs}
 use Rattle.jsgen_model.specs.Punctuator.{Punctuator, punctuator_text, dot, Bracket, Round, opening, closing}
-use Rattle.jsgen_model.specs.Tokens.{Tokens, done, piece, group, Piece, Word, Number, Quoted, Sign, piece_text, is_spelled, is_blank, is_line_terminator, AreTokensAfter, AreTokensOf}
+use Rattle.jsgen_model.specs.Tokens.{Tokens, done, piece, group, Piece, Word, Number, Quoted, Sign, Beyond, Special, Private, Pattern, Whole, Head, Middle, Tail, special_text, is_special, is_part, piece_text, is_spelled, is_blank, is_line_terminator, AreTokensAfter, AreTokensOf}
+use Rattle.jsgen_model.specs.RegularExpressions.{is_body}
+use Rattle.jsgen_model.specs.Templates.{is_raw}
 use Rattle.jsgen_token_laws.proofs.Characters.{ranged}
 use Rattle.jsgen_token_laws.proofs.Words.{Spot, between, behind_backslash, behind_u, in_braces, in_hex, step, shaped, none_shaped, word_shaped}
 
@@ -30,7 +32,7 @@ scalars_follow f h (x ∷ a) e = let k = and_parts (f x) (list_all f a) e in and
 
 -- ---- names
 
-hex_scalar : (c : ℕ) → is_ascii_hexdigit c ≡ true → scalar c ≡ true
+pub hex_scalar : (c : ℕ) → is_ascii_hexdigit c ≡ true → scalar c ≡ true
 hex_scalar c h = outer (or_cases (is_in_range 48 57 c || is_in_range 65 70 c) (is_in_range 97 102 c) h)
   where
     inside : (is_in_range 48 57 c ≡ true) ⊎ (is_in_range 65 70 c ≡ true) → scalar c ≡ true
@@ -115,11 +117,29 @@ spelling_scalars q w h = go (string_value q w) refl h
     go (Some us) e k = valued_scalars q w us e
     go None e k = absurd (both_ways false refl k)
 
+-- between two ends of ASCII
+enclosed_scalars : (a w b : List ℕ) → all_scalars a ≡ true → all_scalars b ≡ true → all_scalars w ≡ true → all_scalars (a ++ (w ++ b)) ≡ true
+enclosed_scalars a w b g h k = scalars_append a (w ++ b) g (scalars_append w b k h)
+
+raw_scalars : (w : List ℕ) → is_part w ≡ true → all_scalars w ≡ true
+raw_scalars w h = (and_parts (all_scalars w) (is_raw w) h).0
+
+special_scalars : (s : Special) → is_special s ≡ true → all_scalars (special_text s) ≡ true
+special_scalars (Private w) h = shaped_scalars (Some between) w (word_shaped w h)
+special_scalars (Pattern w flags) h =
+    let k = and_parts (all_scalars w) (is_body w && list_all continues_name flags) h in
+    scalars_append w (47 ∷ flags) k.0 (scalars_follow continues_name continues_scalar flags (and_parts (is_body w) (list_all continues_name flags) k.1).1)
+special_scalars (Whole w) h = enclosed_scalars (96 ∷ []) w (96 ∷ []) refl refl (raw_scalars w (and_parts (is_part w) (not (is_some (string_value quotes.Backtick w))) h).0)
+special_scalars (Head w) h = enclosed_scalars (96 ∷ []) w (codes "${") refl refl (raw_scalars w h)
+special_scalars (Middle w) h = enclosed_scalars (125 ∷ []) w (codes "${") refl refl (raw_scalars w h)
+special_scalars (Tail w) h = enclosed_scalars (125 ∷ []) w (96 ∷ []) refl refl (raw_scalars w h)
+
 piece_scalars : (p : Piece) → is_spelled p ≡ true → all_scalars (piece_text p) ≡ true
 piece_scalars (Word w) h = shaped_scalars (Some between) w (word_shaped w h)
 piece_scalars (Number w) h = scalars_follow (λ c. nat_lt c 128) (λ c l. let m = ltb-true c 128 l in low_scalar c (omega arith)) w (ascii_number start w (sym (number_runs w) ∙ h))
 piece_scalars (Quoted q w) h = and_from (scalar (quote_char q)) _ (quote_scalar q) (scalars_append w (quote_char q ∷ []) (spelling_scalars q w h) (and_from (scalar (quote_char q)) true (quote_scalar q) refl))
 piece_scalars (Sign p) h = sign_scalars p
+piece_scalars (Beyond s) h = special_scalars s h
 
 opening_scalars : (b : Bracket) → all_scalars (opening b) ≡ true
 opening_scalars Round = refl

@@ -15,24 +15,24 @@ use Rattle.jsgen_model.proofs.NumberStates.{start}
 use Rattle.jsgen_model.proofs.NumberMachine.{number_runs}
 use Rattle.jsgen_token_laws.proofs.Literals.{whole_begins, whole_no_dot, big_begins, big_no_dot, raw_parts}
 use Rattle.jsgen_token_laws.proofs.Numbers.{number_before_dot}
-use Rattle.jsgen_model.specs.Punctuator.{Punctuator, Bracket, punctuator_text, plus, minus, dot, ellipsis, comma, semicolon, Round, opening, closing, plus_plus, minus_minus}
-use Rattle.jsgen_model.specs.Tokens.{longer_stands, Tokens, done, piece, group, Word, Number, Quoted, Sign, is_spelled, is_blank, is_line_terminator, has_line_end}
+use Rattle.jsgen_model.specs.Punctuator.{Punctuator, Bracket, punctuator_text, plus, minus, star, dot, ellipsis, comma, semicolon, Round, opening, closing, plus_plus, minus_minus, slash}
+use Rattle.jsgen_model.specs.Tokens.{longer_stands, Tokens, done, piece, group, Word, Number, Quoted, Sign, is_spelled, is_blank, is_line_terminator, has_line_end, Beyond}
 use Rattle.jsgen_model.specs.Numbers.{spells_number, spells_whole, takes_no_dot, ends_in, is_raw_number}
 use Rattle.jsgen_model.specs.Items.{member_dot, word, number, punctuator, operator, soft_space, soft_line, hard_space, body_space, indentation, due_semicolon, statement_begins, apart}
 use Rattle.jsgen_model.specs.Layout.{Pen, Ending, other_end, operator_end, layout, with_name, written, written_if, white_if, text_if, ending_unless, is_apart, ends_in_escapes, name_ending, space_if, joins, dot_joins, indented, indent_or_space, at_indentation, end_statement, number_ending}
 use Rattle.jsgen_token_laws.proofs.Characters.{goes_on_in_sign, ends_in_word_behind, all_goes, all_follow, last_behind, alphanumeric_goes}
 use Rattle.jsgen_token_laws.proofs.Words.{word_begins, unescaped, name_spelled, spelled_name}
-use Rattle.jsgen_token_laws.proofs.Last.{Last, Open, After, line_of, Clear, Operand, Ready, Begun, Remembers, Ended, is_indent, Knows, NoDot, word_ends, clear_apart, clear_dots, clear_quote, clear_quoted, clear_space, clear_operator, clear_word, clear_digit, increment_clear, decrement_clear}
+use Rattle.jsgen_token_laws.proofs.Last.{Last, Open, After, line_of, Clear, Operand, Ready, Begun, Remembers, Ended, is_indent, Knows, NoDot, word_ends, clear_apart, clear_dots, clear_star, clear_quote, clear_quoted, clear_space, clear_operator, clear_word, clear_digit, increment_clear, decrement_clear, EndedSign, special_ends}
 use Rattle.jsgen_token_laws.proofs.Writes.{Writes, wrote_none, wrote_and_none, wrote_blank, wrote_piece, wrote_brackets}
 
 -- ---- gaps
 
-space_blank : (b : Bool) → list_all is_blank (space_if b) ≡ true
+pub space_blank : (b : Bool) → list_all is_blank (space_if b) ≡ true
 space_blank true = refl
 space_blank false = refl
 
 -- a space ends no line
-space_mark : (b line : Bool) → line ≡ (line || has_line_end (space_if b))
+pub space_mark : (b line : Bool) → line ≡ (line || has_line_end (space_if b))
 space_mark true true = refl
 space_mark true false = refl
 space_mark false true = refl
@@ -57,7 +57,7 @@ pub wrote_word : {names : Tables} (w : List ℕ) (p : Pen) (l : Last) → spells
 wrote_word w p l h k = written_word w p (layout (word w) p) l (spelled_name w h) refl k (record { indent = k.indent; tables = k.tables; ending = ends_apart other_end p.code (space_if (is_apart p.ending p.code)) w h })
 
 -- a name may be printed with escapes
-name_apart : (ascii : Bool) (code gap w : List ℕ) → spells_name w ≡ true → (b : Bool) → has_escapes ascii w ≡ b → is_apart (name_ending b) (code ++ (gap ++ name_text ascii w)) ≡ true
+pub name_apart : (ascii : Bool) (code gap w : List ℕ) → spells_name w ≡ true → (b : Bool) → has_escapes ascii w ≡ b → is_apart (name_ending b) (code ++ (gap ++ name_text ascii w)) ≡ true
 name_apart ascii code gap w h true e = refl
 name_apart ascii code gap w h false e = subst (λ t. is_apart other_end (code ++ (gap ++ t)) ≡ true) (sym (unescaped ascii w e)) (ends_apart other_end code gap w h)
 
@@ -122,8 +122,15 @@ wrote_quoted q w us p r l h e f k =
 
 -- ---- punctuators behind an operand
 
+-- what is known of the code behind a sign
+signed : (s : Punctuator) (e : Ending) (code gap : List ℕ) → Remembers s e → EndedSign (code ++ (gap ++ punctuator_text s)) e s
+signed plus e code gap m = m
+signed minus e code gap m = m
+signed slash e code gap m = last_behind None code (gap ++ (47 ∷ [])) ∙ last_behind (last_or None code) gap (47 ∷ [])
+signed s e code gap m = tt
+
 pub wrote_punctuator : {names : Tables} (s : Punctuator) (p : Pen) (l : Last) → NoDot s → Remembers s other_end → Operand l → Knows names p l → Writes names p l (layout (punctuator s) p) (After (Sign s)) (piece (line_of l) (Sign s) done)
-wrote_punctuator s p l i m o k = wrote_piece p (layout (punctuator s) p) l [] (Sign s) (line_of l) refl (space_mark false (line_of l)) refl (λ r. clear_operator s p.code p.ending l r i o k.ending) refl (record { indent = k.indent; tables = k.tables; ending = m })
+wrote_punctuator s p l i m o k = wrote_piece p (layout (punctuator s) p) l [] (Sign s) (line_of l) refl (space_mark false (line_of l)) refl (λ r. clear_operator s p.code p.ending l r i o k.ending) refl (record { indent = k.indent; tables = k.tables; ending = signed s other_end p.code [] m })
 
 remembered : (s : Punctuator) → Remembers s (operator_end s)
 remembered plus = refl
@@ -137,7 +144,7 @@ spaced_operator s code e l false r i o k = clear_operator s code e l r i o k
 pub wrote_operator : {names : Tables} (s : Punctuator) (p : Pen) (l : Last) → NoDot s → Operand l → Knows names p l → Writes names p l (layout (operator s) p) (After (Sign s)) (piece (line_of l) (Sign s) done)
 wrote_operator s p l i o k =
     let b : Bool = joins p.ending p.code s in
-    wrote_piece p (layout (operator s) p) l (space_if b) (Sign s) (line_of l) (space_blank b) (space_mark b (line_of l)) refl (λ r. spaced_operator s p.code p.ending l b r i o k.ending) refl (record { indent = k.indent; tables = k.tables; ending = remembered s })
+    wrote_piece p (layout (operator s) p) l (space_if b) (Sign s) (line_of l) (space_blank b) (space_mark b (line_of l)) refl (λ r. spaced_operator s p.code p.ending l b r i o k.ending) refl (record { indent = k.indent; tables = k.tables; ending = signed s (operator_end s) p.code (space_if b) (remembered s) })
 
 -- a semicolon may stand behind anything
 pub wrote_semicolon : {names : Tables} (p q : Pen) (l : Last) → q.code ≡ p.code ++ codes ";" → q.style ≡ p.style → Knows names p l → Writes names p l q (After (Sign semicolon)) (piece (line_of l) (Sign semicolon) done)
@@ -150,6 +157,10 @@ wrote_comma p l k = wrote_piece p (layout (punctuator comma) p) l [] (Sign comma
 -- three dots, where a member of a list begins
 pub wrote_dots : {names : Tables} (p : Pen) (l : Last) → Begun l → Knows names p l → Writes names p l (layout (punctuator ellipsis) p) (After (Sign ellipsis)) (piece (line_of l) (Sign ellipsis) done)
 wrote_dots p l b k = wrote_piece p (layout (punctuator ellipsis) p) l [] (Sign ellipsis) (line_of l) refl (space_mark false (line_of l)) refl (λ r. clear_dots l r b) refl (record { indent = k.indent; tables = k.tables; ending = tt })
+
+-- a star there
+pub wrote_star : {names : Tables} (p : Pen) (l : Last) → Begun l → Knows names p l → Writes names p l (layout (punctuator star) p) (After (Sign star)) (piece (line_of l) (Sign star) done)
+wrote_star p l b k = wrote_piece p (layout (punctuator star) p) l [] (Sign star) (line_of l) refl (space_mark false (line_of l)) refl (λ r. clear_star l r b) refl (record { indent = k.indent; tables = k.tables; ending = tt })
 
 -- ---- blanks
 
@@ -342,11 +353,11 @@ unfolding longer_stands
 minus_behind minus r n = absurd n
 minus_behind s r n = refl
 
-spaced_or : (l : Last) (b : Bool) (r : List ℕ) → Clear l r → Clear l (space_if b ++ r)
+pub spaced_or : (l : Last) (b : Bool) (r : List ℕ) → Clear l r → Clear l (space_if b ++ r)
 spaced_or l true r h = clear_space l r
 spaced_or l false r h = h
 
-spaced_since : (l : Last) (b : Bool) (r : List ℕ) → b ≡ true → Clear l (space_if b ++ r)
+pub spaced_since : (l : Last) (b : Bool) (r : List ℕ) → b ≡ true → Clear l (space_if b ++ r)
 spaced_since l true r e = clear_space l r
 spaced_since l false r e = absurd (both_ways false refl e)
 
@@ -355,6 +366,7 @@ plus_clear code e (Open line) r k = tt
 plus_clear code e (After (Word w)) r k = spaced_operator plus code e (After (Word w)) (joins e code plus) r tt tt k
 plus_clear code e (After (Number w)) r k = spaced_operator plus code e (After (Number w)) (joins e code plus) r tt tt k
 plus_clear code e (After (Quoted q w)) r k = clear_quoted q w (space_if (joins e code plus) ++ (43 ∷ r))
+plus_clear code e (After (Beyond s)) r k = spaced_or (After (Beyond s)) (joins e code plus) (43 ∷ r) (special_ends s 43 r refl refl)
 plus_clear code e (After (Sign plus)) r k = spaced_since (After (Sign plus)) (joins e code plus) (43 ∷ r) (ap (λ x. joins x code plus) k)
 plus_clear code e (After (Sign s)) r k = spaced_or (After (Sign s)) (joins e code plus) (43 ∷ r) (plus_behind s r tt)
 
@@ -363,6 +375,7 @@ minus_clear code e (Open line) r k = tt
 minus_clear code e (After (Word w)) r k = spaced_operator minus code e (After (Word w)) (joins e code minus) r tt tt k
 minus_clear code e (After (Number w)) r k = spaced_operator minus code e (After (Number w)) (joins e code minus) r tt tt k
 minus_clear code e (After (Quoted q w)) r k = clear_quoted q w (space_if (joins e code minus) ++ (45 ∷ r))
+minus_clear code e (After (Beyond s)) r k = spaced_or (After (Beyond s)) (joins e code minus) (45 ∷ r) (special_ends s 45 r refl refl)
 minus_clear code e (After (Sign minus)) r k = spaced_since (After (Sign minus)) (joins e code minus) (45 ∷ r) (ap (λ x. joins x code minus) k)
 minus_clear code e (After (Sign s)) r k = spaced_or (After (Sign s)) (joins e code minus) (45 ∷ r) (minus_behind s r tt)
 
@@ -381,6 +394,7 @@ increment_apart code e (Open line) r k = tt
 increment_apart code e (After (Word w)) r k = spaced_operator plus_plus code e (After (Word w)) (joins e code plus_plus) r tt tt k
 increment_apart code e (After (Number w)) r k = spaced_operator plus_plus code e (After (Number w)) (joins e code plus_plus) r tt tt k
 increment_apart code e (After (Quoted q w)) r k = clear_quoted q w (space_if (joins e code plus_plus) ++ (43 ∷ 43 ∷ r))
+increment_apart code e (After (Beyond s)) r k = spaced_or (After (Beyond s)) (joins e code plus_plus) (43 ∷ 43 ∷ r) (special_ends s 43 (43 ∷ r) refl refl)
 increment_apart code e (After (Sign plus)) r k = spaced_since (After (Sign plus)) (joins e code plus_plus) (43 ∷ 43 ∷ r) (ap (λ x. joins x code plus_plus) k)
 increment_apart code e (After (Sign s)) r k = spaced_or (After (Sign s)) (joins e code plus_plus) (43 ∷ 43 ∷ r) (plus_behind s (43 ∷ r) tt)
 
@@ -389,6 +403,7 @@ decrement_apart code e (Open line) r k = tt
 decrement_apart code e (After (Word w)) r k = spaced_operator minus_minus code e (After (Word w)) (joins e code minus_minus) r tt tt k
 decrement_apart code e (After (Number w)) r k = spaced_operator minus_minus code e (After (Number w)) (joins e code minus_minus) r tt tt k
 decrement_apart code e (After (Quoted q w)) r k = clear_quoted q w (space_if (joins e code minus_minus) ++ (45 ∷ 45 ∷ r))
+decrement_apart code e (After (Beyond s)) r k = spaced_or (After (Beyond s)) (joins e code minus_minus) (45 ∷ 45 ∷ r) (special_ends s 45 (45 ∷ r) refl refl)
 decrement_apart code e (After (Sign minus)) r k = spaced_since (After (Sign minus)) (joins e code minus_minus) (45 ∷ 45 ∷ r) (ap (λ x. joins x code minus_minus) k)
 decrement_apart code e (After (Sign s)) r k = spaced_or (After (Sign s)) (joins e code minus_minus) (45 ∷ 45 ∷ r) (minus_behind s (45 ∷ r) tt)
 
@@ -407,7 +422,7 @@ pub wrote_prefix : {names : Tables} (s : Punctuator) (c : ℕ) (p : Pen) (l : La
 wrote_prefix s c p l e h g n k =
     let b : Bool = joins p.ending p.code s in
     wrote_piece p (layout (operator s) p) l (space_if b) (Sign s) (line_of l) (space_blank b) (space_mark b (line_of l)) refl
-    (λ r. spaced_or l b (punctuator_text s ++ r) (subst (λ t. Clear l (t ++ r)) (sym e) (clear_apart l c r h g n))) refl (record { indent = k.indent; tables = k.tables; ending = remembered s })
+    (λ r. spaced_or l b (punctuator_text s ++ r) (subst (λ t. Clear l (t ++ r)) (sym e) (clear_apart l c r h g n))) refl (record { indent = k.indent; tables = k.tables; ending = signed s (operator_end s) p.code (space_if b) (remembered s) })
 
 -- ---- the dot of a member, behind an operand
 
@@ -420,6 +435,7 @@ dot_apart (After (Number w)) e code r o k = by k.1
     by (inl j) = spaced_since (After (Number w)) (dot_joins e) (46 ∷ r) j
     by (inr b) = spaced_or (After (Number w)) (dot_joins e) (46 ∷ r) (number_before_dot w r b)
 dot_apart (After (Quoted q w)) e code r o k = clear_quoted q w (space_if (dot_joins e) ++ (46 ∷ r))
+dot_apart (After (Beyond s)) e code r o k = spaced_or (After (Beyond s)) (dot_joins e) (46 ∷ r) (special_ends s 46 r refl refl)
 dot_apart (After (Sign plus_plus)) e code r o k = spaced_or (After (Sign plus_plus)) (dot_joins e) (46 ∷ r) (increment_clear 46 r)
 dot_apart (After (Sign minus_minus)) e code r o k = spaced_or (After (Sign minus_minus)) (dot_joins e) (46 ∷ r) (decrement_clear 46 r)
 dot_apart (After (Sign s)) e code r o k = absurd o

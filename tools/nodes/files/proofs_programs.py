@@ -7,7 +7,7 @@ from names import DECLARED, MODEL, SPECS, TREE, row_names, sets_in_antt
 from table import snake
 
 # The types of which more is asked than their children: what is shown of the node itself.
-OWN = {"NumericLiteral": "number_is_formed {}.span {}.value {}.fits", "StringLiteral": "string_is_formed {}.value"}
+OWN = {"NumericLiteral": "number_is_formed {}.span {}.value {}.fits", "StringLiteral": "string_is_formed {}.value", "RegExpLiteral": "text_is_formed {}.pattern", "TemplateElement": "text_is_formed {}.raw"}
 
 
 def write(table):
@@ -19,7 +19,7 @@ def write(table):
   pub layer_is_formed : (y : Node-F A) → IsFormed (layer (map-Node Node Tree node_plain (map-Node A Node f y))){layer}"""
     homes = [("Rattle.std.proofs.Common", ["refl"]), ("Rattle.std.proofs.lemmas.Bool", ["and_from"]), (f"{SPECS}.Plain", ["node_plain", "layer"]), (CASES, lemma_names(table)),
              (f"{DECLARED}.nodes.Node", ["Node", "Node-F", "map-Node"])] + TREE + row_names(table) + sets_in_antt(table)
-    homes += [("Rattle.jsgen_tree.proofs.Layers", ["with_hole"]), (f"{MODEL}.proofs.FormedRows", ["IsFormed", "no_hole", "all_formed", "no_hole_changed", "all_changed", "all_changed_or_holes", "if_given_formed", "no_hole_if_listed", "all_formed_if_listed", "number_is_formed", "string_is_formed"])]
+    homes += [("Rattle.jsgen_tree.proofs.Layers", ["with_hole"]), (f"{MODEL}.proofs.FormedRows", ["IsFormed", "no_hole", "all_formed", "no_hole_changed", "all_changed", "all_changed_or_holes", "if_given_formed", "no_hole_if_listed", "all_formed_if_listed", "number_is_formed", "string_is_formed", "text_is_formed"])]
     every = [(f"{DECLARED}.nodes.Node.TheOpen", "opened")] + aliases(table)
     about = "A node of Rust is formed where its children are."
     return {"crates/jsgen_model/proofs/Programs.antt": layout.antt(about, homes, every, body)}

@@ -1,6 +1,6 @@
 """What the table says of a node's meaning, between marks in the definitions of jsgen_model: of which types and flags no reading is
 promised, and which are core and not plain; that lists but an array's have no hole (Plain.antt), and the normal form of a row (Normal.antt). A type whose clause
-stands by hand there has that one. Of each other row, between marks in proofs of jsgen_reading_laws: that its normal form is its own
+stands by hand there has that one. Of each other row, between marks in proofs of jsgen_row_laws: that its normal form is its own
 (Normals.antt), and that it is the same without tables (Unrenamed.antt)."""
 
 import re
@@ -11,7 +11,7 @@ from files.spelled import variable
 from names import REPOSITORY
 
 SPECS = REPOSITORY / "crates" / "jsgen_model" / "specs"
-LAWS = REPOSITORY / "crates" / "jsgen_reading_laws" / "proofs"
+LAWS = REPOSITORY / "crates" / "jsgen_row_laws" / "proofs"
 
 # What says that a list has no hole.
 HOLES = {"*": "has_no_hole", "*?": "has_no_hole_if_listed"}
@@ -19,8 +19,8 @@ HOLES = {"*": "has_no_hole", "*?": "has_no_hole_if_listed"}
 
 def write(table):
     return {"crates/jsgen_model/specs/Plain.antt": plain(table), "crates/jsgen_model/specs/Normal.antt": normal(table),
-            "crates/jsgen_reading_laws/proofs/Normals.antt": law(table, "Normals.antt", "normal_again", True),
-            "crates/jsgen_reading_laws/proofs/Unrenamed.antt": law(table, "Unrenamed.antt", "unrenamed", False)}
+            "crates/jsgen_row_laws/proofs/Normals.antt": law(table, "Normals.antt", "normal_again", True),
+            "crates/jsgen_row_laws/proofs/Unrenamed.antt": law(table, "Unrenamed.antt", "unrenamed", False)}
 
 
 def by_default(table, text, function):

@@ -32,8 +32,15 @@ const ReadsStatement = {
     "Statement = for ( init:Init ; test:Part[+in] ; update:Part[+in] ) s:Statement",
     "tree.for_statement (nothing_of 0) init test update s",
   ),
-  a_for_in: row("Statement = for ( l:Left<in>[+in] in e:Expression[+in] ) s:Statement", "tree.for_in_statement (nothing_of 0) l e s"),
-  a_for_of: row("Statement = for ( l:Left<of>[+in] of e:Assignment[+in] ) s:Statement", "tree.for_of_statement (nothing_of 1) l e s"),
+  a_for_in: row("Statement = for ( l:Left<false>[+in] in e:Expression[+in] ) s:Statement", "tree.for_in_statement (nothing_of 0) l e s"),
+  a_for_of: row(
+    "Statement = for ( l:Left<true>[+in] of e:Assignment[+in] ) s:Statement",
+    "tree.for_of_statement (loop_values false) l e s",
+  ),
+  a_for_await: row(
+    "Statement[+await] = for await ( l:Left<false>[+in] of e:Assignment[+in] ) s:Statement",
+    "tree.for_of_statement (loop_values true) l e s",
+  ),
   a_while: row("Statement = while ( t:Expression[+in] ) s:Statement", "tree.while_statement (nothing_of 0) t s"),
   a_do_while: row(
     "Statement = do s:Statement[-last-before_else] while ( t:Expression[+in] ) END",
@@ -68,23 +75,19 @@ const ReadsPart = {
   an_expression_there: row("Part = e:Expression", "given e"),
 };
 
-// What follows a left side: the flag of the grammar is on for `of`.
-const LOOPS = [{ name: "false", word: "in" }, { name: "true", word: "of" }];
-
 const ReadsLeft = {
-  a_declared_name: each("before_of", LOOPS, (loop) =>
+  a_declared_name: both("before_of", (before) =>
     each("kind", KINDS, ({ word }) =>
       row(
-        `Left<${loop.word}> = ${word} b:Binding`,
+        `Left<${before}> = ${word} b:Binding`,
         "tree.variable_declaration (declared_as kind) (more (tree.variable_declarator (nothing_of 1) b absent) no_trees)",
       ),
     ),
   ),
-  a_target: [
-    row("Left<in> = t:LeftHandSide", "u", simple_target("t", "u")),
-    row("Left<of> = t:LeftHandSide", "u", simple_target("t", "u"), may_precede_of("t")),
-  ],
-  a_left_pattern: each("before_of", LOOPS, ({ word }) => row(`Left<${word}> = t:Pattern`, "t")),
+  a_target: both("before_of", (before) =>
+    row(`Left<${before}> = t:LeftHandSide`, "u", simple_target("t", "u"), ...(before === "true" ? [may_precede_of("t")] : [])),
+  ),
+  a_left_pattern: both("before_of", (before) => row(`Left<${before}> = t:Pattern`, "t")),
 };
 
 const ReadsLabel = {
@@ -129,7 +132,8 @@ const ReadsFinalizer = {
 
 const ReadsItem = {
   a_statement: row("Item = s:Statement[-before_else]", "s"),
-  a_function_declaration: row("Item = function t:Function<Declaration>", "t"),
+  a_function_declaration: row("Item = t:Function<Declaration,false>", "t"),
+  a_class_declaration: row("Item = t:Class<Declaration,false>[+in]", "t"),
   a_declaration: each("kind", KINDS.filter(({ word }) => word !== "var"), ({ name }) => row(`Item = d:Variables<${name}>[+in] END`, "d")),
 };
 
@@ -145,11 +149,7 @@ const ReadsBody = {
   statements: row("Body = ss:Statements", ["no_trees", "ss"], starts_with_directive("ss")),
 };
 
-const ReadsModule = {
-  a_module: row("Module = directives,body:Body[-return-last]", "tree.program (nothing_of 4) no_trees absent directives body"),
-};
-
 export const STATEMENTS = {
   ReadsDeclarator, ReadsDeclarators, ReadsVariables, ReadsStatement, ReadsReturned, ReadsInit, ReadsPart, ReadsLeft, ReadsLabel,
-  ReadsCases, ReadsCase, ReadsEndsOfTry, ReadsHandler, ReadsFinalizer, ReadsItem, ReadsStatements, ReadsBody, ReadsModule,
+  ReadsCases, ReadsCase, ReadsEndsOfTry, ReadsHandler, ReadsFinalizer, ReadsItem, ReadsStatements, ReadsBody,
 };

@@ -1,9 +1,10 @@
 // All productions of Grammar.antt, family by family.
 import { EXPRESSIONS } from "./expressions.mjs";
+import { MODULES } from "./modules.mjs";
 import { PATTERNS } from "./patterns.mjs";
 import { STATEMENTS } from "./statements.mjs";
 
-export const PRODUCTIONS = { ...EXPRESSIONS, ...PATTERNS, ...STATEMENTS };
+export const PRODUCTIONS = { ...EXPRESSIONS, ...PATTERNS, ...STATEMENTS, ...MODULES };
 
 /** The table with the rows of one production made anew, by a function that gives one row or several for each. */
 export const altered = (family, name, alter, table = PRODUCTIONS) => ({

@@ -50,9 +50,9 @@ test("lists have their trees", () => {
   const assign = "(bare (∷ (assignment_operator assignment_operators.Assign) []))";
   assert.equal(tree("[ a ] = b"), `(tree.assignment ${assign} ${pattern} ${name("b")})`);
   assert.equal(tree("[ a ] += b"), undefined);
-  assert.equal(tree("let [ a ] ;", "Body"), undefined);
-  assert.equal(tree("if ( a ) let a ;", "Body"), undefined);
-  assert.equal(tree("return ;", "Body"), undefined);
+  assert.equal(tree("let [ a ] ;", "ModuleBody"), undefined);
+  assert.equal(tree("if ( a ) let a ;", "ModuleBody"), undefined);
+  assert.equal(tree("return ;", "ModuleBody"), undefined);
 });
 
 // What is taken out, what is read, and a list that has two trees then, or a part of it that has.
@@ -61,14 +61,18 @@ const EXPRESSION = "Expression[+in]";
 const chainsOfTwo = altered("ReadsExpression", "a_coalescing", reads("r:BitOr", "r:CoalesceHead"));
 for (const [what, table, start, list, part = list] of [
   ["the first statement is no directive", withoutGuard("ReadsBody", "statements", "starts_with_directive"), FUNCTION_BODY, "'s'"],
-  ["an arrow's body begins with no brace", withoutGuard("ReadsExpression", "an_arrow_function", "starts_in_brace"), EXPRESSION, "a => { }"],
+  ["an arrow's body begins with no brace", withoutGuard("ReadsArrow", "an_arrow_function", "starts_in_brace"), EXPRESSION, "a => { }"],
   ["a statement begins with no brace", withoutGuard("ReadsStatement", "an_expression_statement", "starts_statement"), FUNCTION_BODY, "{ }"],
   ["nor with `function`", withoutGuard("ReadsStatement", "an_expression_statement", "starts_statement"), FUNCTION_BODY, "function a ( ) { }"],
-  ["no `if` alone before `else`", altered("ReadsStatement", "an_if", reads("[-before_else]", "")), "Body", "if ( a ) if ( a ) ; else ;"],
+  ["nor with `async function`", withoutGuard("ReadsStatement", "an_expression_statement", "starts_statement"), FUNCTION_BODY, "async function a ( ) { }"],
+  ["nor with `class`", withoutGuard("ReadsStatement", "an_expression_statement", "starts_statement"), FUNCTION_BODY, "class a { }"],
+  ["no `if` alone before `else`", altered("ReadsStatement", "an_if", reads("[-before_else]", "")), "ModuleBody", "if ( a ) if ( a ) ; else ;"],
+  ["a default export doesn't begin with `function`", withoutGuard("ReadsDefault", "a_default_expression", "may_be_exported"), "ModuleBody", "export default function ( ) { } ;"],
   ["an array is no simple target", altered("ReadsExpression", "an_assignment_to", arraysAreTargets), EXPRESSION, "[ ] = a"],
   ["nor in a pattern", altered("ReadsTarget", "a_simple_target", arraysAreTargets), EXPRESSION, "[ [ ] ] = a", "[ ]"],
   ["nor before a default", altered("ReadsTargetElement", "a_target_with_default", arraysAreTargets), EXPRESSION, "[ [ ] = a ] = a", "[ ] = a"],
-  ["nor in the head of a loop", altered("ReadsLeft", "a_target", arraysAreTargets), "Body", "for ( [ ] of a ) ;", "[ ]"],
+  ["nor in the head of a loop", altered("ReadsLeft", "a_target", arraysAreTargets), "ModuleBody", "for ( [ ] of a ) ;", "[ ]"],
+  ["no private test is the right operand of one", altered("ReadsExpression", "a_private_test", reads("t:Shift", "t:Relational")), EXPRESSION, "#a in a in a"],
   ["a chain of `??` groups from the left", chainsOfTwo, EXPRESSION, "a ?? a ?? a"],
 ]) {
   test(`without a guard a list has two trees: ${what}`, () => {

@@ -4,12 +4,13 @@ import { words } from "../notation.mjs";
 import { flagsOf } from "../productions/rows.mjs";
 
 const GRAMMAR = new URL("../../../crates/jsgen_model/specs/Grammar.antt", import.meta.url);
+const TEXT = readFileSync(GRAMMAR, "utf8");
 
 /** The productions of the families `Reads..`: { family, name, premises, conclusion }, the last two as texts. */
 export function productionsOfGrammar() {
   const found = [];
   let family = null;
-  for (const line of readFileSync(GRAMMAR, "utf8").split("\n")) {
+  for (const line of TEXT.split("\n")) {
     const data = /^\s*pub data (\w+) :/.exec(line);
     if (data) family = data[1];
     const [, name, type] = /^\s+(\w+) : (.*)$/.exec(line) ?? [];
@@ -46,28 +47,67 @@ export function atomsOf(text) {
   return atoms.map((atom) => atom.trim());
 }
 
-// The parameters of a family behind its context that are flags, and what contexts tell of flags.
-const PARAMETERS = { Statement: ["last", "before_else"], Item: ["last"], Statements: ["last"], Body: ["last"], Case: ["last"] };
-const CONTEXTS = {
-  "with_in c": { in: true },
-  "without_in c": { in: false },
-  in_function: { in: true, return: true },
-  in_module: { in: true, return: false },
-};
+// The flags of contexts, by the fields that tell them.
+const FIELDS = { in_operator: "in", yield_operand: "yield", await_operand: "await", return_statement: "return" };
 
-/** What a text like `ReadsStatement c false true a s` reads, and the flags that it tells. */
-export function readBy(text) {
-  const [family, context, ...behind] = atomsOf(text);
-  const name = family === "ReadsExpression" ? behind[0] : family.slice("Reads".length);
-  const flags = { ...CONTEXTS[context] };
-  for (const [at, flag] of (PARAMETERS[name] ?? []).entries()) if (/^(true|false)$/.test(behind[at])) flags[flag] = behind[at] === "true";
-  return { name, flags };
+// The definitions of contexts, by their names: their arguments, and the flags that they tell, each as an argument's name or `true` or `false`.
+const CONTEXTS = new Map(
+  [...TEXT.matchAll(/^(\w+)((?: \w+)*) = record (?:\w+ )?\{ (.*) \}$/gm)].map(([, name, args, fields]) => [
+    name,
+    { args: args.split(" ").filter(Boolean), told: fields.split("; ").map((field) => field.split(" = ")) },
+  ]),
+);
+
+// What a context like `in_arrow_body true c` tells: of `c` alone, nothing.
+function flagsOfContext(text) {
+  const [name, ...given] = text.split(" ");
+  const { args, told } = CONTEXTS.get(name) ?? { args: [], told: [] };
+  const values = new Map(args.map((arg, at) => [arg, given[at]]));
+  const flags = told.flatMap(([field, value]) => {
+    const said = values.get(value) ?? value;
+    // a field of an argument is as it was there
+    return value.includes(".") ? [] : [[FIELDS[field], said === "true" ? true : said === "false" ? false : said]];
+  });
+  return Object.fromEntries(flags);
 }
 
-/** A part with those flags that it has, as a text: `Statement-last+before_else`. */
+// The arguments of a family behind its context: flags of the context, and in `<>` what is part of a name of the table.
+const ARGUMENTS = {
+  Function: "<kind,nameless>", FunctionAs: "<kind,nameless,async,generator>", Arrow: "<async>",
+  Pieces: "<tagged>", Method: "<private,kind,computed>", MethodAs: "<private,async,generator,computed>", MemberKey: "<private,computed>",
+  Key: "<computed>",
+  Class: "<kind,nameless>", FieldAs: "<computed>", Exported: "<source>", AllExported: "<source>",
+  Variables: "<kind>", Left: "<before_of>", Cases: "<default>", Case: "last <before,behind>",
+  Statement: "last before_else", Item: "last", Statements: "last", Body: "last",
+  Declared: "last", Default: "last", Export: "last", ModuleItem: "last", ModuleItems: "last", ModuleBody: "last",
+};
+// Families that have another name in the table, which is that of a level there.
+const RENAMED = { Member: "ClassMember" };
+const WITH_CONTEXT = [...TEXT.matchAll(/pub data Reads(\w+) : Allowed →/g)].map(([, name]) => name);
+
+/**
+ * What a text like `ReadsStatement c false true a s` reads, and the flags that it tells. Names that `bound` has stand for what it says. A
+ * kind has no name before its dot.
+ */
+export function readBy(text, bound = {}) {
+  const [family, ...all] = atomsOf(words(text).map((word) => bound[word] ?? word).join(" "));
+  const named = family.slice("Reads".length);
+  const isExpression = named === "Expression";
+  const hasContext = WITH_CONTEXT.includes(named);
+  const flags = hasContext ? flagsOfContext(all[0]) : {};
+  const behind = all.slice(hasContext ? 1 : 0);
+  if (isExpression) return { name: behind[0], flags };
+  const [, listed, chosen] = /^([^<]*)(?:<(.*)>)?$/.exec(ARGUMENTS[named] ?? "");
+  const own = listed.split(" ").filter(Boolean);
+  for (const [at, flag] of own.entries()) if (/^(true|false)$/.test(behind[at])) flags[flag] = behind[at] === "true";
+  const choices = chosen?.split(",").map((_, at) => behind[own.length + at].replace(/^\w+\./, "")) ?? [];
+  return { name: (RENAMED[named] ?? named) + (chosen ? `<${choices.join(",")}>` : ""), flags };
+}
+
+/** A part with those flags that it has, as a text: `Statement-last+before_else`, `Key<true>+in`. */
 export function toldPart({ name, flags }) {
   const own = flagsOf(name).filter((flag) => flags[flag] !== undefined);
-  return name.replace(/<.*/, "") + own.map((flag) => (flags[flag] ? "+" : "-") + flag).join("");
+  return name + own.map((flag) => (flags[flag] ? "+" : "-") + flag).join("");
 }
 
 /** The tokens in a text by their names, that of an operator, a class or the word of a declaration for one; a `_` says: on the same line. */
@@ -82,7 +122,9 @@ export function tokensIn(text) {
   add(/piece (\w+) \( Word \( declaring kind \) \)/g, () => "declaring");
   add(/piece (\w+) \( Word w \)/g, () => "word");
   add(/piece (\w+) \( Number w \)/g, () => "number");
-  add(/piece (\w+) \( Quoted q w \)/g, () => "quoted");
+  add(/piece (\w+) \( Quoted \w \w \)/g, () => "quoted");
+  add(/piece (\w+) \( Quoted quotes\.Backtick w \)/g, () => "template");
+  add(/piece (\w+) \( Beyond \( (\w+) w(?: flags)? \) \)/g, ([, , special]) => special);
   add(/group (\w+) (Round|Square|Brace)/g, ([, , bracket]) => bracket);
   add(/EndsBy (last)/g, () => "end");
   return found;

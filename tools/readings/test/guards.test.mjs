@@ -13,7 +13,7 @@ import { isTrue, option, shown, value } from "../values.mjs";
 
 const GRAMMAR = fileURLToPath(new URL("../../../crates/jsgen_model/specs/Grammar.antt", import.meta.url));
 
-const grammar = functionsIn(GRAMMAR, ["simple_target", "names_function", "may_name", "is_reference", "is_anonymous_function", "function_of"]);
+const grammar = functionsIn(GRAMMAR, ["simple_target", "names_function", "may_name", "is_reference", "is_anonymous_function", "function_of", "class_of"]);
 
 // Alphabets, each with the size up to which its expressions are tried.
 const ALPHABETS = [
@@ -22,18 +22,24 @@ const ALPHABETS = [
   ["a ? :", 5],
   ["a . ( [", 5],
   ["a => function ( {", 7],
+  ["a async await yield * =>", 4],
+  ["async function * ( {", 7],
+  ["a import meta . (", 4],
+  ["a class extends = ( {", 6],
+  ["a #a in . ?. (", 4],
+  ["a /b/g `s` `\\u` `h${ }m${ }t` (", 4],
 ];
 
 function* expressions() {
   for (const [tokens, most] of ALPHABETS) {
     const readings = new Readings({ tokens: tokens.split(" ") });
-    for (let size = 0; size <= most; size++) yield* readings.lists("Expression[+in]", size).values();
+    for (let size = 0; size <= most; size++) yield* readings.lists("Expression[+in+yield+await]", size).values();
   }
 }
 
 const trees = [...new Set(expressions())];
 
-// A tree as a value, in which `function_of` stands for what its clause says.
+// A tree as a value, in which `function_of` and `class_of` stand for what their clauses say.
 const valueOf = ({ name, parts }) => grammar.call(name, ...parts.map(valueOf));
 
 const values = new Map(trees.map((tree) => [tree, valueOf(tree)]));
@@ -43,7 +49,7 @@ test("each form of an expression is tried", () => {
   const forms = new Set(rows.flatMap(({ tree }) => /^tree\.\w+/.exec(tree)?.[0] ?? []));
   assert.ok(forms.size > 20);
   const tried = new Set(trees.map(({ name }) => name));
-  assert.deepEqual([...forms, "function_of"].filter((form) => !tried.has(form)), []);
+  assert.deepEqual([...forms, "function_of", "class_of"].filter((form) => !tried.has(form)), []);
 });
 
 test("simple targets are those of the grammar", () => {

@@ -2,12 +2,16 @@
 import assert from "node:assert/strict";
 import { readFileSync } from "node:fs";
 import { test } from "node:test";
+import { fileURLToPath } from "node:url";
+import { functionsIn } from "../interpret.mjs";
 import { words } from "../notation.mjs";
 import { ASSIGNMENT, BINARY, UNARY, UPDATE } from "../productions/operators.mjs";
 import { KINDS } from "../productions/rows.mjs";
 import { PRODUCTIONS } from "../productions/table.mjs";
 import { rowsByName } from "../rules.mjs";
 import { BRACKETS, RESERVED, SIGNS, isWord } from "../tokens.mjs";
+import { textTree, tree, treeOf } from "../trees.mjs";
+import { textValue } from "../values.mjs";
 import { atomsOf, productionsOfGrammar, readBy, toldPart, tokensIn } from "./grammar.mjs";
 
 const productions = productionsOfGrammar();
@@ -35,8 +39,16 @@ test("each makes the trees of the grammar", () => {
   }
 });
 
+// Grammar.antt has a name for a string's tree, which the reader doesn't use everywhere.
+test("a text has the tree that the grammar says", () => {
+  const file = fileURLToPath(new URL("../../../crates/jsgen_model/specs/Grammar.antt", import.meta.url));
+  const grammar = functionsIn(file, ["text_of"]);
+  assert.equal(treeOf(grammar.call("text_of", textValue("s"))), tree("text_of", textTree("s")));
+});
+
 const GUARDS = [
   "simple_target", "names_function", "on_same_line", "starts_in_brace", "starts_statement", "starts_with_directive", "may_precede_of",
+  "may_be_exported", "is_reference_alone",
 ];
 
 test("each has the guards of the grammar", () => {
@@ -47,21 +59,27 @@ test("each has the guards of the grammar", () => {
   }
 });
 
+const ASKED_FLAGS = [["c.in_operator", "in"], ["c.return_statement", "return"], ["c.yield_operand", "yield"], ["c.await_operand", "await"]];
+
 // `an_operation` computes its levels.
 test("each reads the parts of the grammar, in their contexts", () => {
-  for (const [{ name, premises, conclusion }, { whole, items }] of pairs()) {
+  for (const [{ name, premises, conclusion }, { row, whole, items }] of pairs()) {
     if (name === "an_operation") continue;
-    const outer = readBy(conclusion);
-    if (premises.some((premise) => premise.startsWith("c.return_statement ≡ true"))) outer.flags.return = true;
+    const outer = readBy(conclusion, row.bound);
+    for (const [word, flag] of ASKED_FLAGS) if (premises.includes(`${word} ≡ true`)) outer.flags[flag] = true;
     assert.equal(toldPart(whole), toldPart(outer), name);
     const within = (part) => toldPart({ name: part.name, flags: { ...whole.flags, ...part.flags } });
-    const wanted = premises.filter((premise) => premise.startsWith("Reads")).map(readBy);
+    const wanted = premises.filter((premise) => premise.startsWith("Reads")).map((premise) => readBy(premise, row.bound));
     assert.deepEqual(items.flatMap(({ part }) => (part ? within(part) : [])).sort(), wanted.map(within).sort(), name);
   }
 });
 
 const OPERATORS = new Map([...BINARY, ...UNARY, ...UPDATE, ...ASSIGNMENT].map(({ name, token }) => [name, token]));
-const CLASSES = { free: "word", name: "word", number: "number", big: "number", string: "quoted", quoted: "quoted" };
+const CLASSES = {
+  free: "word", name: "word", number: "number", big: "number", string: "quoted", quoted: "quoted", template: "template",
+  private: "Private", pattern: "Pattern", whole: "Whole", head: "Head", cooked_head: "Head",
+  cooked_middle: "Middle", raw_middle: "Middle", cooked_tail: "Tail", raw_tail: "Tail",
+};
 const CLOSING = Object.values(BRACKETS).map(([, close]) => close);
 
 // The names by which tokensIn has them.
@@ -91,14 +109,28 @@ const ASKED = {
   big: (label) => [`w ≡ ${label} ++ codes "n"`],
   string: (label) => [`string_value q w ≡ Some ${label}`, "is_backtick q ≡ false"],
   quoted: (label) => [`string_value q w ≡ Some ${label}`],
+  template: () => [],
+  private: (label) => [`word_value w ≡ Some ${label}`],
+  pattern: () => [],
+  whole: () => [],
+  head: () => [],
+  cooked_head: (label) => [`read_piece false w ≡ Some ${label}`],
+  cooked_middle: (label) => [`read_piece false w ≡ Some ${label}`],
+  raw_middle: (label) => [`read_piece true w ≡ Some ${label}`],
+  cooked_tail: (label) => [`read_piece false w ≡ Some ${label}`],
+  raw_tail: (label) => [`read_piece true w ≡ Some ${label}`],
 };
 
-const ASKS_OF_TOKEN = /\b(word_value|is_free_name|has_suffix|codes "n"|string_value|is_backtick)/;
+// Of two strings the second has other names.
+const asFirst = (premise) => premise.replace(/^string_value \w \w /, "string_value q w ").replace(/^is_backtick \w /, "is_backtick q ");
 
-test("each asks of names, numbers and strings what the grammar asks", () => {
-  for (const [{ name, premises }, { items }] of pairs()) {
+const ASKS_OF_TOKEN = /\b(word_value|is_free_name|has_suffix|codes "n"|string_value|is_backtick|read_piece)/;
+
+test("each asks of names, numbers, strings and pieces of templates what the grammar asks", () => {
+  for (const [{ name, premises }, { row, items }] of pairs()) {
     const asked = items.flatMap(({ className, labels }) => (className ? labels.flatMap(ASKED[className]) : []));
-    assert.deepEqual(asked.sort(), premises.filter((premise) => ASKS_OF_TOKEN.test(premise)).sort(), name);
+    const inRow = (premise) => words(asFirst(premise)).map((word) => row.bound?.[word] ?? word).join(" ");
+    assert.deepEqual(asked.sort(), premises.filter((premise) => ASKS_OF_TOKEN.test(premise)).map(inRow).sort(), name);
   }
 });
 

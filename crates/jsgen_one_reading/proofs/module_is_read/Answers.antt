@@ -1,5 +1,5 @@
-use Rattle.jsgen_one_reading.proofs.Complete as complete
+use Rattle.jsgen_one_reading.proofs.Modules as modules
 use Rattle.jsgen_one_reading.proofs.module_is_read.Goals as goal
 
 pub returns : goal.returns
-returns c = complete.module_read
+returns c = modules.module_read

@@ -9,7 +9,7 @@ use Rattle.jsgen_tree.specs.declared.collections.PropertyKind.{PropertyKind}
 use Rattle.jsgen_tree.specs.declared.collections.PropertyKind.TheVariants.{Init, Get, Set}
 use Rattle.jsgen_tree.specs.declared.functions.FunctionKind.{FunctionKind}
 use Rattle.jsgen_tree.specs.declared.functions.FunctionKind.TheVariants.{Declaration, Expression}
-use Rattle.jsgen_tree.specs.Atom.{Atom, no_value, text, units, flag, numeric_kind, declaration_kind, binary_operator, logical_operator, property_kind, unary_operator, update_operator, assignment_operator, kind_of_function}
+use Rattle.jsgen_tree.specs.Atom.{Atom, no_value, text, units, flag, numeric_kind, declaration_kind, binary_operator, logical_operator, property_kind, unary_operator, update_operator, assignment_operator, kind_of_function, kind_of_import}
 use Rattle.jsgen_tree.specs.Tree.{Tree, node, Slots, no_slots, one, maybe, many, Maybe, absent, given, Trees, no_trees, more, hole}
 use Rattle.jsgen_model.specs.Grammar.{declaring}
 use Rattle.jsgen_oracle.proofs.normal_samples.Goals as goal
@@ -44,6 +44,7 @@ same_value (update_operator o) (update_operator p) = bytes_eq (update_text o) (u
 same_value (assignment_operator o) (assignment_operator p) = bytes_eq (assignment_text o) (assignment_text p)
 same_value (property_kind k) (property_kind l) = same_property k l
 same_value (kind_of_function k) (kind_of_function l) = same_function k l
+same_value (kind_of_import k) (kind_of_import l) = true
 same_value no_value v = true
 same_value v w = false
 

@@ -1,5 +1,0 @@
-use Rattle.jsgen_pattern_samples.proofs.Refused.{pattern_without_value, pattern_without_value_in_head, comma_behind_rest, rest_with_default, pattern_of_rest_in_braces, reserved_shorthand, bound_member, bound_parentheses, value_before_of, caught_with_value, parameter_without_parentheses, member_as_parameter, brace_first, pattern_in_parentheses, pattern_in_parentheses_within, comma_behind_rest_target, pattern_of_rest_target_in_braces, default_by_other_sign, assigned_by_other_sign, default_in_object, default_in_object_of_member, unnamed_default, call_as_target, optional_link_as_target, pattern_in_parentheses_before_of, number_behind_key, number_as_default_in_object, element_behind_rest, pattern_of_rest_target_with_spaces, async_before_of, let_before_of, comma_behind_rest_property, rest_property_with_default, hole_in_object, computed_key_alone, comma_behind_rest_parameter, rest_parameter_with_default, comma_behind_parameter_of_setter, value_before_in, two_declared_before_of, rest_target_with_default, rest_target_property_with_default, comma_behind_rest_target_property, hole_in_object_target, computed_key_of_target_alone, reserved_target_shorthand, this_as_target, unnamed_function, unnamed_arrow_default, value_of_pattern_before_of}
-use Rattle.jsgen_pattern_samples.proofs.refused_patterns.Goals as goal
-
-pub returns : goal.returns
-returns c = record { pattern_without_value = pattern_without_value; pattern_without_value_in_head = pattern_without_value_in_head; comma_behind_rest = comma_behind_rest; rest_with_default = rest_with_default; pattern_of_rest_in_braces = pattern_of_rest_in_braces; reserved_shorthand = reserved_shorthand; bound_member = bound_member; bound_parentheses = bound_parentheses; value_before_of = value_before_of; caught_with_value = caught_with_value; parameter_without_parentheses = parameter_without_parentheses; member_as_parameter = member_as_parameter; brace_first = brace_first; pattern_in_parentheses = pattern_in_parentheses; pattern_in_parentheses_within = pattern_in_parentheses_within; comma_behind_rest_target = comma_behind_rest_target; pattern_of_rest_target_in_braces = pattern_of_rest_target_in_braces; default_by_other_sign = default_by_other_sign; assigned_by_other_sign = assigned_by_other_sign; default_in_object = default_in_object; default_in_object_of_member = default_in_object_of_member; unnamed_default = unnamed_default; call_as_target = call_as_target; optional_link_as_target = optional_link_as_target; pattern_in_parentheses_before_of = pattern_in_parentheses_before_of; number_behind_key = number_behind_key; number_as_default_in_object = number_as_default_in_object; element_behind_rest = element_behind_rest; pattern_of_rest_target_with_spaces = pattern_of_rest_target_with_spaces; async_before_of = async_before_of; let_before_of = let_before_of; comma_behind_rest_property = comma_behind_rest_property; rest_property_with_default = rest_property_with_default; hole_in_object = hole_in_object; computed_key_alone = computed_key_alone; comma_behind_rest_parameter = comma_behind_rest_parameter; rest_parameter_with_default = rest_parameter_with_default; comma_behind_parameter_of_setter = comma_behind_parameter_of_setter; value_before_in = value_before_in; two_declared_before_of = two_declared_before_of; rest_target_with_default = rest_target_with_default; rest_target_property_with_default = rest_target_property_with_default; comma_behind_rest_target_property = comma_behind_rest_target_property; hole_in_object_target = hole_in_object_target; computed_key_of_target_alone = computed_key_of_target_alone; reserved_target_shorthand = reserved_target_shorthand; this_as_target = this_as_target; unnamed_function = unnamed_function; unnamed_arrow_default = unnamed_arrow_default; value_of_pattern_before_of = value_of_pattern_before_of }

@@ -1,5 +1,0 @@
-use Rattle.jsgen_pattern_samples.proofs.Targets.{object_at_start, object_at_start_with_spaces, left_out_and_rest, left_out_and_rest_with_spaces, last_left_out, last_left_out_with_spaces, names_alone, names_behind_keys, body_of_arrow, body_of_arrow_with_spaces, first_part_of_value, first_part_of_value_with_spaces, first_part_of_statement, first_part_of_statement_with_spaces, member_of_empty_object, member_of_empty_object_with_spaces, element_that_begins_with_brace, element_that_begins_with_brace_with_spaces, other_name_with_default, other_name_with_default_with_spaces, own_name_behind_key, own_name, own_name_with_spaces, rest_into_array}
-use Rattle.jsgen_pattern_samples.proofs.target_patterns.Goals as goal
-
-pub returns : goal.returns
-returns c = record { object_at_start = object_at_start; object_at_start_with_spaces = object_at_start_with_spaces; left_out_and_rest = left_out_and_rest; left_out_and_rest_with_spaces = left_out_and_rest_with_spaces; last_left_out = last_left_out; last_left_out_with_spaces = last_left_out_with_spaces; names_alone = names_alone; names_behind_keys = names_behind_keys; body_of_arrow = body_of_arrow; body_of_arrow_with_spaces = body_of_arrow_with_spaces; first_part_of_value = first_part_of_value; first_part_of_value_with_spaces = first_part_of_value_with_spaces; first_part_of_statement = first_part_of_statement; first_part_of_statement_with_spaces = first_part_of_statement_with_spaces; member_of_empty_object = member_of_empty_object; member_of_empty_object_with_spaces = member_of_empty_object_with_spaces; element_that_begins_with_brace = element_that_begins_with_brace; element_that_begins_with_brace_with_spaces = element_that_begins_with_brace_with_spaces; other_name_with_default = other_name_with_default; other_name_with_default_with_spaces = other_name_with_default_with_spaces; own_name_behind_key = own_name_behind_key; own_name = own_name; own_name_with_spaces = own_name_with_spaces; rest_into_array = rest_into_array }

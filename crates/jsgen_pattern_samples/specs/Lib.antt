@@ -1,4 +1,0 @@
-pub mod ReadPatterns
-pub mod TargetPatterns
-pub mod HeadPatterns
-pub mod RefusedPatterns

@@ -1,5 +1,0 @@
-use Rattle.jsgen_reading_laws.proofs.Unrenamed.{unrenamed}
-use Rattle.jsgen_reading_laws.proofs.no_tables_rename_nothing.Goals as goal
-
-pub returns : goal.returns
-returns c = unrenamed

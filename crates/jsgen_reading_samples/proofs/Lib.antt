@@ -1,0 +1,10 @@
+pub mod Written
+pub mod Parts
+pub mod Read
+pub mod Targets
+pub mod Heads
+pub mod ReadFunctions
+pub mod Refused
+pub mod RefusedFunctions
+pub mod RefusedTexts
+pub mod RefusedVectors

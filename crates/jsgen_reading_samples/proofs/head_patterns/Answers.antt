@@ -1,0 +1,5 @@
+use Rattle.jsgen_reading_samples.proofs.Heads.{object_before_of, object_before_of_with_spaces, in_in_default_before_of, in_in_default_before_of_with_spaces, pattern_within_pattern, pattern_within_pattern_with_spaces, member_of_empty_object, member_of_empty_object_with_spaces, async_in_parentheses, async_in_parentheses_with_spaces, async_over_other, async_over_other_with_spaces}
+use Rattle.jsgen_reading_samples.proofs.head_patterns.Goals as goal
+
+pub returns : goal.returns
+returns c = record { object_before_of = object_before_of; object_before_of_with_spaces = object_before_of_with_spaces; in_in_default_before_of = in_in_default_before_of; in_in_default_before_of_with_spaces = in_in_default_before_of_with_spaces; pattern_within_pattern = pattern_within_pattern; pattern_within_pattern_with_spaces = pattern_within_pattern_with_spaces; member_of_empty_object = member_of_empty_object; member_of_empty_object_with_spaces = member_of_empty_object_with_spaces; async_in_parentheses = async_in_parentheses; async_in_parentheses_with_spaces = async_in_parentheses_with_spaces; async_over_other = async_over_other; async_over_other_with_spaces = async_over_other_with_spaces }
