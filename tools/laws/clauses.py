@@ -11,11 +11,12 @@ from terms import head, shown
 # What is asked of an index of this kind.
 FREE = {"Tree": "Free", "Trees": "FreeTrees", "Maybe": "FreeMaybe"}
 
-# A template behind its tag, and the pieces of one: Free holds of no tree that they stand in.
-LEFT_OUT = ("ReadsTemplate", "ReadsPieces")
+# A template behind its tag, and the pieces of one: Free holds of no tree that they stand in. A program, which may have a hashbang,
+# that isn't among the tokens: what is said of it stands in Plainness.antt.
+LEFT_OUT = ("ReadsTemplate", "ReadsPieces", "ReadsProgram")
 
 # The types of which Free doesn't hold, and those of which it says something of their own (Free.antt).
-REFUSED = ("types.PrivateIdentifier", "types.RegExpLiteral", "types.TaggedTemplateExpression")
+REFUSED = ("types.PrivateIdentifier", "types.Hashbang", "types.RegExpLiteral", "types.TaggedTemplateExpression")
 TEMPLATE = "types.TemplateLiteral"
 PROGRAM = "types.Program"
 

@@ -1,4 +1,4 @@
-"""What Grammar.antt and Nodes.antt have: families with their productions, and trees that are abbreviated."""
+"""What Grammar.antt, Premises.antt and Nodes.antt have: families with their productions, trees that are abbreviated, and rows."""
 
 import re
 from dataclasses import dataclass
@@ -23,10 +23,15 @@ class Family:
     mutual: bool
 
 
+def unbroken(text):
+    """The text with each production on one line: a long one is broken before its conclusion."""
+    return re.sub(r"\n +→ ", " → ", text)
+
+
 def families(text):
     """The families of productions, in their order."""
     found = []
-    for line in text.split("\n"):
+    for line in unbroken(text).split("\n"):
         begins = re.match(r"( *)pub data (Reads\w+) : (.*) → Type 0 where$", line)
         if begins:
             indent, name, kinds = begins.groups()
@@ -67,7 +72,7 @@ def rows(text):
 
 
 def abbreviated(text):
-    """Each other tree that the grammar has a name for."""
+    """Each other tree that the premises of the grammar have a name for."""
     found = re.findall(r"(?m)^abbrev pub (\w+) : (?:.* → )?Tree\n\1((?: \w+)*) = (.*)$", text)
     return {name: (given.split(), term(body)) for name, given, body in found}
 

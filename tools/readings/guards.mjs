@@ -1,4 +1,4 @@
-// The premises of productions that say more than what is read from which tokens, by the names that they have in Grammar.antt. Each is made
+// The premises of productions that say more than what is read from which tokens, by the names that they have in Premises.antt. Each is made
 // for labels of a production, and looks at what they stand for: `found[label]` with its `tokens` and its `tree`.
 import { isFreeName, isOnNewLine, isTemplate, isString, isWord, nameOf, sizeOf, tokenAt } from "./tokens.mjs";
 

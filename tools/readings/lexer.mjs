@@ -2,6 +2,9 @@
 // expression, of which the grammar takes one. Of numbers those of decimal digits are known, and of strings those without escapes.
 import { BRACKETS, LINE_END, SIGNS, nameOf } from "./tokens.mjs";
 
+// The first line, where it begins so, is no token (12.5); its line end is a blank before the first.
+const HASHBANG = /^#![^\n\r\u2028\u2029]*/;
+
 const BLANKS = /[ \t\n\r\u2028\u2029]*/y;
 const HAS_LINE_END = /[\n\r\u2028\u2029]/;
 
@@ -26,7 +29,8 @@ const SIGNS_BY_LENGTH = [...Object.keys(SIGNS), ...Object.keys(BRACKETS), ...CLO
 
 /**
  * Each list of tokens that a text is and that may be read, by their texts, with LINE_END before each that a line end stands before. There are
- * several where the text has a slash, which may begin a regular expression; there is none where a token is of another kind.
+ * several where the text has a slash, which may begin a regular expression; there is none where a token is of another kind. A hashbang at
+ * the front of the text is none of them.
  */
 export function tokenListsOf(text) {
   const lists = [];
@@ -36,7 +40,7 @@ export function tokenListsOf(text) {
     if (begin === text.length) lists.push(tokens);
     else for (const token of tokensAt(text, begin, open)) goOn(begin + token.length, [...tokens, ...marked(gap, token)], openedBy(token, open));
   };
-  goOn(0, [], []);
+  goOn(HASHBANG.exec(text)?.[0].length ?? 0, [], []);
   return lists;
 }
 

@@ -1,7 +1,7 @@
 // The constructors of Grammar.antt as they are applied: their arguments, and what of them speaks of tokens.
 import { readFileSync } from "node:fs";
 import { words } from "../readings/notation.mjs";
-import { atomsOf } from "../readings/test/grammar.mjs";
+import { atomsOf, unbroken } from "../readings/test/grammar.mjs";
 
 const GRAMMAR = new URL("../../crates/jsgen_model/specs/Grammar.antt", import.meta.url);
 
@@ -29,7 +29,7 @@ function read() {
   const families = new Map();
   const constructors = new Map();
   let family = null;
-  for (const line of readFileSync(GRAMMAR, "utf8").split("\n")) {
+  for (const line of unbroken(readFileSync(GRAMMAR, "utf8")).split("\n")) {
     const data = /^\s*pub data (\w+) : (.*) → Type 0/.exec(line);
     if (data) {
       family = data[1];

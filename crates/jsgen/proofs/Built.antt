@@ -11,7 +11,7 @@ use Rattle.jsgen_comments.specs.Plain.{comment_plain}
 use Rattle.jsgen_map.specs.declared.source_map.SourceMap.{SourceMap}
 use Rattle.jsgen_place.specs.Place.{among_statements}
 use Rattle.jsgen_model.specs.Comments.{Store, Groups, comment_at, kept, kept_annotations}
-use Rattle.jsgen_model.specs.Ends.{is_apart, licensed, moved_licences}
+use Rattle.jsgen_model.specs.Ends.{stand_apart, licensed, moved_licences}
 use Rattle.jsgen_model.specs.Layout.{Pen, empty_pen, style_of}
 use Rattle.jsgen_model.specs.Lay.{lay}
 use Rattle.jsgen_model.specs.Spell.{spell, comments_in, source_bytes, text_bytes}
@@ -54,7 +54,7 @@ end_is job e pen q b = ap₂ (λ l cs. licensed l cs q) b.legal (plain_rows (sou
 
 -- those that stand in a file of their own
 pub apart_is : (job : JobData) (e : End) (pen : Pen) → Built job e pen → apart e ≡ job_licences job
-apart_is job e pen b = ap₂ (λ l rows. if is_apart l then rows else []) b.legal b.licences
+apart_is job e pen b = ap₂ (λ l rows. if stand_apart l then rows else []) b.legal b.licences
 
 -- ---- the text
 

@@ -33,7 +33,7 @@ use Rattle.jsgen_model.specs.Lay.{lay}
 use Rattle.jsgen_model.specs.Mapped.{mapped_pen, marks_of, names_in, source_bytes, tokens_in}
 use Rattle.jsgen_model.specs.Spell.{spell, comments_in, first_pen, text_bytes}
 use Rattle.jsgen_mark_laws.specs.Law.{Adds, Right}
-use Rattle.jsgen_mark_laws.specs.Names.{names_of, Stand}
+use Rattle.jsgen_mark_laws.specs.Names.{names_of, NamePlaces}
 use Rattle.jsgen_mark_laws.proofs.Maps.{are_marks}
 use Rattle.jsgen_mark_laws.proofs.Comments.{marks_kept, passes_licences}
 use Rattle.jsgen_mark_laws.proofs.Marked.{step_then}
@@ -124,10 +124,10 @@ names_stand_in job (Some m) =
     let items : Items = spell job.program among_statements in
     let laid : Pen = lay items (mapped_pen job) in
     let end = passes_licences job.options.comments.legal (job_end job) laid in
-    let behind : Stand (job_whole job (mapped_pen job)).code (job_whole job (mapped_pen job)).marks 0 (names_of items (mapped_pen job)) = stand_longer end.adds 0 (names_of items (mapped_pen job)) (names_stand items (mapped_pen job) (source_bytes job) refl (record { ordered = omega arith; parted = tt; placed = tt })) in
-    subst (λ (code : List ℕ). Stand code (marks_of job) 0 (names_of items (mapped_pen job)))
+    let behind : NamePlaces (job_whole job (mapped_pen job)).code (job_whole job (mapped_pen job)).marks 0 (names_of items (mapped_pen job)) = stand_longer end.adds 0 (names_of items (mapped_pen job)) (names_stand items (mapped_pen job) (source_bytes job) refl (record { ordered = omega arith; parted = tt; placed = tt })) in
+    subst (λ (code : List ℕ). NamePlaces code (marks_of job) 0 (names_of items (mapped_pen job)))
     (ended_alike items job.options.comments.legal (job_end job) (first_pen job) (Some (source_bytes job)))
-    (subst (λ (ms : List Mark). Stand (job_whole job (mapped_pen job)).code ms 0 (names_of items (mapped_pen job))) (marks_kept end) behind)
+    (subst (λ (ms : List Mark). NamePlaces (job_whole job (mapped_pen job)).code ms 0 (names_of items (mapped_pen job))) (marks_kept end) behind)
 
 -- ---- the source
 

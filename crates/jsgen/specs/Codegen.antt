@@ -22,6 +22,10 @@ options_of c = options_plain c.options
 abbrev pub tables_of : Codegen → Tables
 tables_of c = tables_plain c.tables
 
+-- the source text that print calls were given, in bytes
+abbrev pub source_text_of : Codegen → List ℕ
+source_text_of c = c.source_text.now
+
 -- what it is asked for with a program
 abbrev pub job_for : Codegen → Tree → JobData
 job_for c program = record { options = options_of c; tables = tables_of c; program = program }
@@ -48,6 +52,7 @@ pub record Prints {T E : Type 0} (old new : Codegen) (pen : Pen) (result : Resul
   pub printed : has_printed new ≡ true
   pub options : options_of new ≡ options_of old
   pub tables : tables_of new ≡ tables_of old
+  pub source_text : source_text_of new ≡ source_text_of old
 
 -- the pen at a level, which from here on leaves marks that lead to this source
 abbrev pub mapped_from : ℕ → List ℕ → Pen → Pen

@@ -6,7 +6,7 @@ use Rattle.jsgen_tree.specs.Rows.{comment_row}
 use Rattle.jsgen_tree.specs.Tree.{Atoms, atoms_of}
 use Rattle.jsgen_tree.specs.declared.statements.Comment.{Comment}
 use Rattle.jsgen_comments.specs.Plain.{comment_plain}
-use Rattle.jsgen_model.specs.Ends.{licensed, is_apart, licences_apart}
+use Rattle.jsgen_model.specs.Ends.{licensed, stand_apart, licences_apart}
 use Rattle.jsgen_model.specs.Layout.{Pen}
 use Rattle.jsgen_model.specs.Spell.{comments_in, source_bytes}
 use Rattle.jsgen.specs.declared.licences.End.{End}
@@ -25,4 +25,4 @@ job_licences job = licences_apart job.options.comments.legal (source_bytes job) 
 
 -- those of a printer
 abbrev pub apart : End → List Atoms
-apart e = if is_apart (legal_plain e.legal.now) then rows_plain e.licences.items else []
+apart e = if stand_apart (legal_plain e.legal.now) then rows_plain e.licences.items else []

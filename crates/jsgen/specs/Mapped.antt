@@ -9,7 +9,7 @@ use Rattle.jsgen_map.specs.declared.source_map.SourceMap.{SourceMap}
 use Rattle.jsgen_map_text.specs.Lines.{map_text}
 use Rattle.jsgen_model.specs.Mapped.{mapped_pen, marks_of, source_bytes}
 use Rattle.jsgen_model.specs.Spell.{printed, spell, text_bytes}
-use Rattle.jsgen_mark_laws.specs.Names.{names_of, Stand}
+use Rattle.jsgen_mark_laws.specs.Names.{names_of, NamePlaces}
 
 -- a map has the path that it was asked for, the job's source, and the names and tokens of the marks
 pub record IsMapOf (job : JobData) (path : List ℕ) (m : SourceMap) : Type 0 where
@@ -26,7 +26,7 @@ HasMap job (Some m) = (path : List ℕ) × IsMapOf job path m
 -- each name that is printed and has a span in the source stands at a place of its own, where the last mark is that of its span
 abbrev pub NamesStandIn : JobData → Option SourceMap → Type 0
 NamesStandIn job None = ⊤
-NamesStandIn job (Some m) = Stand (printed job) (marks_of job) 0 (names_of (spell job.program among_statements) (mapped_pen job))
+NamesStandIn job (Some m) = NamePlaces (printed job) (marks_of job) 0 (names_of (spell job.program among_statements) (mapped_pen job))
 
 -- the lines of a map, if there is one
 abbrev pub lines_of : Option SourceMap → List ℕ

@@ -80,6 +80,7 @@ pub struct Codegen<'a> {
     alloc: Global,
     options: CodegenOptions,
     tables: Tables<'a>,
+    source_text: &'a str,
     printer: Printer<'a>,
     has_printed: bool,
     ghost fresh: { has_printed ≡ false → pen_of printer ≡ empty_pen (style_of (options_plain options) (tables_plain tables)) 0 },
@@ -87,12 +88,13 @@ pub struct Codegen<'a> {
 
 impl<'a> Codegen<'a> {
     ghost use Rattle.std.specs.Prelude.{is_err};
-    ghost use Rattle.jsgen.specs.Codegen.{options_of, tables_of, job_for, has_printed, has_failed, pen_at, printed_so_far, Prints};
+    ghost use Rattle.jsgen.specs.Codegen.{options_of, tables_of, source_text_of, job_for, has_printed, has_failed, pen_at, printed_so_far, Prints};
 
     /// A printer by the default options, of pretty text, that prints each name as it is.
     pub fn new(alloc: Global) -> Codegen<'a>
         ensures options { options_of result ≡ default_options }
         ensures tables { tables_of result ≡ no_tables }
+        ensures source_text { source_text_of result ≡ [] }
         ensures printed { has_printed result ≡ false }
         ensures failed { has_failed result ≡ false }
         ensures empty { pen_at result ≡ empty_pen (style_of default_options no_tables) 0 }
@@ -103,6 +105,7 @@ impl<'a> Codegen<'a> {
             alloc,
             options: defaults,
             tables: Tables::none(),
+            source_text: "",
             printer,
             has_printed: false,
         }
@@ -113,6 +116,7 @@ impl<'a> Codegen<'a> {
         requires unprinted { has_printed self ≡ false }
         ensures options { options_of result ≡ options_plain options }
         ensures tables { tables_of result ≡ tables_of self.entry }
+        ensures source_text { source_text_of result ≡ source_text_of self.entry }
         ensures printed { has_printed result ≡ false }
         ensures failed { has_failed result ≡ false }
         ensures empty { pen_at result ≡ empty_pen (style_of (options_plain options) (tables_of self.entry)) 0 }
@@ -122,6 +126,7 @@ impl<'a> Codegen<'a> {
             alloc: self.alloc,
             options,
             tables: self.tables,
+            source_text: self.source_text,
             printer,
             has_printed: self.has_printed,
         }
@@ -132,6 +137,7 @@ impl<'a> Codegen<'a> {
     pub fn with_scoping(self, scoping: Option<&'a Scoping>) -> Codegen<'a>
         ensures options { options_of result ≡ options_of self.entry }
         ensures tables { tables_of result ≡ record (tables_of self.entry) { scoping = option_map (λ s. scoping_plain s.now) scoping.entry } }
+        ensures source_text { source_text_of result ≡ source_text_of self.entry }
         ensures printed { has_printed result ≡ has_printed self.entry }
         ensures failed { has_failed result ≡ has_failed self.entry }
         ensures pen { pen_at result ≡ by_tables (tables_of result) (pen_at self.entry) }
@@ -149,6 +155,7 @@ impl<'a> Codegen<'a> {
     pub fn with_private_member_mappings(self, mappings: Option<&'a PrivateMappings>) -> Codegen<'a>
         ensures options { options_of result ≡ options_of self.entry }
         ensures tables { tables_of result ≡ record (tables_of self.entry) { private = option_map (λ p. private_plain p.now) mappings.entry } }
+        ensures source_text { source_text_of result ≡ source_text_of self.entry }
         ensures printed { has_printed result ≡ has_printed self.entry }
         ensures failed { has_failed result ≡ has_failed self.entry }
         ensures pen { pen_at result ≡ by_tables (tables_of result) (pen_at self.entry) }
@@ -160,10 +167,31 @@ impl<'a> Codegen<'a> {
         self.with_tables(tables)
     }
 
+    /// The same printer with this source text for print calls, which print no comments and give no marks, so that nothing that they
+    /// print depends on it. `build` takes the source of its program.
+    pub fn with_source_text(self, source_text: &'a str) -> Codegen<'a>
+        ensures options { options_of result ≡ options_of self.entry }
+        ensures tables { tables_of result ≡ tables_of self.entry }
+        ensures source_text { source_text_of result ≡ source_text.now }
+        ensures printed { has_printed result ≡ has_printed self.entry }
+        ensures failed { has_failed result ≡ has_failed self.entry }
+        ensures pen { pen_at result ≡ pen_at self.entry }
+    {
+        Codegen {
+            alloc: self.alloc,
+            options: self.options,
+            tables: self.tables,
+            source_text,
+            printer: self.printer,
+            has_printed: self.has_printed,
+        }
+    }
+
     // The same printer by these tables.
     fn with_tables(self, tables: Tables<'a>) -> Codegen<'a>
         ensures options { options_of result ≡ options_of self.entry }
         ensures tables { tables_of result ≡ tables_plain tables.entry }
+        ensures source_text { source_text_of result ≡ source_text_of self.entry }
         ensures printed { has_printed result ≡ has_printed self.entry }
         ensures failed { has_failed result ≡ has_failed self.entry }
         ensures pen { pen_at result ≡ by_tables (tables_of result) (pen_at self.entry) }
@@ -172,9 +200,17 @@ impl<'a> Codegen<'a> {
             alloc: self.alloc,
             options: self.options,
             tables,
+            source_text: self.source_text,
             printer: self.printer.with_tables(tables),
             has_printed: self.has_printed,
         }
+    }
+
+    /// The source text that print calls were given.
+    pub fn source_text(&self) -> &'a str
+        ensures { result.now ≡ source_text_of self.now }
+    {
+        self.source_text
     }
 
     /// Whether a print call was made.

@@ -13,7 +13,8 @@ use jsgen_syntax::Precedence;
 use jsgen_tree::GetSpan;
 
 /// What is printed by itself: as what holds it in a tree prints it, with nothing round it. A statement is printed as it
-/// stands among statements.
+/// stands among statements. A print call stores no comments, so that what it adds is woven of the bones of its items alone
+/// (`items_are_woven` of jsgen_comment_laws), with annotations as they are written.
 pub trait Gen: GetSpan + PrintAlone {
     final fn gen_node(&self, p: &mut Codegen<'_>, ctx: Context) -> Result<(), CodegenError>
         requires unfailed { has_failed p.old ≡ false }
@@ -31,7 +32,7 @@ pub trait Gen: GetSpan + PrintAlone {
     }
 }
 
-/// What is printed at a level, which decides whether parentheses stand round it.
+/// What is printed at a level, which decides whether parentheses stand round it; of comments and annotations as by `Gen`.
 pub trait GenExpr: GetSpan + PrintAtLevel {
     final fn gen_expr(
         &self,

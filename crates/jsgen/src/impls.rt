@@ -72,6 +72,7 @@ use jsgen_tree::ImportMeta;
 use jsgen_tree::LabelIdentifier;
 use jsgen_tree::LabeledStatement;
 use jsgen_tree::LogicalExpression;
+use jsgen_tree::MemberExpression;
 use jsgen_tree::MethodDefinition;
 use jsgen_tree::ModuleExportName;
 use jsgen_tree::NewExpression;
@@ -308,6 +309,8 @@ impl GenExpr for Expression {}
 impl Gen for Argument {}
 
 impl Gen for ArrayExpressionElement {}
+
+impl GenExpr for MemberExpression {}
 
 impl GenExpr for SimpleAssignmentTarget {}
 

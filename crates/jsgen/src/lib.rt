@@ -17,7 +17,7 @@ pub use jsgen_fields::{At, InputFault};
 pub use jsgen_jobs::{JobFault, PrintJobs};
 pub use jsgen_map::{SourceMap, Token};
 pub use jsgen_model::{TreeFault, plain_by_types};
-pub use jsgen_printer::{Context, Operator};
+pub use jsgen_printer::{AnnotationKind, CommentsMap, Context, Operator};
 pub use jsgen_rows::{Job, job_faults_are_told, read_job};
 pub use jsgen_syntax::{
     AssignmentOperator, BinaryOperator, IndentChar, JsStr, LogicalOperator, Memory, Precedence,

@@ -4,7 +4,7 @@ ghost use Rattle.jsgen_tree.specs.Options.{legal_plain};
 ghost use Rattle.jsgen_tree.specs.Tree.{trees, atoms_of};
 ghost use Rattle.jsgen_tree.specs.Rows.{comment_row};
 ghost use Rattle.jsgen_jobs.specs.LegalText.{licence_line};
-ghost use Rattle.jsgen_model.specs.Ends.{moved_licences, is_apart};
+ghost use Rattle.jsgen_model.specs.Ends.{moved_licences, stand_apart};
 ghost use Rattle.jsgen.specs.Licences.{apart, rows_plain};
 
 use crate::codegen::CodegenError;

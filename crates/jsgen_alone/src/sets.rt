@@ -1,7 +1,7 @@
 // Generated from tools/nodes/table.txt; edit that and run tools/nodes/generate.
 // What is printed by itself, or at a level.
 ghost use Rattle.jsgen_tree.specs.Tree.{type_of};
-ghost use Rattle.jsgen_tree.specs.Rows.{in_argument, in_array_expression_element, in_simple_assignment_target, in_assignment_target_pattern, in_assignment_target_maybe_default, in_assignment_target_property, in_for_statement_init, in_for_statement_left, in_object_property_kind, in_property_key, in_module_export_name, in_export_default_declaration_kind, expression_plain, assignment_target_plain, statement_plain, binding_pattern_plain, class_element_plain};
+ghost use Rattle.jsgen_tree.specs.Rows.{in_argument, in_array_expression_element, in_member_expression, in_simple_assignment_target, in_assignment_target_pattern, in_assignment_target_maybe_default, in_assignment_target_property, in_for_statement_init, in_for_statement_left, in_object_property_kind, in_property_key, in_module_export_name, in_export_default_declaration_kind, expression_plain, assignment_target_plain, statement_plain, binding_pattern_plain, class_element_plain};
 ghost use Rattle.jsgen_syntax.specs.declared.precedence.Precedence.TheVariants.{Lowest, Comma};
 ghost use Rattle.jsgen_place.specs.Place.{at_level, in_brackets, among_statements, within_statement, loop_head, plainly};
 ghost use Rattle.jsgen_model.specs.Items.{◌⊕◌};
@@ -14,7 +14,7 @@ use jsgen_nodes::collections::{print_key_text, print_object_property};
 use jsgen_nodes::loops::print_left;
 use jsgen_nodes::modules::print_export_default_declaration_kind;
 use jsgen_nodes::sets::{
-    print_assignment_target, print_binding_pattern, print_expression,
+    print_assignment_target, print_binding_pattern, print_expression, print_member_expression,
     print_simple_assignment_target, print_statement,
 };
 use jsgen_nodes::targets::{
@@ -30,8 +30,8 @@ use jsgen_targets::print_assignment_target_with_default;
 use jsgen_tree::{
     Argument, ArrayExpressionElement, AssignmentTarget, AssignmentTargetMaybeDefault,
     AssignmentTargetPattern, AssignmentTargetProperty, BindingPattern, ClassElement,
-    ExportDefaultDeclarationKind, Expression, ForStatementInit, ForStatementLeft, ModuleExportName,
-    ObjectPropertyKind, PropertyKey, SimpleAssignmentTarget, Statement,
+    ExportDefaultDeclarationKind, Expression, ForStatementInit, ForStatementLeft, MemberExpression,
+    ModuleExportName, ObjectPropertyKind, PropertyKey, SimpleAssignmentTarget, Statement,
 };
 
 impl<N: PrintNode> PrintAtLevel for Expression<N> {
@@ -67,6 +67,14 @@ impl<N: PrintNode> PrintAlone for ArrayExpressionElement<N> {
             ),
             ArrayExpressionElement::Expression(node) => node.get().print(p, place),
         }
+    }
+}
+
+impl<N: PrintNode> PrintAtLevel for MemberExpression<N> {
+    ghost plain = { in_member_expression N.plain };
+
+    fn print_at(&self, p: &mut Printer<'_>, place: Place) {
+        print_member_expression(self, p, place);
     }
 }
 

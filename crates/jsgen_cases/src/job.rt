@@ -2,6 +2,7 @@
 ghost use Rattle.std.specs.Prelude.{◌≡◌, false};
 ghost use Rattle.jsgen.specs.Codegen.{has_printed};
 
+use crate::every::{printer_of, push_every};
 use crate::nodes::{expression_in, print_asked, push_code, push_spans};
 use crate::operator::push_operator;
 use crate::push::{push_each, push_where};
@@ -35,12 +36,9 @@ fn push_of(alloc: Global, asked: &str, job: &Job, answer: &mut String) -> Result
             let tried = try_print(&mut p, expression_in(&job.program));
             push_tried(tried, p, answer)
         }
+        "every" => push_every(alloc, job, answer),
         _ => {
-            let options = job.options.clone(alloc)?;
-            let mut printer = Codegen::new(alloc)
-                .with_options(options)
-                .with_scoping(job.scoping.as_ref())
-                .with_private_member_mappings(job.private.as_ref());
+            let mut printer = printer_of(alloc, job)?;
             if asked == "program" {
                 return push_program(printer, &job.program, answer);
             }

@@ -5,8 +5,10 @@
 #![tactic(auto)]
 
 mod buffer;
+mod every;
 mod job;
 mod level;
+mod map;
 mod name;
 mod nodes;
 mod operator;
@@ -21,9 +23,11 @@ mod tokens;
 mod value;
 
 use buffer::push_buffer;
+use every::{push_member_expressions, push_target_patterns};
 use job::push_of_job;
 use jsgen_syntax::Memory;
 use level::{push_context, push_level};
+use map::{push_map, push_places};
 use name::{push_log, push_name};
 use operator::push_wrapped;
 use printed::push_printed;
@@ -71,7 +75,11 @@ fn push_of_calls(
         "context" => push_context(alloc, rest, answer),
         "sets" => push_sets(rest, answer),
         "buffer" => push_buffer(alloc, rest, answer),
+        "map" => push_map(alloc, rest, answer),
+        "lines" => push_places(alloc, how, rest, answer),
         "wrapped" => push_wrapped(alloc, answer),
+        "target_patterns" => push_target_patterns(alloc, answer),
+        "member_expressions" => push_member_expressions(alloc, answer),
         "log" => push_log(alloc, how, rest, answer),
         _ => Ok(answer.push_str("no question")?),
     }

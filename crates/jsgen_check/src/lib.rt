@@ -8,7 +8,8 @@ ghost use Rattle.jsgen_tree.specs.Plain.{node_plain, program_plain};
 ghost use Rattle.jsgen_tree.specs.Options.{options_plain};
 ghost use Rattle.jsgen_tree.specs.Rows.{expression_plain};
 ghost use Rattle.jsgen_tree.specs.declared.types.NodeSet.TheVariants as sets;
-ghost use Rattle.jsgen_model.specs.Valid.{job_breaches, expression_breaches, set_faults, link_faults, uncooked_faults, is_among_statements, binds_nothing, Judges};
+ghost use Rattle.jsgen_model.specs.Valid.{job_breaches, expression_breaches, fault_if, may_stand, fits_kind, misfit, set_faults, link_faults, uncooked_faults, is_among_statements, binds_nothing, Judges};
+ghost use Rattle.jsgen_model.specs.declared.fault.TreeFault.TheVariants as faults;
 ghost use Rattle.jsgen_rules.specs.Verdict.{verdict};
 ghost use Rattle.jsgen_model.specs.Resolved.{after};
 ghost use Rattle.jsgen_check.specs.Verdict.{tables_of, surroundings_plain, tree_verdict, child_verdict, SameNumber, told};
@@ -44,7 +45,7 @@ use crate::kinds::{expression_fits_kind, method_fits};
 use crate::links::{expression_has_optional_link, has_optional_link};
 use crate::pieces::{expression_has_uncooked, has_uncooked};
 use crate::program::check_program_row;
-use crate::rules::binds_nothing;
+use crate::rules::{binds_nothing, unbound};
 use crate::sets::{
     check_assignment_target_set, check_binding_pattern_set, check_class_element_set,
     check_declaration_set, check_expression_set, check_statement_set,
@@ -53,7 +54,7 @@ pub use crate::surroundings::Surroundings;
 use jsgen_model::TreeFault;
 use jsgen_rules::{
     Classes, check_no_optional_link, check_no_uncooked, check_set, class_fits, function_fits,
-    is_among_statements, is_declaration, takes_optional_link, takes_uncooked,
+    is_among_statements, is_declaration, may_stand, takes_optional_link, takes_uncooked,
 };
 use jsgen_tree::{
     CodegenOptions, Expression, GetSpan, IdentifierReference, Node, NodeSet, NodeType,
@@ -66,7 +67,7 @@ pub trait CheckNode {
     ghost use Rattle.std.specs.Str.{chars};
     ghost use Rattle.jsgen_tree.specs.Tree.{Tree};
     ghost use Rattle.jsgen_tree.specs.Inside.{without_parentheses, has_optional_link, looked_up_in, named_by, written_name_in, is_negative};
-    ghost use Rattle.jsgen_model.specs.Valid.{is_declaration, fits_kind, fits_method, binds_nothing, has_uncooked};
+    ghost use Rattle.jsgen_model.specs.Valid.{is_declaration, fits_kind, fits_method, binds_nothing, unbound, has_uncooked};
     ghost use Rattle.jsgen_check.specs.Heads.{misfits_left};
 
     ghost plain: { Self → Tree };
@@ -116,6 +117,10 @@ pub trait CheckNode {
     /// Whether it is a declaration that binds a pattern and gives it no value.
     fn binds_nothing(&self) -> bool
         ensures { result ≡ binds_nothing (plain self.now) };
+
+    /// Where it is one: the start of its first declarator that lacks a value. Of all else its own.
+    fn unbound_start(&self) -> u32
+        ensures { result ≡ (unbound (plain self.now)).start };
 
     /// Where no rule is broken, how many nodes stand on the longest way down, counted up to what 64 bits hold. The next class has the
     /// number that is handed, and the next one behind it the number that is left there.
@@ -222,8 +227,25 @@ fn check_child<N: CheckNode>(
 fn check_place<N: CheckNode>(child: &N, set: NodeSet) -> Result<(), TreeFault>
     ensures { result ≡ verdict (set_faults set (N.plain child.now)) }
 {
-    check_set(child.node_type(), set, child.fits_kind(set), child.start())?;
+    check_fits(child, set)?;
     check_links_and_pieces(child, set)
+}
+
+// A declaration that may stand there and lacks a value is told by the declarator.
+fn check_fits<N: CheckNode>(child: &N, set: NodeSet) -> Result<(), TreeFault>
+    ensures { result ≡ verdict (fault_if (not (may_stand set (type_of (N.plain child.now)) && fits_kind set (N.plain child.now))) (faults.Place (misfit set (N.plain child.now)).start)) }
+{
+    if !may_stand(child.node_type(), set) {
+        return Err(TreeFault::Place {
+            start: child.start(),
+        });
+    }
+    if !child.fits_kind(set) {
+        return Err(TreeFault::Place {
+            start: child.unbound_start(),
+        });
+    }
+    Ok(())
 }
 
 fn check_links_and_pieces<N: CheckNode>(child: &N, set: NodeSet) -> Result<(), TreeFault>
@@ -326,6 +348,10 @@ impl CheckNode for Node {
 
     fn binds_nothing(&self) -> bool {
         binds_nothing(self)
+    }
+
+    fn unbound_start(&self) -> u32 {
+        unbound(self).start
     }
 
     #[cycle(node)]

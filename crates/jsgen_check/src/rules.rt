@@ -47,7 +47,9 @@ pub use modules::{
     check_export_from_declaration_rules, check_export_named_declaration_rules,
     check_hashbang_rules, check_import_declaration_rules,
 };
-pub use patterns::{binds_nothing, check_binding_property_rules, check_object_pattern_rules};
+pub use patterns::{
+    binds_nothing, check_binding_property_rules, check_object_pattern_rules, unbound,
+};
 pub use statements::{
     check_do_while_statement_rules, check_for_in_statement_rules, check_for_of_statement_rules,
     check_for_statement_rules, check_if_statement_rules, check_labeled_statement_rules,

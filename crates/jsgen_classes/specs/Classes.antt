@@ -11,5 +11,5 @@ use Rattle.jsgen_model.specs.Spell.{spell, spell_behind_word, spell_heritage}
 -- a class from its word on
 abbrev pub from_word : Tree → Place → Items
 from_word (tree.class a id heritage body) place =
-    marked_word a.span (codes "class") ⊕ (spell_behind_word id (child Lowest place) ⊕ (spell_heritage heritage ⊕ (soft_space ⊕ spell body (with_calls (child Lowest place)))))
+    marked_word a.span (codes "class") ⊕ spell_behind_word id (child Lowest place) ⊕ spell_heritage heritage ⊕ soft_space ⊕ spell body (with_calls (child Lowest place))
 from_word t place = nothing

@@ -76,7 +76,7 @@ fn print_heritage<N, L: PrintInside<N>>(heritage: &Option<ExpressionNode<N>>, p:
 }
 
 fn print_extends<N, L: PrintInside<N>>(heritage: &ExpressionNode<N>, p: &mut Printer<'_>)
-    ensures { Lays p.old p.new (soft_space ⊕ (word (codes "extends") ⊕ (hard_space ⊕ linked_items (in_expression L.plain heritage.now) (spell (in_expression L.plain heritage.now) (in_brackets Postfix))))) }
+    ensures { Lays p.old p.new (soft_space ⊕ word (codes "extends") ⊕ hard_space ⊕ linked_items (in_expression L.plain heritage.now) (spell (in_expression L.plain heritage.now) (in_brackets Postfix))) }
 {
     p.print_soft_space();
     p.print_word("extends");

@@ -1,7 +1,7 @@
 -- The bones of items from two pens are the same where their style, their classes, their semicolon and what begins there are: what waits to be
 -- printed has no part in them.
 use Rattle.std.proofs.lemmas.Bool.{true≢false, false≢true}
-use Rattle.std.proofs.Common.{◌≡◌, ℕ, suc, Bool, true, false, ◌&&◌, ◌||◌, List, [], ◌∷◌, ◌++◌, length, drop, codes, refl, sym, ap, ◌∙◌, append_assoc, if◌then◌else◌}
+use Rattle.std.proofs.Common.{◌≡◌, ℕ, suc, Bool, true, false, ◌&&◌, ◌||◌, List, [], ◌∷◌, ◌++◌, length, drop, codes, refl, sym, ap, ◌∙◌, append_assoc, if◌then◌else◌, not}
 use Rattle.jsgen_syntax.specs.Escapes.{name_text}
 use Rattle.jsgen_syntax.specs.Raw.{template_text}
 use Rattle.jsgen_tree.specs.Named.{printed_name}
@@ -10,7 +10,7 @@ use Rattle.jsgen_model.specs.Punctuator.{Round, opening, closing, punctuator_tex
 use Rattle.jsgen_model.specs.Items.{Items, no_side_effects, is_pure, nothing, ◌⊕◌, word, name, private_name, number, literal, regular_expression, template_part, string, first_string, directive, punctuator, operator, member_dot, soft_space, soft_line, hard_space, indentation, body_space, deeper, in_class, brackets, wrapped, wrapped_at_start, parentheses_unless_minified, unless_minified, where_same, statement_end, due_semicolon, drop_semicolon, statement_begins, arrow_body_begins, default_export_begins, mark, end_mark, link_mark, marked_word, marked_operator, marked_number, marked_indentation, apart, comments, orphans, orphan_lines, empty_body, held, lined_case, caught, annotation, annotation_line, annotated, commented, member_line, member_space, in_lines, line_break, a_brace, Break, first_argument, other_argument, import_source, import_options, Lead, to_block, to_body, to_empty, with_due_space, all_of_them}
 use Rattle.jsgen_model.specs.Comments.{are_any}
 use Rattle.jsgen_model.specs.Groups.{group_at, comments_at, has_orphans, case_begun, last_byte, ending_at, without_ending, are_lined, lines_opened, annotation_at, annotation_line_at}
-use Rattle.jsgen_model.specs.Layout.{Pen, Style, other_end, written, written_if, text_if, space_if, not, unless_printed, led, on_one_line, is_barred, deeper_level, entered, at_indentation, are_same, is_apart, joins, joins_pattern, dot_joins, regular_expression_text, chosen_quote, first_text, directive_quoted, end_statement, begun_at}
+use Rattle.jsgen_model.specs.Layout.{Pen, Style, other_end, written, written_if, text_if, space_if, unless_printed, led, on_one_line, is_barred, deeper_level, entered, at_indentation, are_printed_alike, is_apart, joins, joins_pattern, dot_joins, regular_expression_text, chosen_quote, first_quote, directive_quoted, end_statement, begun_at}
 use Rattle.jsgen_model.specs.Lay.{lay, lifts, annotated_if, is_enclosed, commented_from, case_mark, mark_behind, may_be_indented, part_opening, part_closing}
 use Rattle.jsgen_syntax.specs.Strings.{quoted}
 use Rattle.jsgen_comment_laws.specs.Woven.{is_white, dark_of, Bones, no_bones, comment_gap, orphan_gap, ◌⧺◌, darks, in_parentheses, object_bones, annotation_if, gap_if, between, bones}
@@ -155,7 +155,7 @@ alike (literal v) p q w r t =
 alike (string backticks units) p q w r t =
     record { same = same_item (string backticks units) p q (record { text = quoted (chosen_quote q.style backticks units) q.style.ascii units; code = refl; store = refl; style = refl; annotations = refl }) (record { text = quoted (chosen_quote p.style backticks units) p.style.ascii units; code = refl; store = refl; style = refl; annotations = refl }) (ap (λ (st : Style). dark_of (quoted (chosen_quote st backticks units) st.ascii units)) (style_of p q r)); rest = r; start = refl; style = refl }
 alike (first_string units) p q w r t =
-    record { same = same_item (first_string units) p q (record { text = first_text q.style units; code = refl; store = refl; style = refl; annotations = refl }) (record { text = first_text p.style units; code = refl; store = refl; style = refl; annotations = refl }) (ap (λ (st : Style). dark_of (first_text st units)) (style_of p q r)); rest = r; start = refl; style = refl }
+    record { same = same_item (first_string units) p q (record { text = quoted (first_quote q.style) q.style.ascii units; code = refl; store = refl; style = refl; annotations = refl }) (record { text = quoted (first_quote p.style) p.style.ascii units; code = refl; store = refl; style = refl; annotations = refl }) (ap (λ (st : Style). dark_of (quoted (first_quote st) st.ascii units)) (style_of p q r)); rest = r; start = refl; style = refl }
 alike (directive raw) p q w r t =
     record { same = same_item (directive raw) p q (record { text = directive_quoted q.style raw; code = refl; store = refl; style = refl; annotations = refl }) (record { text = directive_quoted p.style raw; code = refl; store = refl; style = refl; annotations = refl }) (ap (λ (st : Style). dark_of (directive_quoted st raw)) (style_of p q r)); rest = r; start = refl; style = refl }
 alike (punctuator sign) p q w r t =
@@ -182,8 +182,8 @@ alike apart p q w r t =
     record { same = same_white (writes_if (is_apart q.ending q.code) (codes " ") q refl) (writes_if (is_apart p.ending p.code) (codes " ") p refl) (white_of p q r w) w; rest = r; start = t; style = refl }
 alike indentation p q w r t =
     record { same = same_white (indents_by q.style.minified q) (indents_by p.style.minified p) (white_of p q r w) w; rest = kept p q (lay indentation p) (lay indentation q) (indentation_keeps p.style.minified p) (indentation_keeps q.style.minified q) r; start = start_kept p q (lay indentation p) (lay indentation q) (indentation_start p.style.minified p) (indentation_start q.style.minified q) t; style = style_kept p (lay indentation p) (indentation_keeps p.style.minified p) }
-alike (marked_indentation span) p q w r t =
-    record { same = same_white (ended_by (indents_by q.style.minified q) (stays (at_indentation q.style.minified q) (mark_behind (may_be_indented q) span (at_indentation q.style.minified q)) refl refl refl refl)) (ended_by (indents_by p.style.minified p) (stays (at_indentation p.style.minified p) (mark_behind (may_be_indented p) span (at_indentation p.style.minified p)) refl refl refl refl)) (white_of p q r w) w; rest = kept p q (lay (marked_indentation span) p) (lay (marked_indentation span) q) (indentation_keeps p.style.minified p) (indentation_keeps q.style.minified q) r; start = start_kept p q (lay (marked_indentation span) p) (lay (marked_indentation span) q) (indentation_start p.style.minified p) (indentation_start q.style.minified q) t; style = style_kept p (lay (marked_indentation span) p) (indentation_keeps p.style.minified p) }
+alike (marked_indentation always span) p q w r t =
+    record { same = same_white (ended_by (indents_by q.style.minified q) (stays (at_indentation q.style.minified q) (mark_behind (may_be_indented always q) span (at_indentation q.style.minified q)) refl refl refl refl)) (ended_by (indents_by p.style.minified p) (stays (at_indentation p.style.minified p) (mark_behind (may_be_indented always p) span (at_indentation p.style.minified p)) refl refl refl refl)) (white_of p q r w) w; rest = kept p q (lay (marked_indentation always span) p) (lay (marked_indentation always span) q) (indentation_keeps p.style.minified p) (indentation_keeps q.style.minified q) r; start = start_kept p q (lay (marked_indentation always span) p) (lay (marked_indentation always span) q) (indentation_start p.style.minified p) (indentation_start q.style.minified q) t; style = style_kept p (lay (marked_indentation always span) p) (indentation_keeps p.style.minified p) }
 alike body_space p q w r t =
     record { same = same_white (stays q (lay body_space q) refl refl refl refl) (stays p (lay body_space p) refl refl refl refl) (white_of p q r w) w; rest = r; start = t; style = refl }
 alike statement_begins p q w r t =
@@ -227,7 +227,7 @@ alike (parentheses_unless_minified items) p q w r t =
     let a = alike items x y w r (unless_alike (λ st. not st.minified) p q r t) in
     record { same = λ i. in_parentheses (not (style_of p q r i).minified) (a.same i); rest = a.rest; start = λ i. unless_printed (not (style_of p q r i).minified) (a.start i); style = a.style }
 alike (unless_minified items) p q w r t = minified_alike p.style.minified q.style.minified items p q (ap (λ (st : Style). st.minified) (style_of p q r)) r t (alike items p q w r t)
-alike (where_same m n x y) p q w r t = either_alike (are_same p.style.tables m n) (are_same q.style.tables m n) x y p q (ap (λ (st : Style). are_same st.tables m n) (style_of p q r)) (alike x p q w r t) (alike y p q w r t)
+alike (where_same m n x y) p q w r t = either_alike (are_printed_alike p.style.tables m n) (are_printed_alike q.style.tables m n) x y p q (ap (λ (st : Style). are_printed_alike st.tables m n) (style_of p q r)) (alike x p q w r t) (alike y p q w r t)
 alike (comments manner o) p q w r t = record { same = refl; rest = kept p q (lay (comments manner o) p) (lay (comments manner o) q) (comments_keep manner o p) (comments_keep manner o q) r; start = start_kept p q (lay (comments manner o) p) (lay (comments manner o) q) (comments_start manner o p) (comments_start manner o q) t; style = style_kept p (lay (comments manner o) p) (comments_keep manner o p) }
 alike (orphans o) p q w r t = record { same = refl; rest = kept p q (lay (orphans o) p) (lay (orphans o) q) (orphans_keep o p) (orphans_keep o q) r; start = start_kept p q (lay (orphans o) p) (lay (orphans o) q) (orphans_start o p) (orphans_start o q) t; style = style_kept p (lay (orphans o) p) (orphans_keep o p) }
 alike (orphan_lines o) p q w r t = record { same = refl; rest = kept p q (lay (orphan_lines o) p) (lay (orphan_lines o) q) (orphan_lines_keep o p) (orphan_lines_keep o q) r; start = start_kept p q (lay (orphan_lines o) p) (lay (orphan_lines o) q) (orphan_lines_start o p) (orphan_lines_start o q) t; style = style_kept p (lay (orphan_lines o) p) (orphan_lines_keep o p) }

@@ -5,7 +5,7 @@ use Rattle.std.specs.List.{filter}
 use Rattle.std.proofs.lemmas.Bool.{and_parts}
 use Rattle.jsgen_model.specs.Items.{Annotation, no_side_effects}
 use Rattle.jsgen_model.specs.Comments.{Comment, there}
-use Rattle.jsgen_model.specs.Groups.{indented_if, ends_in, is_line, annotation_text, says, fits, fitting_at, without_annotation, annotation_by, annotation_written, annotation_at, annotation_line_at}
+use Rattle.jsgen_model.specs.Groups.{indented_if, code_ends_in, is_line, annotation_text, says, fits, fitting_at, without_annotation, annotation_by, annotation_written, annotation_at, annotation_line_at}
 use Rattle.jsgen_model.specs.Layout.{Pen, Start, other_end, written_if, begun_at}
 use Rattle.jsgen_comment_laws.specs.Stand.{Waiting}
 use Rattle.jsgen_comment_laws.specs.Woven.{is_white, dark_of, no_bones, annotation_gap, IsAnnotation, Woven}
@@ -61,7 +61,7 @@ module _ (k a : List Waiting) where
 
   annotates : (line : Bool) (kind : Annotation) (o : ℕ) (p : Pen) → Does k a (annotation_gap kind o no_bones) p (annotation_written line kind o p)
   annotates line kind o p =
-      let test : Bool = ends_in 47 p in
+      let test : Bool = code_ends_in 47 p in
       let p1 : Pen = written_if test (codes " ") p in
       does_then k a (white k a (writes_if test (codes " ") p refl)) (annotates_by (fitting_at line kind o p) kind o p1 (fitting_say line kind (there o p.annotations)) (λ h. every_filtered (Contains a) (fits line kind) o (there o p.annotations) (every_there (Contains a) o p.annotations h.annotations)))
 

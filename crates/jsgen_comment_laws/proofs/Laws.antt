@@ -18,7 +18,7 @@ use Rattle.jsgen_model.specs.Valid.{Surroundings, breaches, IsValid, surrounding
 use Rattle.jsgen_model.specs.Spell.{spell, spell_if_given, spell_directives, spell_body, comments_in, source_bytes, first_pen, printed}
 use Rattle.jsgen_comment_laws.specs.Stand.{Waiting, one_if, count, has_to_stand, is_before, kept_comments, annotation_comments}
 use Rattle.jsgen_comment_laws.specs.Woven.{is_white, dark_of, bones, without_comments, Woven}
-use Rattle.jsgen_comment_laws.specs.Law.{CommentsStandIn}
+use Rattle.jsgen_comment_laws.specs.Law.{AddsWoven, CommentsStandIn}
 use Rattle.jsgen_comment_laws.proofs.Counts.{waiting_in, count_both}
 use Rattle.jsgen_comment_laws.proofs.Writes.{adds_licences, writes_group}
 use Rattle.jsgen_comment_laws.proofs.Stores.{Sound, outlives_at, none_below}
@@ -119,9 +119,9 @@ none_counted : (ws : List Waiting) → count (λ _. true) ws ≡ 0 → ws ≡ []
 none_counted [] e = refl
 none_counted (w ∷ ws) e = absurd (omega (arith, e))
 
--- the text of items for which no comment waits
-nothing_woven : (items : Items) (p : Pen) → is_white p.style.indent ≡ true → p.code ≡ [] → Woven [] [] (bones items (without_comments p)) [] (dark_of (lay items (without_comments p)).code)
-nothing_woven items p w e =
+-- what items add where no comment waits
+pub items_are_woven : (items : Items) (p : Pen) → is_white p.style.indent ≡ true → AddsWoven items (without_comments p)
+items_are_woven items p w =
     let q : Pen = without_comments p in
     let d = lay_does [] [] items q in
     let sound : Sound q.store = record { groups = tt; orphans = tt; covers = λ p e. refl } in
@@ -129,7 +129,13 @@ nothing_woven items p w e =
     let all = a.all (λ _. true) in
     let none : a.printed ≡ [] = none_counted a.printed (omega (arith, all)) in
     let v = d.weaves (record { store = tt; annotations = tt; white = w }) sound in
-    subst (λ ws. Woven [] [] (bones items q) ws (dark_of (lay items q).code)) none (subst (λ t. Woven [] [] (bones items q) a.printed (dark_of t)) (sym (v.code ∙ ap (λ x. x ++ v.text) e)) v.woven)
+    record { text = v.text; is = v.code; woven = subst (λ ws. Woven [] [] (bones items q) ws (dark_of v.text)) none v.woven }
+
+-- the whole text, where it begins with them
+nothing_woven : (items : Items) (p : Pen) → is_white p.style.indent ≡ true → p.code ≡ [] → Woven [] [] (bones items (without_comments p)) [] (dark_of (lay items (without_comments p)).code)
+nothing_woven items p w e =
+    let v = items_are_woven items p w in
+    subst (λ t. Woven [] [] (bones items (without_comments p)) [] (dark_of t)) (sym (v.is ∙ ap (λ x. x ++ v.text) e)) v.woven
 
 pub comments_stand : (job : JobData) → Everywhere is_formed job.program → IsValid job → CommentsStandIn job (printed job)
 comments_stand job formed valid =

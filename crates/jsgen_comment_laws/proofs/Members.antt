@@ -10,7 +10,7 @@ use Rattle.jsgen_tree.specs.declared.types.NodeSet.TheVariants as sets
 use Rattle.jsgen_model.specs.declared.fault.TreeFault.{TreeFault}
 use Rattle.jsgen_model.specs.declared.fault.TreeFault.TheVariants as faults
 use Rattle.jsgen_model.specs.Plain.{is_formed}
-use Rattle.jsgen_model.specs.Valid.{Surroundings, ChildPlace, breaches, in_maybe, in_trees, has_place, may_stand, fits_kind, fault_if, set_faults, link_faults, uncooked_faults, span_faults, own_faults}
+use Rattle.jsgen_model.specs.Valid.{Surroundings, ChildPlace, breaches, in_maybe, in_trees, has_place, may_stand, fits_kind, misfit, fault_if, set_faults, link_faults, uncooked_faults, span_faults, own_faults}
 use Rattle.jsgen_model.specs.Resolved.{after}
 use Rattle.jsgen_comment_laws.proofs.Takes.{AreStatements, AreDirectives}
 
@@ -25,8 +25,8 @@ none_unless false f e = absurd (cc)
 -- a child whose place has no fault is of the set, and fits it
 of_set : (s : NodeSet) (t : Tree) → set_faults s t ≡ [] → (in_set s (type_of t) ≡ true) × (fits_kind s t ≡ true)
 of_set s t e =
-    let h = none_both (fault_if (not (may_stand s (type_of t) && fits_kind s t)) (faults.Place (span_of t).start)) (link_faults s t ++ uncooked_faults s t) e in
-    let k = and_parts (may_stand s (type_of t)) (fits_kind s t) (none_unless (may_stand s (type_of t) && fits_kind s t) (faults.Place (span_of t).start) h.0) in
+    let h = none_both (fault_if (not (may_stand s (type_of t) && fits_kind s t)) (faults.Place (misfit s t).start)) (link_faults s t ++ uncooked_faults s t) e in
+    let k = and_parts (may_stand s (type_of t)) (fits_kind s t) (none_unless (may_stand s (type_of t) && fits_kind s t) (faults.Place (misfit s t).start) h.0) in
     ((and_parts (in_set s (type_of t)) (has_place s (type_of t)) k.0).0, k.1)
 
 -- the first of a list

@@ -1,13 +1,13 @@
 -- What comments leave as it was: the style, the classes round here, whether a semicolon is due, and what begins there.
-use Rattle.std.proofs.Common.{◌≡◌, ℕ, ◌*◌, Bool, true, false, ◌&&◌, ◌||◌, ◌==◌, List, [], ◌∷◌, Option, Some, None, codes, replicate, refl, ◌∙◌, if◌then◌else◌}
+use Rattle.std.proofs.Common.{◌≡◌, ℕ, ◌*◌, Bool, true, false, ◌&&◌, ◌||◌, ◌==◌, List, [], ◌∷◌, Option, Some, None, codes, replicate, refl, ◌∙◌, if◌then◌else◌, not}
 use Rattle.std.specs.List.{list_all}
 use Rattle.jsgen_syntax.specs.declared.span.Span.{Span}
 use Rattle.jsgen_tree.specs.declared.statements.CommentKind.{CommentKind}
 use Rattle.jsgen_tree.specs.declared.statements.CommentKind.TheVariants as kinds
 use Rattle.jsgen_model.specs.Items.{Annotation, is_pure, no_side_effects, Break, first_argument, other_argument, import_source, import_options, Manner, all_of_them, then_space, with_due_space, before_it, annotation_before_it, with_key_annotation, none_of_them, Lead, to_block, to_body, to_empty, Lines}
 use Rattle.jsgen_model.specs.Comments.{Comment, are_any, orphans_below, left_below}
-use Rattle.jsgen_model.specs.Groups.{line_ended, indented_here, used_up_if, used_up, lines_of, opens_block, indented_if, block_line, block_lines, is_mid_line, html_close, text_written, comment_written, last_of, on_new_line, at_line_start, before_first, is_legal, before_later, is_line, ends_line, behind_last, behind, group, with_store, group_at, without_group, is_printed, ends_in, before_group, behind_group, printed_if, comments_at, orphans_before, has_orphans, one_deeper, at_level, soft_line_ended, orphan_lines_at, last_byte, ending_at, without_ending, closing_group, has_no_newlines, body_lines, body_of, empty_body_at, fitting_at, without_annotation, annotation_by, annotation_written, annotation_at, annotation_line_at, each_on_line, broken_by, broken_at, on_a_line, unless_on_line, break_at, with_lines, lines_opened, indents as are_indented, lines_closed, led_on_line, case_begun, case_ended, member_line_at, member_space_at, commented_if}
-use Rattle.jsgen_model.specs.Layout.{Pen, Style, Start, nowhere, written_if, unless_printed, not, indented, indent_or_space, at_indentation, led, on_one_line, begun_at}
+use Rattle.jsgen_model.specs.Groups.{line_ended, indented_here, used_up_if, used_up, lines_of, opens_block, indented_if, block_line, block_lines, is_mid_line, html_close, text_written, comment_written, last_of, on_new_line, at_line_start, before_first, is_legal, before_later, is_line, ends_its_line, behind_last, behind_comment, group, with_store, group_at, without_group, is_printed, code_ends_in, before_group, behind_group, printed_if, comments_at, orphans_before, has_orphans, one_deeper, at_level, soft_line_ended, orphan_lines_at, last_byte, ending_at, without_ending, closing_group, has_no_newlines, body_lines, body_of, empty_body_at, fitting_at, without_annotation, annotation_by, annotation_written, annotation_at, annotation_line_at, each_on_line, broken_by, broken_at, on_a_line, unless_on_line, break_at, with_lines, lines_opened, indents as are_indented, lines_closed, led_on_line, case_begun, case_ended, member_line_at, member_space_at, commented_if}
+use Rattle.jsgen_model.specs.Layout.{Pen, Style, Start, nowhere, written_if, unless_printed, indented, indent_or_space, at_indentation, led, on_one_line, begun_at}
 use Rattle.jsgen_model.specs.Lay.{case_mark, before_block, stood, annotated_if, span_mark}
 
 pub record Rest : Type 0 where
@@ -89,8 +89,8 @@ last_keeps : (b : Bool) (p : Pen) → Keeps p (behind_last b p)
 last_keeps true p = refl
 last_keeps false p = refl
 
-behind_keeps : (ended : Bool) (c : Comment) (cs : List Comment) (p : Pen) → Keeps p (behind ended c cs p)
-behind_keeps ended c [] p = last_keeps (ended || ends_line c) p
+behind_keeps : (ended : Bool) (c : Comment) (cs : List Comment) (p : Pen) → Keeps p (behind_comment ended c cs p)
+behind_keeps ended c [] p = last_keeps (ended || ends_its_line c) p
 behind_keeps ended c (d ∷ cs) p =
     let p1 : Pen = before_later (d.newline_before || is_line c.kind) (is_legal d.content) p in
     behind_keeps ended d cs (comment_written d p1) ∙ (comment_keeps d p1 ∙ later_keeps (d.newline_before || is_line c.kind) (is_legal d.content) p)
@@ -112,8 +112,8 @@ before_keeps before_it p = refl
 before_keeps annotation_before_it p = refl
 before_keeps none_of_them p = refl
 
-due_keeps : (p : Pen) → Keeps p (if ends_in 10 p then indented_here p else used_up p)
-due_keeps p = one_keeps (ends_in 10 p) p (indented_here p) (used_up p) (here p) (used_up_keeps p.pending_space p)
+due_keeps : (p : Pen) → Keeps p (if code_ends_in 10 p then indented_here p else used_up p)
+due_keeps p = one_keeps (code_ends_in 10 p) p (indented_here p) (used_up p) (here p) (used_up_keeps p.pending_space p)
 
 behind_group_keeps : (m : Manner) (p : Pen) → Keeps p (behind_group m p)
 behind_group_keeps all_of_them p = refl
@@ -166,7 +166,7 @@ by_keeps [] kind o p = refl
 by_keeps (c ∷ cs) kind o p = comment_keeps c (without_annotation o p)
 
 annotation_written_keeps : (line : Bool) (kind : Annotation) (o : ℕ) (p : Pen) → Keeps p (annotation_written line kind o p)
-annotation_written_keeps line kind o p = by_keeps (fitting_at line kind o p) kind o (written_if (ends_in 47 p) (codes " ") p)
+annotation_written_keeps line kind o p = by_keeps (fitting_at line kind o p) kind o (written_if (code_ends_in 47 p) (codes " ") p)
 
 pub annotation_keeps : (start : Start) (kind : Annotation) (o : ℕ) (p : Pen) → Keeps p (begun_at start (annotation_at kind o p))
 annotation_keeps start kind o p = annotation_written_keeps false kind o p
@@ -315,8 +315,8 @@ either_start : (b : Bool) (x y p : Pen) → x.start ≡ p.start → y.start ≡ 
 either_start true x y p e f = e
 either_start false x y p e f = f
 
-due_start : (p : Pen) → (if ends_in 10 p then indented_here p else used_up p).start ≡ p.start
-due_start p = either_start (ends_in 10 p) (indented_here p) (used_up p) p (indentation_start p.style.minified p) (used_up_start p.pending_space p)
+due_start : (p : Pen) → (if code_ends_in 10 p then indented_here p else used_up p).start ≡ p.start
+due_start p = either_start (code_ends_in 10 p) (indented_here p) (used_up p) p (indentation_start p.style.minified p) (used_up_start p.pending_space p)
 
 behind_group_start : (m : Manner) (p : Pen) → (behind_group m p).start ≡ p.start
 behind_group_start all_of_them p = refl

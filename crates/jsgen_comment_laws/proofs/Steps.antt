@@ -1,5 +1,5 @@
 -- What items print of the comments that wait, and how it is woven. All laws on comments take this one.
-use Rattle.std.specs.Prelude.{Contains}
+use Rattle.std.specs.Prelude.{Contains, not}
 use Rattle.std.proofs.lemmas.Bool.{false≢true}
 use Rattle.std.proofs.Common.{inl, inr, ◌++◌, ap, ◌∙◌, append-nil, ◌≡◌, ℕ, Bool, true, false, ◌&&◌, ◌||◌, List, [], ◌∷◌, Option, Some, None, codes, refl, sym, subst, append_assoc, if◌then◌else◌}
 use Rattle.std.specs.List.{list_all}
@@ -8,7 +8,7 @@ use Rattle.jsgen_model.specs.Punctuator.{Round, opening, closing}
 use Rattle.jsgen_model.specs.Items.{Items, Annotation, no_side_effects, a_brace, nothing, ◌⊕◌, word, name, private_name, number, literal, regular_expression, template_part, string, first_string, directive, punctuator, operator, member_dot, soft_space, soft_line, hard_space, indentation, body_space, deeper, in_class, brackets, wrapped, wrapped_at_start, parentheses_unless_minified, unless_minified, where_same, statement_end, due_semicolon, drop_semicolon, statement_begins, arrow_body_begins, default_export_begins, mark, end_mark, link_mark, marked_word, marked_operator, marked_number, marked_indentation, apart, comments, orphans, orphan_lines, empty_body, held, lined_case, caught, annotation, annotation_line, annotated, commented, member_line, member_space, in_lines, line_break, is_pure, Manner, all_of_them, with_due_space, Lead, to_block, to_body, to_empty, Lines, Break, first_argument, other_argument, import_source, import_options}
 use Rattle.jsgen_model.specs.Comments.{Comment, there, are_any, orphans_below, left_below}
 use Rattle.jsgen_model.specs.Groups.{indented_here, soft_line_ended, one_deeper, at_level, group, with_store, group_at, without_group, is_printed, before_group, printed_if, comments_at, orphans_before, has_orphans, orphan_lines_at, last_byte, ending_at, without_ending, closing_group, has_no_newlines, body_lines, empty_body_at, led_on_line, case_begun, case_ended, broken_by, broken_at, on_a_line, unless_on_line, break_at, are_lined, with_lines, lines_opened, indents as are_indented, lines_closed, member_line_at, member_space_at, commented_if}
-use Rattle.jsgen_model.specs.Layout.{Pen, Start, nowhere, begun_at, on_one_line, is_apart, other_end, written, written_if, text_if, not, is_barred, deeper_level, entered, at_indentation, are_same, led}
+use Rattle.jsgen_model.specs.Layout.{Pen, Start, nowhere, begun_at, on_one_line, is_apart, other_end, written, written_if, text_if, is_barred, deeper_level, entered, at_indentation, are_printed_alike, led}
 use Rattle.jsgen_model.specs.Lay.{lay, lifts, annotated_if, is_enclosed, commented_from, case_mark, before_block, stood, may_be_indented, mark_behind, span_mark}
 use Rattle.jsgen_comment_laws.specs.Stand.{Waiting}
 use Rattle.jsgen_comment_laws.specs.Woven.{dark_of, Bones, no_bones, comment_gap, orphan_gap, annotation_gap, object_gap, gap_if, annotation_if, object_bones, break_offset, bones, InRound, Woven}
@@ -248,14 +248,14 @@ module _ (k a : List Waiting) where
       let test : Bool = not p.style.minified in
       in_round k a test (lay_does items (written_if test (opening Round) p))
   lay_does (unless_minified items) p = items_unless p.style.minified (lay_does items p)
-  lay_does (where_same m n x y) p = either_does (are_same p.style.tables m n) (lay_does x p) (lay_does y p)
+  lay_does (where_same m n x y) p = either_does (are_printed_alike p.style.tables m n) (lay_does x p) (lay_does y p)
   lay_does (mark span) p = prints_between k a (stays p (lay (mark span) p) refl refl refl refl).adds
   lay_does (end_mark span) p = prints_between k a (stays p (lay (end_mark span) p) refl refl refl refl).adds
   lay_does (link_mark span) p = prints_between k a (stays p (lay (link_mark span) p) refl refl refl refl).adds
   lay_does (marked_word span w) p = prints_between k a (record { text = _; code = append_assoc p.code _ _; store = refl; style = refl; annotations = refl })
   lay_does (marked_operator span sign) p = prints_between k a (record { text = _; code = append_assoc p.code _ _; store = refl; style = refl; annotations = refl })
   lay_does (marked_number span dot_is_its_own w) p = prints_between k a (record { text = _; code = append_assoc p.code _ _; store = refl; style = refl; annotations = refl })
-  lay_does (marked_indentation span) p = prints_between k a (adds_then (indents_by p.style.minified p).adds (stays (at_indentation p.style.minified p) (mark_behind (may_be_indented p) span (at_indentation p.style.minified p)) refl refl refl refl).adds)
+  lay_does (marked_indentation always span) p = prints_between k a (adds_then (indents_by p.style.minified p).adds (stays (at_indentation p.style.minified p) (mark_behind (may_be_indented always p) span (at_indentation p.style.minified p)) refl refl refl refl).adds)
   lay_does apart p = prints_between k a (record { text = text_if (is_apart p.ending p.code) (codes " "); code = refl; store = refl; style = refl; annotations = refl })
   lay_does (word w) p = prints_between k a (adds _ _ p)
   lay_does (number dot_is_its_own w) p = prints_between k a (adds _ _ p)

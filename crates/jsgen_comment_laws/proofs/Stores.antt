@@ -6,7 +6,7 @@ use Rattle.std.proofs.lemmas.List.{map-append}
 use Rattle.jsgen_model.specs.Comments.{Comment, Groups, Store, there, taken, is_outliving, outliving, without_outliving, orphans_at, left_at, orphans_below, left_below}
 use Rattle.jsgen_model.specs.Groups.{group_at, without_group, with_store, ending_at, without_ending}
 use Rattle.jsgen_model.specs.Layout.{Pen}
-use Rattle.jsgen_comment_laws.specs.Stand.{Waiting, Stand, count}
+use Rattle.jsgen_comment_laws.specs.Stand.{Waiting, CommentPlaces, count}
 use Rattle.jsgen_comment_laws.proofs.Counts.{waiting_at, waiting_in, is_at, count_append, From, from_without, from_without_outliving, count_taken, count_without_outliving, none_outlives}
 use Rattle.jsgen_comment_laws.proofs.Writes.{Adds, Writes, stand_both}
 
@@ -117,7 +117,7 @@ pub record Accounts (p q : Pen) : Type 0 where
   pub text : List ℕ
   pub code : q.code ≡ p.code ++ text
   pub printed : List Waiting
-  pub stand : Stand text (comments_of printed)
+  pub stand : CommentPlaces text (comments_of printed)
   pub all : (test : Waiting → Bool) → count test (waiting_in p.store.groups) ≡ count test (waiting_in q.store.groups) + count test printed
   pub sound : Sound q.store
 
@@ -132,7 +132,7 @@ goes_then {p} {q} {r} a b h = joined (a h) (b (a h).sound)
       text = a.text ++ b.text;
       code = b.code ∙ (ap (λ x. x ++ b.text) a.code ∙ append_assoc p.code a.text b.text);
       printed = a.printed ++ b.printed;
-      stand = subst (λ cs. Stand (a.text ++ b.text) cs) (sym (comments_both a.printed b.printed)) (stand_both a.text b.text (comments_of a.printed) (comments_of b.printed) a.stand b.stand);
+      stand = subst (λ cs. CommentPlaces (a.text ++ b.text) cs) (sym (comments_both a.printed b.printed)) (stand_both a.text b.text (comments_of a.printed) (comments_of b.printed) a.stand b.stand);
       all = λ test. let x = a.all test in let y = b.all test in let z = count_append test a.printed b.printed in omega (arith, x, y, z);
       sound = b.sound;
     }
@@ -165,7 +165,7 @@ prints_taken o p q w h = record {
   text = w.adds.text;
   code = w.adds.code;
   printed = waiting_at o (group_at o p);
-  stand = subst (λ cs. Stand w.adds.text cs) (sym (comments_at_offset o (group_at o p))) w.stand;
+  stand = subst (λ cs. CommentPlaces w.adds.text cs) (sym (comments_at_offset o (group_at o p))) w.stand;
   all = λ test. let left = ap (λ s. count test (waiting_in s.groups)) w.adds.store in let all = count_taken test o p.store.groups in omega (arith, left, all);
   sound = subst Sound (sym w.adds.store) (sound_taken o p.store h);
 }
@@ -179,7 +179,7 @@ prints_orphans o p q w h =
       text = w.adds.text;
       code = w.adds.code;
       printed = found;
-      stand = subst (λ cs. Stand w.adds.text cs) (sym (found_are o p.store.orphans p.store.groups)) w.stand;
+      stand = subst (λ cs. CommentPlaces w.adds.text cs) (sym (found_are o p.store.orphans p.store.groups)) w.stand;
       all = λ test. let same = ap (λ s. count test (waiting_in s.groups)) w.adds.store in let all = left.all test in omega (arith, same, all);
       sound = subst Sound (sym w.adds.store) left.sound;
     }
@@ -197,7 +197,7 @@ holds o p q r a w h = held (a (sound_taken o p.store h))
       text = a.text ++ w.adds.text;
       code = w.adds.code ∙ (ap (λ x. x ++ w.adds.text) a.code ∙ append_assoc p.code a.text w.adds.text);
       printed = a.printed ++ waiting_at o (group_at o p);
-      stand = subst (λ cs. Stand (a.text ++ w.adds.text) cs) (sym (comments_both a.printed (waiting_at o (group_at o p)) ∙ ap (λ cs. comments_of a.printed ++ cs) (comments_at_offset o (group_at o p)))) (stand_both a.text w.adds.text (comments_of a.printed) (group_at o p) a.stand w.stand);
+      stand = subst (λ cs. CommentPlaces (a.text ++ w.adds.text) cs) (sym (comments_both a.printed (waiting_at o (group_at o p)) ∙ ap (λ cs. comments_of a.printed ++ cs) (comments_at_offset o (group_at o p)))) (stand_both a.text w.adds.text (comments_of a.printed) (group_at o p) a.stand w.stand);
       all = λ test.
           let same = ap (λ s. count test (waiting_in s.groups)) w.adds.store in
           let taken = count_taken test o p.store.groups in

@@ -13,7 +13,7 @@ use Rattle.jsgen_tree.specs.declared.functions.FunctionKind.TheVariants as funct
 use Rattle.jsgen_tree.specs.declared.classes.ClassKind.{ClassKind}
 use Rattle.jsgen_tree.specs.declared.classes.ClassKind.TheVariants as class_kinds
 use Rattle.jsgen_place.specs.Place.{among_statements}
-use Rattle.jsgen_model.specs.Items.{Items, ◌⊕◌, comments, all_of_them, orphans, due_semicolon, mark, marked_indentation, first_string, statement_end}
+use Rattle.jsgen_model.specs.Items.{Items, ◌⊕◌, comments, all_of_them, with_key_annotation, parentheses_unless_minified, orphans, due_semicolon, mark, marked_indentation, first_string, statement_end}
 use Rattle.jsgen_model.specs.Comments.{Comment, Groups, are_any}
 use Rattle.jsgen_model.specs.Groups.{group_at, without_group, printed_if}
 use Rattle.jsgen_model.specs.Layout.{Pen}
@@ -106,7 +106,7 @@ first_takes t h = by (string_statement t)
   where
     by : (units : Option (List ℕ)) → Takes (span_of t).start (unless_string (span_of t) (span_inside t) units (spell t among_statements))
     by None = h
-    by (Some units) = takes_first (span_of t).start (marked_indentation (span_of t) ⊕ (mark (span_inside t) ⊕ (first_string units ⊕ statement_end)))
+    by (Some units) = takes_first (span_of t).start (marked_indentation true (span_of t) ⊕ (parentheses_unless_minified (comments with_key_annotation (span_inside t).start ⊕ (mark (span_inside t) ⊕ first_string units)) ⊕ statement_end))
 
 directive_takes : (t : Tree) → is_formed t ≡ true → is_directive (type_of t) ≡ true → Takes (span_of t).start (spell t among_statements)
 directive_takes (tree.directive a) f s = takes_first a.span.start _

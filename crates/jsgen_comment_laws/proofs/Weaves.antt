@@ -6,7 +6,7 @@ use Rattle.jsgen_model.specs.Comments.{Comment, orphans_below, left_below}
 use Rattle.jsgen_model.specs.Groups.{group_at, without_group, with_store, ending_at, without_ending}
 use Rattle.jsgen_model.specs.Layout.{Pen, written_if}
 use Rattle.jsgen_comment_laws.specs.Stand.{Waiting}
-use Rattle.jsgen_comment_laws.specs.Woven.{is_white, dark_of, Bones, no_bones, dark, comment_gap, orphan_gap, annotation_gap, object_gap, ◌⧺◌, darks, in_parentheses, gap_if, between, InTwo, Parted, FilledBy, BelongsTo, IsOrphan, Woven}
+use Rattle.jsgen_comment_laws.specs.Woven.{is_white, dark_of, Bones, no_bones, dark, comment_gap, orphan_gap, annotation_gap, object_gap, ◌⧺◌, darks, in_parentheses, gap_if, between, InTwo, BothInTwo, FilledBy, BelongsTo, IsOrphan, Woven}
 use Rattle.jsgen_comment_laws.proofs.Counts.{waiting_at}
 use Rattle.jsgen_comment_laws.proofs.Writes.{Adds, Writes, DarkTexts, dark_both, adds_if, nothing_written}
 use Rattle.jsgen_comment_laws.proofs.Stores.{Sound, sound_taken, Goes, goes_then, keeps, keeps_adds, prints_taken, prints_orphans, holds_last, found_at, comments_of, found_are}
@@ -26,7 +26,7 @@ module _ (k a : List Waiting) where
   further : {First Rest Whole : List ℕ → Type 0} (x y : List ℕ) (t : InTwo x First Rest) → Whole (t.second ++ y) → InTwo (x ++ y) First Whole
   further x y t w = record { first = t.first; second = t.second ++ y; is = ap (λ z. z ++ y) t.is ∙ append_assoc t.first t.second y; one = t.one; other = w }
 
-  parted_further : {First Rest Whole : List Waiting → List ℕ → Type 0} (us vs : List Waiting) (x y : List ℕ) (t : Parted us x First Rest) → Whole (t.second_comments ++ vs) (t.second ++ y) → Parted (us ++ vs) (x ++ y) First Whole
+  parted_further : {First Rest Whole : List Waiting → List ℕ → Type 0} (us vs : List Waiting) (x y : List ℕ) (t : BothInTwo us x First Rest) → Whole (t.second_comments ++ vs) (t.second ++ y) → BothInTwo (us ++ vs) (x ++ y) First Whole
   parted_further us vs x y t w = record {
     first_comments = t.first_comments;
     second_comments = t.second_comments ++ vs;
@@ -39,7 +39,7 @@ module _ (k a : List Waiting) where
   }
 
   -- nothing stands behind a gap
-  pub alone : {First : List Waiting → List ℕ → Type 0} (us : List Waiting) (bytes : List ℕ) → First us bytes → Parted us bytes First (λ vs rest. (vs ≡ []) × (rest ≡ []))
+  pub alone : {First : List Waiting → List ℕ → Type 0} (us : List Waiting) (bytes : List ℕ) → First us bytes → BothInTwo us bytes First (λ vs rest. (vs ≡ []) × (rest ≡ []))
   alone us bytes h = record { first_comments = us; second_comments = []; are = sym (append-nil us); first = bytes; second = []; is = sym (append-nil bytes); one = h; other = (refl, refl) }
 
   pub woven_both : (bs cs : Bones) (us vs : List Waiting) (x y : List ℕ) → Woven k a bs us x → Woven k a cs vs y → Woven k a (bs ⧺ cs) (us ++ vs) (x ++ y)

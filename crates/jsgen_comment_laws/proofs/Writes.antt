@@ -1,5 +1,5 @@
 -- What steps write behind the code, the texts of some comments among it, where nothing leaves the store.
-use Rattle.std.specs.Prelude.{not as isnt}
+use Rattle.std.specs.Prelude.{not as isnt, not}
 use Rattle.std.proofs.lemmas.Bool.{false≢true}
 use Rattle.std.proofs.lemmas.List.Elements.{filter-append}
 use Rattle.std.proofs.Common.{cond, zero, suc, ◌≡◌, ℕ, ◌*◌, Bool, true, false, ◌||◌, ◌==◌, List, [], ◌∷◌, ◌++◌, Option, Some, None, codes, drop, replicate, refl, ap, sym, subst, ◌∙◌, append_assoc, append-nil, if◌then◌else◌}
@@ -10,15 +10,15 @@ use Rattle.jsgen_tree.specs.declared.statements.CommentKind.TheVariants as kinds
 use Rattle.jsgen_tree.specs.Options.{Legal, left_out, inline, at_end, linked, external}
 use Rattle.jsgen_model.specs.Items.{Manner, all_of_them, then_space, with_due_space, before_it, annotation_before_it, with_key_annotation, none_of_them, Lead, to_block, to_body, to_empty}
 use Rattle.jsgen_model.specs.Comments.{Comment}
-use Rattle.jsgen_model.specs.Groups.{line_ended, indented_here, softly_spaced, with_pending_space, used_up_if, used_up, lines_of, opens_block, closes_block, indented_if, block_line, block_lines, is_mid_line, html_close, text_written, comment_written, last_of, on_new_line, at_line_start, before_first, is_legal, before_later, is_line, ends_line, behind_last, behind, group, ends_in, before_group, behind_group, closing_group, each_on_line, broken_by, soft_line_ended}
+use Rattle.jsgen_model.specs.Groups.{line_ended, indented_here, softly_spaced, with_pending_space, used_up_if, used_up, lines_of, opens_block, closes_block, indented_if, block_line, block_lines, is_mid_line, html_close, text_written, comment_written, last_of, on_new_line, at_line_start, before_first, is_legal, before_later, is_line, ends_its_line, behind_last, behind_comment, group, code_ends_in, before_group, behind_group, closing_group, each_on_line, broken_by, soft_line_ended}
 use Rattle.jsgen_model.specs.Ends.{each_written, licensed, reference}
-use Rattle.jsgen_model.specs.Layout.{Pen, Ending, other_end, written, written_if, text_if, not, indented, indent_or_space, at_indentation, end_statement, led, white_if, begun_at}
-use Rattle.jsgen_comment_laws.specs.Stand.{Stand}
+use Rattle.jsgen_model.specs.Layout.{Pen, Ending, other_end, written, written_if, text_if, indented, indent_or_space, at_indentation, end_statement, led, white_if, begun_at}
+use Rattle.jsgen_comment_laws.specs.Stand.{CommentPlaces}
 use Rattle.jsgen_comment_laws.specs.Woven.{is_white, dark_of, InTwo, IsDarkTextOf}
 
 -- ---- places in longer texts
 
-behind_text : (a b : List ℕ) (cs : List Comment) → Stand b cs → Stand (a ++ b) cs
+behind_text : (a b : List ℕ) (cs : List Comment) → CommentPlaces b cs → CommentPlaces (a ++ b) cs
 behind_text a b [] h = tt
 behind_text a b (c ∷ cs) h = (
   record {
@@ -31,7 +31,7 @@ behind_text a b (c ∷ cs) h = (
   h.1,
 )
 
-pub stand_both : (a b : List ℕ) (cs ds : List Comment) → Stand a cs → Stand b ds → Stand (a ++ b) (cs ++ ds)
+pub stand_both : (a b : List ℕ) (cs ds : List Comment) → CommentPlaces a cs → CommentPlaces b ds → CommentPlaces (a ++ b) (cs ++ ds)
 stand_both a b [] ds h k = behind_text a b ds k
 stand_both a b (c ∷ cs) ds h k = (
   record {
@@ -85,7 +85,7 @@ pub record Adds (p q : Pen) : Type 0 where
 -- text behind the code, in which the comments stand, and what else there is is white
 pub record Writes (cs : List Comment) (p q : Pen) : Type 0 where
   pub adds : Adds p q
-  pub stand : Stand adds.text cs
+  pub stand : CommentPlaces adds.text cs
   pub dark : is_white p.style.indent ≡ true → DarkTexts cs (dark_of adds.text)
 
 abbrev pub adds_then : {p q r : Pen} → Adds p q → Adds q r → Adds p r
@@ -242,8 +242,8 @@ ends : (b : Bool) (p : Pen) → Writes [] p (behind_last b p)
 ends true p = ends_line_here p
 ends false p = stays p (with_pending_space true p) refl refl refl refl
 
-writes_others : (ended : Bool) (c : Comment) (cs : List Comment) (p : Pen) → Writes cs p (behind ended c cs p)
-writes_others ended c [] p = ends (ended || ends_line c) p
+writes_others : (ended : Bool) (c : Comment) (cs : List Comment) (p : Pen) → Writes cs p (behind_comment ended c cs p)
+writes_others ended c [] p = ends (ended || ends_its_line c) p
 writes_others ended c (d ∷ cs) p =
     let p1 : Pen = before_later (d.newline_before || is_line c.kind) (is_legal d.content) p in
     both (goes_on (d.newline_before || is_line c.kind) (is_legal d.content) p) (both (writes_comment d p1) (writes_others ended d cs (comment_written d p1)))
@@ -252,11 +252,11 @@ pub writes_group : (ended : Bool) (cs : List Comment) (p : Pen) → Writes cs p 
 writes_group ended [] p = none p
 writes_group ended (c ∷ cs) p =
     let p1 : Pen = before_first c.newline_before p in
-    let p2 : Pen = behind ended c cs (comment_written c p1) in
+    let p2 : Pen = behind_comment ended c cs (comment_written c p1) in
     ended_by (both (begins c.newline_before p) (both (writes_comment c p1) (writes_others ended c cs (comment_written c p1)))) (stays p2 (begun_at p.start p2) refl refl refl refl)
 
 pub writes_before : (m : Manner) (p : Pen) → Writes [] p (before_group m p)
-writes_before with_key_annotation p = whitens (ends_in 47 p) (codes " ") p refl
+writes_before with_key_annotation p = whitens (code_ends_in 47 p) (codes " ") p refl
 writes_before all_of_them p = none p
 writes_before then_space p = none p
 writes_before with_due_space p = none p
@@ -264,8 +264,8 @@ writes_before before_it p = none p
 writes_before annotation_before_it p = none p
 writes_before none_of_them p = none p
 
-writes_due : (p : Pen) → Writes [] p (if ends_in 10 p then indented_here p else used_up p)
-writes_due p = one_of (ends_in 10 p) (indents p) (uses_up p)
+writes_due : (p : Pen) → Writes [] p (if code_ends_in 10 p then indented_here p else used_up p)
+writes_due p = one_of (code_ends_in 10 p) (indents p) (uses_up p)
 
 pub writes_behind : (m : Manner) (p : Pen) → Writes [] p (behind_group m p)
 writes_behind all_of_them p = none p

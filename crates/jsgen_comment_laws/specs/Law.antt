@@ -1,16 +1,29 @@
 -- What is promised of the comments of a program.
-use Rattle.std.specs.Prelude.{◌≡◌, ℕ, ◌≤◌, List, [], ◌++◌, map, Bool, ◌&&◌}
+use Rattle.std.specs.Prelude.{◌≡◌, ℕ, ◌≤◌, List, [], ◌++◌, map, Bool, true, ◌&&◌}
 use Rattle.jsgen_tree.specs.Job.{JobData}
 use Rattle.jsgen_tree.specs.Everywhere.{Everywhere}
 use Rattle.jsgen_place.specs.Place.{among_statements}
 use Rattle.jsgen_model.specs.Ends.{ended}
+use Rattle.jsgen_model.specs.Items.{Items}
 use Rattle.jsgen_model.specs.Lay.{lay}
 use Rattle.jsgen_model.specs.Layout.{Pen}
 use Rattle.jsgen_model.specs.Plain.{is_formed}
 use Rattle.jsgen_model.specs.Spell.{spell, comments_in, source_bytes, first_pen, printed}
 use Rattle.jsgen_model.specs.Valid.{IsValid}
-use Rattle.jsgen_comment_laws.specs.Stand.{Waiting, kept_comments, annotation_comments, count, Stand, has_to_stand}
-use Rattle.jsgen_comment_laws.specs.Woven.{dark_of, bones, without_comments, Woven}
+use Rattle.jsgen_comment_laws.specs.Stand.{Waiting, kept_comments, annotation_comments, count, CommentPlaces, has_to_stand}
+use Rattle.jsgen_comment_laws.specs.Woven.{is_white, dark_of, bones, without_comments, Woven}
+
+-- ---- any items
+
+-- what items add to the code of a pen for which no comment waits: of their bones alone it is woven, with annotations as they are written
+pub record AddsWoven (items : Items) (pen : Pen) : Type 0 where
+  pub text : List ℕ
+  pub is : (lay items pen).code ≡ pen.code ++ text
+  pub woven : Woven [] [] (bones items pen) [] (dark_of text)
+
+-- whatever is spelled so, from any pen that is indented by spaces or tabs
+abbrev pub ItemsAreWoven : Type 0
+ItemsAreWoven = (items : Items) (pen : Pen) → is_white pen.style.indent ≡ true → AddsWoven items (without_comments pen)
 
 -- ---- the end of a text
 
@@ -28,7 +41,7 @@ pub record CommentsStandIn (job : JobData) (text : List ℕ) : Type 0 where
   pub is : text ≡ body ++ end
   pub ends : IsEndOf job end
   pub comments : List Waiting
-  pub stand : Stand body (map (λ w. w.comment) comments)
+  pub stand : CommentPlaces body (map (λ w. w.comment) comments)
   -- by any test there are no more of them than are kept, so that none stands more often than the job has it
   pub once : (test : Waiting → Bool) → count test comments ≤ count test (kept_comments job)
   -- and of those that have to stand as many

@@ -55,7 +55,7 @@ abbrev pub IsTextOf : Comment → List ℕ → Type 0
 IsTextOf c text = (pen : Pen) × ((comment_written c pen).code ≡ pen.code ++ text)
 
 -- a place in a text, and the comment's own text there
-pub record Place (text : List ℕ) (c : Comment) : Type 0 where
+pub record CommentPlace (text : List ℕ) (c : Comment) : Type 0 where
   pub before : List ℕ
   pub own : List ℕ
   pub rest : List ℕ
@@ -63,9 +63,9 @@ pub record Place (text : List ℕ) (c : Comment) : Type 0 where
   pub its : IsTextOf c own
 
 -- a place for each of some comments, each behind the one before
-abbrev pub Stand : List ℕ → List Comment → Type 0
-Stand text [] = ⊤
-Stand text (c ∷ cs) = (place : Place text c) × Stand place.rest cs
+abbrev pub CommentPlaces : List ℕ → List Comment → Type 0
+CommentPlaces text [] = ⊤
+CommentPlaces text (c ∷ cs) = (place : CommentPlace text c) × CommentPlaces place.rest cs
 
 -- ---- those that have to stand in the text of a program
 

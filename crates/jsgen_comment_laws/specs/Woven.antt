@@ -3,8 +3,7 @@ use Rattle.std.specs.Prelude.{◌≡◌, ◌⊎◌, ℕ, nat_lt, List, [], ◌�
 use Rattle.std.specs.List.{filter}
 use Rattle.jsgen_model.specs.Punctuator.{Round, opening, closing}
 use Rattle.jsgen_model.specs.Items.{Items, ◌⊕◌, a_brace, deeper, in_class, brackets, wrapped, wrapped_at_start, parentheses_unless_minified, unless_minified, where_same, comments, orphans, orphan_lines, empty_body, held, lined_case, caught, annotation, annotation_line, annotated, commented, member_line, member_space, in_lines, line_break, Annotation, is_pure, no_side_effects, Break, first_argument, other_argument, import_source, import_options, all_of_them}
-use Rattle.jsgen_model.specs.Layout.{Pen, other_end, written, written_if, is_barred, deeper_level, entered, are_same}
-use Rattle.jsgen_model.specs.Layout as layouts
+use Rattle.jsgen_model.specs.Layout.{Pen, other_end, written, written_if, is_barred, deeper_level, entered, are_printed_alike}
 use Rattle.jsgen_model.specs.Lay.{lay, case_mark, commented_from, annotated_from, lifts}
 use Rattle.jsgen_model.specs.Comments.{Comment, is_outliving, empty_store}
 use Rattle.jsgen_model.specs.Groups.{comments_at, has_orphans, case_begun, last_byte, without_ending, are_lined, lines_opened, annotation_text, says}
@@ -79,9 +78,9 @@ bones (in_class items) p = bones items (entered p)
 bones (brackets b items) p = darks (dark_of (opening b)) ⧺ (bones items (written (opening b) other_end p) ⧺ darks (dark_of (closing b)))
 bones (wrapped test items) p = in_parentheses test (bones items (written_if test (opening Round) p))
 bones (wrapped_at_start test opener items) p = in_parentheses (test || is_barred opener p.start) (bones items (written_if (test || is_barred opener p.start) (opening Round) p))
-bones (parentheses_unless_minified items) p = in_parentheses (layouts.not p.style.minified) (bones items (written_if (layouts.not p.style.minified) (opening Round) p))
+bones (parentheses_unless_minified items) p = in_parentheses (not p.style.minified) (bones items (written_if (not p.style.minified) (opening Round) p))
 bones (unless_minified items) p = if p.style.minified then no_bones else bones items p
-bones (where_same m n a b) p = if are_same p.style.tables m n then bones a p else bones b p
+bones (where_same m n a b) p = if are_printed_alike p.style.tables m n then bones a p else bones b p
 bones (comments manner o) p = comment_gap (o ∷ []) no_bones
 bones (orphans o) p = orphan_gap o no_bones
 bones (orphan_lines o) p = orphan_gap o no_bones
@@ -124,7 +123,7 @@ FilledBy Told [] bytes = bytes ≡ []
 FilledBy Told (w ∷ ws) bytes = InTwo bytes (λ own. Told w × IsDarkTextOf w.comment own) (λ rest. FilledBy Told ws rest)
 
 -- comments and characters, both cut in two: `First` holds of the first parts, and `Second` of the others
-pub record Parted (ws : List Waiting) (bytes : List ℕ) (First Second : List Waiting → List ℕ → Type 0) : Type 0 where
+pub record BothInTwo (ws : List Waiting) (bytes : List ℕ) (First Second : List Waiting → List ℕ → Type 0) : Type 0 where
   pub first_comments : List Waiting
   pub second_comments : List Waiting
   pub are : ws ≡ first_comments ++ second_comments
@@ -158,7 +157,7 @@ IsObject kept o Inner bytes = Inner bytes ⊎ (InRound Inner bytes × ((c : Comm
 abbrev pub Woven : List Waiting → List Waiting → Bones → List Waiting → List ℕ → Type 0
 Woven kept annotations no_bones ws bytes = (ws ≡ []) × (bytes ≡ [])
 Woven kept annotations (dark c bs) ws bytes = InTwo bytes (λ own. own ≡ c ∷ []) (λ rest. Woven kept annotations bs ws rest)
-Woven kept annotations (comment_gap os bs) ws bytes = Parted ws bytes (λ us own. FilledBy (BelongsTo kept os) us own) (λ vs rest. Woven kept annotations bs vs rest)
-Woven kept annotations (orphan_gap o bs) ws bytes = Parted ws bytes (λ us own. FilledBy (IsOrphan kept o) us own) (λ vs rest. Woven kept annotations bs vs rest)
+Woven kept annotations (comment_gap os bs) ws bytes = BothInTwo ws bytes (λ us own. FilledBy (BelongsTo kept os) us own) (λ vs rest. Woven kept annotations bs vs rest)
+Woven kept annotations (orphan_gap o bs) ws bytes = BothInTwo ws bytes (λ us own. FilledBy (IsOrphan kept o) us own) (λ vs rest. Woven kept annotations bs vs rest)
 Woven kept annotations (annotation_gap kind o bs) ws bytes = InTwo bytes (IsAnnotation annotations kind o) (λ rest. Woven kept annotations bs ws rest)
-Woven kept annotations (object_gap o inner bs) ws bytes = Parted ws bytes (λ us own. IsObject kept o (λ inside. Woven kept annotations inner us inside) own) (λ vs rest. Woven kept annotations bs vs rest)
+Woven kept annotations (object_gap o inner bs) ws bytes = BothInTwo ws bytes (λ us own. IsObject kept o (λ inside. Woven kept annotations inner us inside) own) (λ vs rest. Woven kept annotations bs vs rest)

@@ -22,12 +22,15 @@ pub struct Group<'a> {
     pub comments: Vec<Comment>,
 }
 
+/// Comments in groups, by the offsets that they belong to.
+pub type CommentsMap = BTreeMap<u32, Vec<Comment>>;
+
 /// The comments that are still to be printed: in groups by the offsets that they belong to, and the offsets of groups that hold a
 /// comment which outlives its place. Annotations of calls and functions are kept apart, of each offset the last.
 #[derive(Drop)]
 pub struct Comments<'a> {
     source: &'a str,
-    groups: BTreeMap<u32, Vec<Comment>>,
+    groups: CommentsMap,
     orphans: BTreeSet<u32>,
     annotations: BTreeMap<u32, Comment>,
 }

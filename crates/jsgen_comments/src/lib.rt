@@ -7,6 +7,6 @@ mod legal;
 mod text;
 
 pub use annotations::AnnotationKind;
-pub use comments::{Comments, Group};
+pub use comments::{Comments, CommentsMap, Group};
 pub use legal::licences;
 pub use text::{first_line, text_at, text_of};

@@ -1,12 +1,12 @@
 -- Lists in which members may be left out.
-use Rattle.std.proofs.Common.{◌≡◌, ℕ, Bool, true, Option, Some, None, is_some, List, [], ◌∷◌, map, length, slice_get, zero, suc, ◌-◌, nat_lt, refl, ap, sym, ◌∙◌, arith}
+use Rattle.std.proofs.Common.{◌≡◌, ℕ, Bool, true, Option, Some, None, is_some, List, [], ◌∷◌, map, length, slice_get, zero, suc, ◌-◌, nat_lt, refl, ap, sym, ◌∙◌, arith, not}
 use Rattle.std.proofs.lemmas.Bool.{both_ways}
 use Rattle.std.proofs.lemmas.Option.{same_Some}
 use Rattle.jsgen_tree.specs.Tree.{Tree, holed}
 use Rattle.jsgen_model.specs.Punctuator.{comma}
 use Rattle.jsgen_model.specs.Items.{◌⊕◌, punctuator}
 use Rattle.jsgen_model.specs.Lay.{lay}
-use Rattle.jsgen_model.specs.Layout.{Pen, not}
+use Rattle.jsgen_model.specs.Layout.{Pen}
 use Rattle.jsgen_place.specs.declared.place.Place.{Place}
 use Rattle.jsgen_model.specs.Spell.{spell_elements, spell_more_elements, line_or_space, are_more, count, ends_in_hole}
 use Rattle.jsgen_lists.specs.Lists.{element_items}

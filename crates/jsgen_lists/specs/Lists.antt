@@ -25,7 +25,7 @@ all_properties lines ts place = spell_properties lines ts place ⊕ comma_if (en
 
 -- braces in which nothing stands but comments that stand nowhere else
 abbrev pub orphan_braces : Span → Items
-orphan_braces s = mark s ⊕ (brackets Brace (orphan_lines s.end ⊕ end_mark s) ⊕ drop_semicolon)
+orphan_braces s = mark s ⊕ brackets Brace (orphan_lines s.end ⊕ end_mark s) ⊕ drop_semicolon
 
 -- the pen within the braces of a span, one level deeper, and behind them, at the level before
 abbrev pub braces_opened : Span → Pen → Pen

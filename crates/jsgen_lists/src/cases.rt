@@ -62,8 +62,8 @@ pub fn print_case<E, F, L: PrintMember<E>, O: PrintOnly<F>, S: PrintStatement<F>
     consequent: &[F],
     p: &mut Printer<'_>,
 )
-    ensures { Lays p.old p.new (comments all_of_them span.start ⊕ (indentation ⊕ (mark span ⊕ (spell_test (optional (option_map L.plain test.now)) (in_brackets Lowest)
-        ⊕ (punctuator colon ⊕ case_items (trees (map S.plain consequent.now)) (spell_only span.end (trees (map O.plain consequent.now))) (spell_statements (trees (map S.plain consequent.now)) ⊕ orphans span.end)))))) }
+    ensures { Lays p.old p.new (comments all_of_them span.start ⊕ indentation ⊕ mark span ⊕ spell_test (optional (option_map L.plain test.now)) (in_brackets Lowest)
+        ⊕ punctuator colon ⊕ case_items (trees (map S.plain consequent.now)) (spell_only span.end (trees (map O.plain consequent.now))) (spell_statements (trees (map S.plain consequent.now)) ⊕ orphans span.end)) }
 {
     p.print_comments(span.start);
     p.print_indentation();

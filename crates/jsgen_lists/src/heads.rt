@@ -21,7 +21,7 @@ pub fn print_behind_word<E, L: PrintMember<E>>(
     place: Place,
 )
     requires { IsTrue (is_ascii text.now) }
-    ensures { Lays p.old p.new (word text.now ⊕ (soft_space ⊕ spell (L.plain member.now) place)) }
+    ensures { Lays p.old p.new (word text.now ⊕ soft_space ⊕ spell (L.plain member.now) place) }
 {
     p.print_word(text);
     print_behind_space::<E, L>(member, p, place);

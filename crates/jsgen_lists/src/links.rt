@@ -19,7 +19,7 @@ pub fn print_named_member<E, L: PrintObject<E>>(
     place: Place,
 )
     ensures { Lays p.old p.new (linked_items (L.plain object.now) (spell (L.plain object.now) place)
-        ⊕ (name_link optional ⊕ name property.now.span (as_written (characters property.now.name)))) }
+        ⊕ name_link optional ⊕ name property.now.span (as_written (characters property.now.name))) }
 {
     print_linked::<E, L>(object, p, place);
     print_member_name(optional, property, p);

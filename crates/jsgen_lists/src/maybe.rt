@@ -22,7 +22,7 @@ pub fn print_value<E, L: PrintMember<E>>(value: &Option<E>, p: &mut Printer<'_>,
 }
 
 fn print_behind_equal<E, L: PrintMember<E>>(value: &E, p: &mut Printer<'_>, place: Place)
-    ensures { Lays p.old p.new (soft_space ⊕ (punctuator equal ⊕ (soft_space ⊕ spell (L.plain value.now) place))) }
+    ensures { Lays p.old p.new (soft_space ⊕ punctuator equal ⊕ soft_space ⊕ spell (L.plain value.now) place) }
 {
     p.print_soft_space();
     p.print_equal();
@@ -85,7 +85,7 @@ pub fn print_behind_comma<E, L: PrintMember<E>>(
 }
 
 fn print_second<E, L: PrintMember<E>>(member: &E, p: &mut Printer<'_>, place: Place)
-    ensures { Lays p.old p.new (punctuator comma ⊕ (line_break import_options ⊕ spell (L.plain member.now) place)) }
+    ensures { Lays p.old p.new (punctuator comma ⊕ line_break import_options ⊕ spell (L.plain member.now) place) }
 {
     p.print_comma();
     p.print_options_break();

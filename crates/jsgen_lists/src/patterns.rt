@@ -20,7 +20,7 @@ pub fn print_pattern_braces<E, R, L: PrintMember<E>, M: PrintMember<R>>(
     place: Place,
 )
     ensures { Lays p.old p.new (pattern_braces (trees (map L.plain properties.now)) (optional (option_map M.plain rest.now))
-        (spell_list (trees (map L.plain properties.now)) place ⊕ (comma_between (trees (map L.plain properties.now)) (optional (option_map M.plain rest.now)) ⊕ spell_if_given (optional (option_map M.plain rest.now)) place))) }
+        (spell_list (trees (map L.plain properties.now)) place ⊕ comma_between (trees (map L.plain properties.now)) (optional (option_map M.plain rest.now)) ⊕ spell_if_given (optional (option_map M.plain rest.now)) place)) }
 {
     if are_none(properties, rest) {
         print_braces_alone(p);
@@ -57,8 +57,8 @@ fn print_between_spaces<E, R, L: PrintMember<E>, M: PrintMember<R>>(
     p: &mut Printer<'_>,
     place: Place,
 )
-    ensures { Lays p.old p.new (brackets Brace (soft_space ⊕ ((spell_list (trees (map L.plain properties.now)) place
-        ⊕ (comma_between (trees (map L.plain properties.now)) (optional (option_map M.plain rest.now)) ⊕ spell_if_given (optional (option_map M.plain rest.now)) place)) ⊕ soft_space))) }
+    ensures { Lays p.old p.new (brackets Brace (soft_space ⊕ (spell_list (trees (map L.plain properties.now)) place
+        ⊕ comma_between (trees (map L.plain properties.now)) (optional (option_map M.plain rest.now)) ⊕ spell_if_given (optional (option_map M.plain rest.now)) place) ⊕ soft_space)) }
 {
     p.print_opening(Bracket::Brace);
     p.print_soft_space();

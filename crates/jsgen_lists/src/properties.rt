@@ -58,7 +58,7 @@ fn print_inside<E, L: PrintProperty<E>>(properties: &[E], p: &mut Printer<'_>, p
 }
 
 fn print_single<E, L: PrintProperty<E>>(property: &E, p: &mut Printer<'_>, place: Place)
-    ensures { Lays p.old p.new (member_space (span_of (L.plain property.now)).start ⊕ (spell (L.plain property.now) place ⊕ soft_space)) }
+    ensures { Lays p.old p.new (member_space (span_of (L.plain property.now)).start ⊕ spell (L.plain property.now) place ⊕ soft_space) }
 {
     p.print_member_space(L::span(property).start);
     L::print_property(property, p, place);
@@ -72,7 +72,7 @@ fn print_on_lines<E, L: PrintProperty<E>>(
     p: &mut Printer<'_>,
     place: Place,
 )
-    ensures { Lays p.old p.new (deeper (member_line (span_of (L.plain first.now)).start ⊕ (spell (L.plain first.now) place ⊕ spell_more_properties true (trees (map L.plain others.now)) place)) ⊕ next_line) }
+    ensures { Lays p.old p.new (deeper (member_line (span_of (L.plain first.now)).start ⊕ spell (L.plain first.now) place ⊕ spell_more_properties true (trees (map L.plain others.now)) place) ⊕ next_line) }
 {
     let depth = p.deepen();
     print_on_line::<E, L>(first, p, place);

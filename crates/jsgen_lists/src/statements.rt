@@ -76,7 +76,7 @@ pub fn print_deeper_statements<E, S: PrintStatement<E>>(
 
 /// What stands before the `while` of a `do`: a statement on a line of its own, one level deeper, up to the indentation of what follows.
 pub fn print_deeper_body<E, S: PrintStatement<E>>(body: &E, p: &mut Printer<'_>)
-    ensures { Lays p.old p.new (soft_line ⊕ (deeper (spell (S.plain body.now) among_statements ⊕ due_semicolon) ⊕ indentation)) }
+    ensures { Lays p.old p.new (soft_line ⊕ deeper (spell (S.plain body.now) among_statements ⊕ due_semicolon) ⊕ indentation) }
 {
     p.print_soft_line();
     let depth = p.deepen();

@@ -51,7 +51,7 @@ fn print_behind<E, L: PrintObject<E>>(
     p: &mut Printer<'_>,
     place: Place,
 )
-    ensures { Lays p.old p.new (mark span ⊕ (linked_items (L.plain operand.now) (spell (L.plain operand.now) (child Postfix place)) ⊕ update_item operator)) }
+    ensures { Lays p.old p.new (mark span ⊕ linked_items (L.plain operand.now) (spell (L.plain operand.now) (child Postfix place)) ⊕ update_item operator) }
 {
     p.print_mark(span);
     print_linked::<E, L>(operand, p, place.child(Precedence::Postfix));

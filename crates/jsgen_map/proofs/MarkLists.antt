@@ -11,7 +11,7 @@ use Rattle.jsgen_map.specs.declared.position.Position.{Position}
 use Rattle.jsgen_map.specs.declared.source_map.Token.{Token}
 use Rattle.jsgen_map.specs.Count.{counted, counted_from}
 use Rattle.jsgen_map.specs.LineColumn.{line_column}
-use Rattle.jsgen_map.specs.Marks.{Mark, MapOf, Ordered, Parted, is_among, is_last, last_from, names_from, number_of, one_more, token_at, token_of, with_name}
+use Rattle.jsgen_map.specs.Marks.{Mark, MapOf, Ordered, OffsetsDiffer, is_among, is_last, last_from, names_from, number_of, one_more, token_at, token_of, with_name}
 use Rattle.jsgen_map.proofs.Counts.{counted_append, counted_is}
 use Rattle.jsgen_map.proofs.NameList.{is_or_not, number_kept, same_bytes}
 
@@ -33,7 +33,7 @@ each_within : (least : ℕ) (ms : List Mark) (most : ℕ) → Ordered least ms m
 each_within least [] most o = All-nil (λ (m : Mark). m.bytes ≤ most)
 each_within least (m ∷ ms) most o = All-cons (λ (m : Mark). m.bytes ≤ most) m ms (ordered_ends m.bytes ms most o.1) (each_within m.bytes ms most o.1)
 
-parted_push : (last : Option ℕ) (ms : List Mark) (m : Mark) → is_last (last_from last ms) m.offset ≡ false → Parted last ms → Parted last (ms ++ m ∷ [])
+parted_push : (last : Option ℕ) (ms : List Mark) (m : Mark) → is_last (last_from last ms) m.offset ≡ false → OffsetsDiffer last ms → OffsetsDiffer last (ms ++ m ∷ [])
 parted_push last [] m h p = (h, tt)
 parted_push last (k ∷ ms) m h p = (p.0, parted_push (Some k.offset) ms m h p.1)
 

@@ -4,8 +4,8 @@ use Rattle.std.specs.Str.{IsUtf8}
 use Rattle.std.proofs.lemmas.List.{take-take, length-take-le, take_more, drop_more, take_all, get_or-map, get_or_default, length-map}
 use Rattle.jsgen_map.specs.declared.builder.SourcemapBuilder.{SourcemapBuilder}
 use Rattle.jsgen_map.specs.declared.source_map.Mark as declared
-use Rattle.jsgen_map.specs.Builder.{counted_bytes, Adds, StandsFor}
-use Rattle.jsgen_map.specs.Marks.{Mark, AreMarks, Ordered, Parted, last_from, one_more}
+use Rattle.jsgen_map.specs.Builder.{counted_bytes, AddsMarks, StandsFor}
+use Rattle.jsgen_map.specs.Marks.{Mark, AreMarks, Ordered, OffsetsDiffer, last_from, one_more}
 use Rattle.jsgen_map.specs.Plain.{mark_plain}
 use Rattle.jsgen_map.proofs.MarkLists.{last_of_more, one_more_does, ordered_ends}
 use Rattle.jsgen_map.proofs.Stands.{stands_on}
@@ -15,7 +15,7 @@ pub record Taken (code : List ℕ) (ms : List Mark) (i : ℕ) (b : SourcemapBuil
   pub done : ℕ
   pub stands : StandsFor b (take done code) (take i ms)
   pub ordered : Ordered done (drop i ms) (length code)
-  pub parted : Parted (last_from None (take i ms)) (drop i ms)
+  pub parted : OffsetsDiffer (last_from None (take i ms)) (drop i ms)
 
 pub taken_none : (code source : List ℕ) (ms : List Mark) (b : SourcemapBuilder) → AreMarks code source ms → StandsFor b [] [] → Taken code ms 0 b
 taken_none code source ms b are stands = record { done = 0; stands = stands; ordered = are.ordered; parted = are.parted }
@@ -34,10 +34,10 @@ next code ms i m b taken e =
     let d = o.0 in
     record { within = l; grown = omega arith }
 
-pub taken_more : (code : List ℕ) (ms : List Mark) (i : ℕ) (m : Mark) (old new : SourcemapBuilder) → Taken code ms i old → drop i ms ≡ m ∷ drop (i + 1) ms → take (i + 1) ms ≡ take i ms ++ m ∷ [] → Adds old new (take m.bytes code) (one_more m) → Taken code ms (i + 1) new
+pub taken_more : (code : List ℕ) (ms : List Mark) (i : ℕ) (m : Mark) (old new : SourcemapBuilder) → Taken code ms i old → drop i ms ≡ m ∷ drop (i + 1) ms → take (i + 1) ms ≡ take i ms ++ m ∷ [] → AddsMarks old new (take m.bytes code) (one_more m) → Taken code ms (i + 1) new
 taken_more code ms i m old new taken e f adds =
     let o = subst (λ l. Ordered taken.done l (length code)) e taken.ordered in
-    let p = subst (Parted (last_from None (take i ms))) e taken.parted in
+    let p = subst (OffsetsDiffer (last_from None (take i ms))) e taken.parted in
     let l = ordered_ends m.bytes (drop (i + 1) ms) (length code) o.1 in
     let d = o.0 in
     let h : taken.done ≤ length code = omega arith in
@@ -47,7 +47,7 @@ taken_more code ms i m old new taken e f adds =
       done = m.bytes;
       stands = subst (StandsFor new (take m.bytes code)) (one_more_does m (take i ms) p.0 ∙ sym f) (adds (take taken.done code) (take i ms) taken.stands front);
       ordered = o.1;
-      parted = subst (λ last. Parted last (drop (i + 1) ms)) (last_of_more (take i ms) m ∙ ap (last_from None) (sym f)) p.1;
+      parted = subst (λ last. OffsetsDiffer last (drop (i + 1) ms)) (last_of_more (take i ms) m ∙ ap (last_from None) (sym f)) p.1;
     }
 
 pub taken_all : (code : List ℕ) (ms : List Mark) (i : ℕ) (b : SourcemapBuilder) → Taken code ms i b → length ms ≤ i → StandsFor b code ms

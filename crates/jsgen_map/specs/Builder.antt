@@ -46,8 +46,8 @@ pub record StandsFor (b : SourcemapBuilder) (output : List ℕ) (marks : List Ma
   pub numbers : NumbersOf (built b).names (built b).numbers
 
 -- where the old builder stands for the marks of an output with which this one begins, the new one stands for this output and the changed marks
-abbrev pub Adds : SourcemapBuilder → SourcemapBuilder → List ℕ → (List Mark → List Mark) → Type 0
-Adds old new output change = (earlier : List ℕ) (marks : List Mark) → StandsFor old earlier marks → take (length earlier) output ≡ earlier → StandsFor new output (change marks)
+abbrev pub AddsMarks : SourcemapBuilder → SourcemapBuilder → List ℕ → (List Mark → List Mark) → Type 0
+AddsMarks old new output change = (earlier : List ℕ) (marks : List Mark) → StandsFor old earlier marks → take (length earlier) output ≡ earlier → StandsFor new output (change marks)
 
 -- nothing of the builder has changed but maybe the room that it has
 abbrev pub IsUnchanged : SourcemapBuilder → SourcemapBuilder → Type 0

@@ -39,9 +39,9 @@ Ordered least [] most = least ≤ most
 Ordered least (m ∷ ms) most = (least ≤ m.bytes) × Ordered m.bytes ms most
 
 -- two neighbours have other offsets
-abbrev pub Parted : Option ℕ → List Mark → Type 0
-Parted last [] = Unit {0}
-Parted last (m ∷ ms) = (is_last last m.offset ≡ false) × Parted (Some m.offset) ms
+abbrev pub OffsetsDiffer : Option ℕ → List Mark → Type 0
+OffsetsDiffer last [] = Unit {0}
+OffsetsDiffer last (m ∷ ms) = (is_last last m.offset ≡ false) × OffsetsDiffer (Some m.offset) ms
 
 -- ---- names
 
@@ -87,7 +87,7 @@ pub record MapOf (output source : List ℕ) (marks : List Mark) (names : List (L
   pub ordered : Ordered 0 marks (length output)
   -- each stands at a character's end
   pub ends : All (λ (m : Mark). IsUtf8 (take m.bytes output)) marks
-  pub parted : Parted None marks
+  pub parted : OffsetsDiffer None marks
   pub named : names ≡ names_from [] marks
   pub are : tokens ≡ map (token_of names output source) marks
 
@@ -99,5 +99,5 @@ other_name was printed = if bytes_eq was printed then None else Some was
 pub record AreMarks (code source : List ℕ) (marks : List Mark) : Type 0 where
   pub ordered : Ordered 0 marks (length code)
   pub ends : All (λ (m : Mark). IsUtf8 (take m.bytes code)) marks
-  pub parted : Parted None marks
+  pub parted : OffsetsDiffer None marks
   pub offsets : All (λ (m : Mark). m.offset ≤ length source) marks

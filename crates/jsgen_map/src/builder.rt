@@ -34,7 +34,7 @@ pub struct SourcemapBuilder<'a> {
 }
 
 impl<'a> SourcemapBuilder<'a> {
-    ghost use Rattle.jsgen_map.specs.Builder.{path_of, source_of, counted_bytes, Adds, IsMapOf, IsOfSameSource, IsUnchanged, StandsFor};
+    ghost use Rattle.jsgen_map.specs.Builder.{path_of, source_of, counted_bytes, AddsMarks, IsMapOf, IsOfSameSource, IsUnchanged, StandsFor};
 
     /// A builder for the empty output, without marks.
     pub fn new(
@@ -72,7 +72,7 @@ impl<'a> SourcemapBuilder<'a> {
         requires utf8 { IsUtf8 (take mark.bytes code.now) }
         requires offset { mark.offset ≤ length (source_of self.old) }
         requires grown { counted_bytes self.old ≤ mark.bytes }
-        ensures ok { OnOk result (Adds self.old self.new (take mark.entry.bytes code.now) (one_more (mark_plain mark.entry))) }
+        ensures ok { OnOk result (AddsMarks self.old self.new (take mark.entry.bytes code.now) (one_more (mark_plain mark.entry))) }
         ensures err { OnErr result (IsUnchanged self.old self.new) }
         ensures same { IsOfSameSource self.old self.new }
     {
@@ -101,7 +101,7 @@ impl<'a> SourcemapBuilder<'a> {
         requires utf8 { IsUtf8 output.now }
         requires offset { position ≤ length (source_of self.old) }
         requires grown { counted_bytes self.old ≤ length output.now }
-        ensures ok { OnOk result (Adds self.old self.new output.now (one_more (mark_at output.now position name.entry))) }
+        ensures ok { OnOk result (AddsMarks self.old self.new output.now (one_more (mark_at output.now position name.entry))) }
         ensures err { OnErr result (IsUnchanged self.old self.new) }
         ensures same { IsOfSameSource self.old self.new }
     {
@@ -123,7 +123,7 @@ impl<'a> SourcemapBuilder<'a> {
         requires utf8 { IsUtf8 output.now }
         requires span { IsSpanOf (source_of self.old) span }
         requires grown { counted_bytes self.old ≤ length output.now }
-        ensures ok { OnOk result (Adds self.old self.new output.now (with_name_mark (source_of self.old) output.now span name.now)) }
+        ensures ok { OnOk result (AddsMarks self.old self.new output.now (with_name_mark (source_of self.old) output.now span name.now)) }
         ensures err { OnErr result (IsUnchanged self.old self.new) }
         ensures same { IsOfSameSource self.old self.new }
     {
@@ -144,7 +144,7 @@ impl<'a> SourcemapBuilder<'a> {
         requires utf8 { IsUtf8 output.now }
         requires span { IsSpanOf (source_of self.old) span }
         requires grown { counted_bytes self.old ≤ length output.now }
-        ensures ok { OnOk result (Adds self.old self.new output.now
+        ensures ok { OnOk result (AddsMarks self.old self.new output.now
             (with_name_mark (source_of self.old) output.now span (codes "#" ++ name.now))) }
         ensures err { OnErr result (IsUnchanged self.old self.new) }
         ensures same { IsOfSameSource self.old self.new }

@@ -10,7 +10,7 @@ use std::alloc::Global;
 const NEAR_LINES: usize = 16;
 
 /// The columns of a line from its first byte past ASCII on: one for each byte, and in the last line one for its end.
-#[derive(Drop)]
+#[derive(Debug, Drop)]
 pub struct ColumnOffsets {
     /// How many bytes of the line stand before the first.
     pub(crate) first: u32,
@@ -18,14 +18,14 @@ pub struct ColumnOffsets {
 }
 
 /// Where a line starts, and the number of its columns' table if a byte of it isn't ASCII.
-#[derive(Clone, Copy)]
+#[derive(Clone, Copy, Debug)]
 pub struct Line {
     pub(crate) start: u32,
     pub(crate) columns: Option<u32>,
 }
 
 /// The lines of a source, to look up the line and the column of an offset.
-#[derive(Drop)]
+#[derive(Debug, Drop)]
 pub struct LineOffsetTables {
     pub(crate) lines: Vec<Line>,
     pub(crate) column_offsets: Vec<ColumnOffsets>,

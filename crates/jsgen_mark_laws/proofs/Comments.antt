@@ -1,5 +1,5 @@
 -- Steps that print comments: each adds text, whatever marks there are and whatever source.
-use Rattle.std.proofs.Common.{◌≡◌, ℕ, ◌*◌, Bool, true, false, ◌&&◌, ◌||◌, ◌==◌, List, [], ◌∷◌, Option, Some, None, codes, drop, replicate, refl, ap, ◌∙◌, if◌then◌else◌}
+use Rattle.std.proofs.Common.{◌≡◌, ℕ, ◌*◌, Bool, true, false, ◌&&◌, ◌||◌, ◌==◌, List, [], ◌∷◌, Option, Some, None, codes, drop, replicate, refl, ap, ◌∙◌, if◌then◌else◌, not}
 use Rattle.std.specs.List.{list_all}
 use Rattle.std.specs.Str.{skip_leading_whitespace}
 use Rattle.jsgen_syntax.specs.Raw.{tag_free}
@@ -8,9 +8,8 @@ use Rattle.jsgen_tree.specs.declared.statements.CommentKind.TheVariants as kinds
 use Rattle.jsgen_map.specs.Marks.{Mark}
 use Rattle.jsgen_model.specs.Items.{Annotation, no_side_effects, Lines, of_call, of_import, Break, first_argument, other_argument, import_source, import_options, Manner, all_of_them, then_space, with_due_space, before_it, annotation_before_it, with_key_annotation, none_of_them, Lead, to_block, to_body, to_empty}
 use Rattle.jsgen_model.specs.Comments.{Comment, Store, are_any, left_below, orphans_below}
-use Rattle.jsgen_model.specs.Groups.{line_ended, indented_here, softly_spaced, with_pending_space, used_up_if, used_up, lines_of, opens_block, closes_block, indented_if, block_line, block_lines, is_mid_line, html_close, text_written, comment_written, last_of, on_new_line, at_line_start, before_first, is_legal, before_later, is_line, ends_line, behind_last, behind, group, with_store, group_at, without_group, is_printed, ends_in, before_group, behind_group, printed_if, comments_at, orphans_before, has_orphans, one_deeper, at_level, soft_line_ended, orphan_lines_at, last_byte, ending_at, without_ending, closing_group, has_no_newlines, body_lines, body_of, empty_body_at, led_on_line, case_begun, case_ended, space_behind, annotation_text, fitting_at, without_annotation, annotation_by, annotation_written, annotation_at, annotation_line_at, each_on_line, broken_by, broken_at, on_a_line, unless_on_line, break_at, any_group, may_be_lined, are_lined, with_lines, lines_opened, indents as are_indented, lines_closed, member_line_at, member_space_at, commented_if}
+use Rattle.jsgen_model.specs.Groups.{line_ended, indented_here, softly_spaced, with_pending_space, used_up_if, used_up, lines_of, opens_block, closes_block, indented_if, block_line, block_lines, is_mid_line, html_close, text_written, comment_written, last_of, on_new_line, at_line_start, before_first, is_legal, before_later, is_line, ends_its_line, behind_last, behind_comment, group, with_store, group_at, without_group, is_printed, code_ends_in, before_group, behind_group, printed_if, comments_at, orphans_before, has_orphans, one_deeper, at_level, soft_line_ended, orphan_lines_at, last_byte, ending_at, without_ending, closing_group, has_no_newlines, body_lines, body_of, empty_body_at, led_on_line, case_begun, case_ended, space_behind, annotation_text, fitting_at, without_annotation, annotation_by, annotation_written, annotation_at, annotation_line_at, each_on_line, broken_by, broken_at, on_a_line, unless_on_line, break_at, any_group, may_be_lined, are_lined, with_lines, lines_opened, indents as are_indented, lines_closed, member_line_at, member_space_at, commented_if}
 use Rattle.jsgen_model.specs.Layout.{Pen, Start, Ending, other_end, written, written_if, indented, indent_or_space, at_indentation, deeper_level, led, on_one_line, nowhere, white_if, begun_at}
-use Rattle.jsgen_model.specs.Layout as layouts
 use Rattle.jsgen_model.specs.Punctuator.{Round, opening, closing}
 use Rattle.jsgen_model.specs.Ends.{each_written, licensed, reference}
 use Rattle.jsgen_tree.specs.Options.{Legal, left_out, inline, at_end, linked, external}
@@ -88,7 +87,7 @@ indents_if true p = let i = indents p in record { adds = i.adds; alike = i.alike
 indents_if false p = record { adds = none p; alike = λ s ms. refl }
 
 uses_up_if : (b : Bool) (p : Pen) → Passes (used_up_if b) p
-uses_up_if true p = record { adds = step_then (white (layouts.not p.style.minified) (codes " ") p).adds (same (softly_spaced p) (used_up_if true p) refl refl refl); alike = λ s ms. refl }
+uses_up_if true p = record { adds = step_then (white (not p.style.minified) (codes " ") p).adds (same (softly_spaced p) (used_up_if true p) refl refl refl); alike = λ s ms. refl }
 uses_up_if false p = record { adds = none p; alike = λ s ms. refl }
 
 uses_up : (p : Pen) → Passes used_up p
@@ -99,9 +98,9 @@ uses_up p = let u = uses_up_if p.pending_space p in record { adds = u.adds; alik
 passes_line : (l : List ℕ) (p : Pen) → Passes (block_line l) p
 passes_line l p =
     let text : List ℕ = tag_free (skip_leading_whitespace l) in
-    let first = indents_if (layouts.not (opens_block l)) p in
-    let p1 : Pen = indented_if (layouts.not (opens_block l)) p in
-    passes_then (λ q. written text other_end (indented_if (layouts.not (opens_block l)) q)) (λ q. written_if (layouts.not (closes_block l)) (codes "\n") q) (passes_then (indented_if (layouts.not (opens_block l))) (λ q. written text other_end q) first (writes text other_end p1)) (writes_if (layouts.not (closes_block l)) (codes "\n") (written text other_end p1))
+    let first = indents_if (not (opens_block l)) p in
+    let p1 : Pen = indented_if (not (opens_block l)) p in
+    passes_then (λ q. written text other_end (indented_if (not (opens_block l)) q)) (λ q. written_if (not (closes_block l)) (codes "\n") q) (passes_then (indented_if (not (opens_block l))) (λ q. written text other_end q) first (writes text other_end p1)) (writes_if (not (closes_block l)) (codes "\n") (written text other_end p1))
 
 passes_lines : (ls : List (List ℕ)) (p : Pen) → Passes (block_lines ls) p
 passes_lines [] p = record { adds = none p; alike = λ s ms. refl }
@@ -142,30 +141,30 @@ passes_before_first false p =
 passes_before_later : (b legal : Bool) (p : Pen) → Passes (before_later b legal) p
 passes_before_later true legal p = passes_new_line p
 passes_before_later false true p = ends_line_passes p
-passes_before_later false false p = let x = white (layouts.not p.style.minified) (codes " ") p in record { adds = x.adds; alike = x.alike }
+passes_before_later false false p = let x = white (not p.style.minified) (codes " ") p in record { adds = x.adds; alike = x.alike }
 
 passes_behind_last : (b : Bool) (p : Pen) → Passes (behind_last b) p
 passes_behind_last true p = ends_line_passes p
 passes_behind_last false p = with_pending true p
 
-passes_behind : (ended : Bool) (c : Comment) (cs : List Comment) (p : Pen) → Passes (behind ended c cs) p
-passes_behind ended c [] p = passes_behind_last (ended || ends_line c) p
+passes_behind : (ended : Bool) (c : Comment) (cs : List Comment) (p : Pen) → Passes (behind_comment ended c cs) p
+passes_behind ended c [] p = passes_behind_last (ended || ends_its_line c) p
 passes_behind ended c (d ∷ cs) p =
     let on_new_line : Bool = d.newline_before || is_line c.kind in
     let before = before_later on_new_line (is_legal d.content) in
-    passes_then (λ q. comment_written d (before q)) (behind ended d cs) (passes_then before (comment_written d) (passes_before_later on_new_line (is_legal d.content) p) (passes_comment d (before p))) (passes_behind ended d cs (comment_written d (before p)))
+    passes_then (λ q. comment_written d (before q)) (behind_comment ended d cs) (passes_then before (comment_written d) (passes_before_later on_new_line (is_legal d.content) p) (passes_comment d (before p))) (passes_behind ended d cs (comment_written d (before p)))
 
 pub passes_group : (ended : Bool) (cs : List Comment) (p : Pen) → Passes (group ended cs) p
 passes_group ended [] p = record { adds = none p; alike = λ s ms. refl }
 passes_group ended (c ∷ cs) p =
     let before = before_first c.newline_before in
-    begins_as (λ q. behind ended c cs (comment_written c (before q))) (passes_then (λ q. comment_written c (before q)) (behind ended c cs) (passes_then before (comment_written c) (passes_before_first c.newline_before p) (passes_comment c (before p))) (passes_behind ended c cs (comment_written c (before p))))
+    begins_as (λ q. behind_comment ended c cs (comment_written c (before q))) (passes_then (λ q. comment_written c (before q)) (behind_comment ended c cs) (passes_then before (comment_written c) (passes_before_first c.newline_before p) (passes_comment c (before p))) (passes_behind ended c cs (comment_written c (before p))))
 
 -- ---- what is printed of the store
 
 passes_before_group : (m : Manner) (p : Pen) → Passes (before_group m) p
 passes_before_group all_of_them p = record { adds = none p; alike = λ s ms. refl }
-passes_before_group with_key_annotation p = let x = white (ends_in 47 p) (codes " ") p in record { adds = x.adds; alike = λ s ms. refl }
+passes_before_group with_key_annotation p = let x = white (code_ends_in 47 p) (codes " ") p in record { adds = x.adds; alike = λ s ms. refl }
 passes_before_group then_space p = record { adds = none p; alike = λ s ms. refl }
 passes_before_group with_due_space p = record { adds = none p; alike = λ s ms. refl }
 passes_before_group before_it p = record { adds = none p; alike = λ s ms. refl }
@@ -173,8 +172,8 @@ passes_before_group annotation_before_it p = record { adds = none p; alike = λ 
 passes_before_group none_of_them p = record { adds = none p; alike = λ s ms. refl }
 
 -- what is due before an expression
-passes_due : (p : Pen) → Passes (λ q. if ends_in 10 q then indented_here q else used_up q) p
-passes_due p = let x = either (ends_in 10 p) indented_here used_up (indents p) (uses_up p) in record { adds = x.adds; alike = x.alike }
+passes_due : (p : Pen) → Passes (λ q. if code_ends_in 10 q then indented_here q else used_up q) p
+passes_due p = let x = either (code_ends_in 10 p) indented_here used_up (indents p) (uses_up p) in record { adds = x.adds; alike = x.alike }
 
 passes_behind_group : (m : Manner) (p : Pen) → Passes (behind_group m) p
 passes_behind_group all_of_them p = record { adds = none p; alike = λ s ms. refl }
@@ -183,7 +182,7 @@ passes_behind_group before_it p = passes_due p
 passes_behind_group annotation_before_it p = passes_due p
 passes_behind_group with_key_annotation p = passes_due p
 passes_behind_group none_of_them p = passes_due p
-passes_behind_group then_space p = record { adds = step_then (white (layouts.not p.style.minified) (codes " ") p).adds (same (softly_spaced p) (behind_group then_space p) refl refl refl); alike = λ s ms. refl }
+passes_behind_group then_space p = record { adds = step_then (white (not p.style.minified) (codes " ") p).adds (same (softly_spaced p) (behind_group then_space p) refl refl refl); alike = λ s ms. refl }
 
 pub passes_taken : (o : ℕ) (p : Pen) → Passes (without_group o) p
 passes_taken o p = record { adds = same p (without_group o p) refl refl refl; alike = λ s ms. refl }
@@ -211,7 +210,7 @@ passes_orphans o p =
 passes_deeper : (p : Pen) → Passes (λ q. one_deeper (soft_line_ended q)) p
 passes_deeper p =
     let p1 : Pen = soft_line_ended p in
-    record { adds = step_then (white (layouts.not p.style.minified) (codes "\n") p).adds (same p1 (one_deeper p1) refl refl refl); alike = λ s ms. refl }
+    record { adds = step_then (white (not p.style.minified) (codes "\n") p).adds (same p1 (one_deeper p1) refl refl refl); alike = λ s ms. refl }
 
 passes_back : (depth : ℕ) (p : Pen) → Passes (λ q. indented_here (at_level depth q)) p
 passes_back depth p = passes_then (at_level depth) indented_here (levels depth p) (indents (at_level depth p))
@@ -243,7 +242,7 @@ passes_body_lines o cs p =
 
 passes_body : (o : ℕ) (cs : List Comment) (p : Pen) → Passes (body_of o cs) p
 passes_body o cs p =
-    let x = either (layouts.not (has_orphans o p) && list_all has_no_newlines cs) (closing_group cs) (body_lines o cs) (passes_closing cs p) (passes_body_lines o cs p) in
+    let x = either (not (has_orphans o p) && list_all has_no_newlines cs) (closing_group cs) (body_lines o cs) (passes_closing cs p) (passes_body_lines o cs p) in
     record { adds = x.adds; alike = x.alike }
 
 passes_empty : (o : ℕ) (last : Option ℕ) (p : Pen) → Passes (λ q. body_of o (ending_at last q) (without_ending last q)) p
@@ -280,7 +279,7 @@ marks_kept {f} {p} h = ap (λ q. q.marks) (h.alike p.style.source p.marks)
 -- ---- in a case, and in a `catch`
 
 passes_led : (lead : Lead) (p : Pen) → Passes (led lead) p
-passes_led to_block p = let x = writes_if (layouts.not p.style.minified) (codes " ") p in record { adds = x.adds; alike = x.alike }
+passes_led to_block p = let x = writes_if (not p.style.minified) (codes " ") p in record { adds = x.adds; alike = x.alike }
 passes_led to_body p = with_pending true p
 passes_led (to_empty span) p = record { adds = none p; alike = λ s ms. refl }
 
@@ -308,7 +307,7 @@ passes_ended true depth end p = passes_then (orphans_before end) (at_level depth
 passes_ended false depth end p = record { adds = none p; alike = λ s ms. refl }
 
 pub passes_space : (b : Bool) (p : Pen) → Passes (space_behind b) p
-passes_space b p = let x = uses_up_if (b && (p.pending_space && layouts.not p.style.minified)) p in record { adds = x.adds; alike = x.alike }
+passes_space b p = let x = uses_up_if (b && (p.pending_space && not p.style.minified)) p in record { adds = x.adds; alike = x.alike }
 
 -- ---- annotations
 
@@ -320,7 +319,7 @@ passes_annotation_by (c ∷ cs) kind o p =
 
 passes_annotation_written : (ends : Bool) (kind : Annotation) (o : ℕ) (p : Pen) → Passes (annotation_written ends kind o) p
 passes_annotation_written ends kind o p =
-    let test : Bool = ends_in 47 p in
+    let test : Bool = code_ends_in 47 p in
     let cs = fitting_at ends kind o p in
     let x = passes_then (λ q. written_if test (codes " ") q) (annotation_by cs kind o) (writes_if test (codes " ") p) (passes_annotation_by cs kind o (written_if test (codes " ") p)) in
     record { adds = x.adds; alike = x.alike }
@@ -339,20 +338,20 @@ passes_annotation_line indented o p =
 -- ---- an object, and before it
 
 passes_soft_line : (p : Pen) → Passes soft_line_ended p
-passes_soft_line p = let x = white (layouts.not p.style.minified) (codes "\n") p in record { adds = x.adds; alike = x.alike }
+passes_soft_line p = let x = white (not p.style.minified) (codes "\n") p in record { adds = x.adds; alike = x.alike }
 
 -- text that minified text leaves out
-passes_softly : (t : List ℕ) (p : Pen) → Passes (λ q. written_if (layouts.not q.style.minified) t q) p
-passes_softly t p = let x = writes_if (layouts.not p.style.minified) t p in record { adds = x.adds; alike = x.alike }
+passes_softly : (t : List ℕ) (p : Pen) → Passes (λ q. written_if (not q.style.minified) t q) p
+passes_softly t p = let x = writes_if (not p.style.minified) t p in record { adds = x.adds; alike = x.alike }
 
 pub passes_member_line : (o : ℕ) (p : Pen) → Passes (member_line_at o) p
 passes_member_line o p =
-    let line = λ (q : Pen). written_if (layouts.not q.style.minified) (codes "\n") q in
+    let line = λ (q : Pen). written_if (not q.style.minified) (codes "\n") q in
     passes_then (λ q. comments_at all_of_them o (line q)) indented_here (passes_then line (comments_at all_of_them o) (passes_softly (codes "\n") p) (passes_comments all_of_them o (line p))) (indents (comments_at all_of_them o (line p)))
 
 pub passes_member_space : (o : ℕ) (p : Pen) → Passes (member_space_at o) p
 passes_member_space o p =
-    let space = λ (q : Pen). written_if (layouts.not q.style.minified) (codes " ") q in
+    let space = λ (q : Pen). written_if (not q.style.minified) (codes " ") q in
     passes_then space (comments_at with_due_space o) (passes_softly (codes " ") p) (passes_comments with_due_space o (space p))
 
 passes_commented : (b : Bool) (o : ℕ) (p : Pen) → Passes (commented_if b o) p
@@ -393,7 +392,7 @@ passes_on_a_line (first_argument o) p = passes_broken_at o p
 passes_on_a_line (other_argument o) p = begins_by (λ q. (on_one_line (other_argument o) q).start) (broken_at o) (λ s ms. refl) (passes_broken_at o p)
 passes_on_a_line (import_source o) p = passes_broken_at o p
 passes_on_a_line import_options p =
-    let line = λ (q : Pen). written_if (layouts.not q.style.minified) (codes "\n") q in
+    let line = λ (q : Pen). written_if (not q.style.minified) (codes "\n") q in
     passes_then line indented_here (passes_softly (codes "\n") p) (indents (line p))
 
 passes_unless_on_line : (at : Break) (p : Pen) → Passes (unless_on_line at) p

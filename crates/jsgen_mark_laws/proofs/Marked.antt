@@ -1,11 +1,13 @@
 -- What steps add: text behind the code, and marks that lead to its end or behind it.
-use Rattle.std.proofs.Common.{◌≡◌, ℕ, ◌*◌, ◌-◌, Bool, true, false, ◌&&◌, nat_le, nat_lt, length, List, [], ◌∷◌, ◌++◌, Option, Some, None, codes, replicate, refl, ap, sym, subst, ◌∙◌, arith, append_assoc, append-nil, if◌then◌else◌}
+use Rattle.std.proofs.Common.{◌≡◌, ℕ, zero, suc, ◌*◌, ◌-◌, ◌≤◌, Bool, cond, slice_index, true, false, ◌&&◌, nat_le, nat_lt, length, List, [], ◌∷◌, ◌++◌, Option, Some, None, codes, replicate, refl, ap, sym, subst, ◌∙◌, arith, append_assoc, append-nil, if◌then◌else◌}
+use Rattle.std.specs.Fmt.{is_char_start}
+use Rattle.std.specs.Fmt.Cut.{floor_char_boundary}
 use Rattle.jsgen_syntax.specs.declared.span.Span.{Span}
 use Rattle.std.proofs.lemmas.Bool.{and_parts, both_ways, leb-true, ltb-true}
 use Rattle.jsgen_model.specs.Items.{TemplatePart, whole_part, head_part, middle_part, tail_part}
-use Rattle.jsgen_map.specs.Marks.{Mark, Parted, last_offset, is_last, unless_last}
+use Rattle.jsgen_map.specs.Marks.{Mark, OffsetsDiffer, last_offset, is_last, unless_last}
 use Rattle.std.specs.Prelude.{not as isnt}
-use Rattle.jsgen_model.specs.Marks.{size, is_empty, other_name_in, has_start_mark, has_end_mark, has_link_mark, ends_in_link}
+use Rattle.jsgen_model.specs.Marks.{size, is_empty_span, other_name_in, has_start_mark, has_end_mark, end_offset, has_link_mark, ends_in_link}
 use Rattle.jsgen_model.specs.Layout.{Pen, Ending, other_end, written, written_if, text_if, is_apart, indented, indent_or_space, at_indentation, end_statement}
 use Rattle.jsgen_model.specs.Lay.{marked_if, name_mark, mark_behind, has_piece_mark, spaced}
 use Rattle.jsgen_mark_laws.specs.Law.{Adds, ArePlaced, LeadsInto}
@@ -45,7 +47,7 @@ step_then {p} {q} {r} a b = record {
   more = a.more ++ b.more;
   marks = b.marks ∙ (ap (λ x. x ++ b.more) a.marks ∙ append_assoc p.marks a.more b.more);
   ordered = ordered_append a.more b.more (size p.code) (size q.code) (size r.code) a.ordered b.ordered;
-  parted = parted_append (last_offset p.marks) a.more b.more a.parted (subst (λ l. Parted l b.more) (ap (λ ms. last_offset ms) a.marks ∙ last_append None p.marks a.more) b.parted);
+  parted = parted_append (last_offset p.marks) a.more b.more a.parted (subst (λ l. OffsetsDiffer l b.more) (ap (λ ms. last_offset ms) a.marks ∙ last_append None p.marks a.more) b.parted);
   placed = placed_append r.code r.style.source a.more b.more (placed_on b a.more a.placed) b.placed;
 }
 
@@ -120,19 +122,29 @@ pub marked_if_step : (b : Bool) (o : ℕ) (called : Option (List ℕ)) (p : Pen)
 marked_if_step true o called p leads = marked_step o called p (leads refl)
 marked_if_step false o called p leads = none p
 
--- where they have marks, a span's start, its last byte and what follows it lie in the source
+-- a character begins at its last byte or before it
+begins_before : (source : List ℕ) (i : ℕ) → floor_char_boundary source i ≤ i
+unfolding floor_char_boundary
+begins_before source zero = omega arith
+begins_before source (suc i) =
+    let before = begins_before source i in
+    elim (is_char_start (slice_index source (suc i))) as (λ t. cond t (suc i) (floor_char_boundary source i) ≤ suc i) [ true ↦ omega arith | false ↦ omega arith ]
+
+-- where they have marks, a span's start, its last character and what follows it lie in the source
 pub start_leads : (source : Option (List ℕ)) (span : Span) → has_start_mark source span ≡ true → LeadsInto source span.start
 start_leads None span h = tt
-start_leads (Some source) span h = leb-true span.start (length source) (and_parts (isnt (is_empty span)) (nat_le span.start (length source)) h).1
+start_leads (Some source) span h = leb-true span.start (length source) (and_parts (isnt (is_empty_span span)) (nat_le span.start (length source)) h).1
 
-pub end_leads : (source : Option (List ℕ)) (span : Span) → has_end_mark source span ≡ true → LeadsInto source (span.end - 1)
+pub end_leads : (source : Option (List ℕ)) (span : Span) → has_end_mark source span ≡ true → LeadsInto source (end_offset source span)
 end_leads None span h = tt
-end_leads (Some source) span h = let within = leb-true span.end (length source) (and_parts (isnt (is_empty span)) (nat_le span.end (length source)) h).1 in omega (arith, within)
+end_leads (Some source) span h =
+    let within = leb-true span.end (length source) (and_parts (isnt (is_empty_span span)) (nat_le span.end (length source)) h).1 in
+    omega (arith, within, begins_before source (span.end - 1))
 
 pub link_leads : (source : Option (List ℕ)) (span : Span) (code : List ℕ) → has_link_mark source span code ≡ true → LeadsInto source span.end
 link_leads None span code h = tt
 link_leads (Some source) span code h =
-    let before = ltb-true span.end (length source) (and_parts (ends_in_link code) (nat_lt span.end (length source)) (and_parts (isnt (is_empty span)) (ends_in_link code && nat_lt span.end (length source)) h).1).1 in
+    let before = ltb-true span.end (length source) (and_parts (ends_in_link code) (nat_lt span.end (length source)) (and_parts (isnt (is_empty_span span)) (ends_in_link code && nat_lt span.end (length source)) h).1).1 in
     omega (arith, before)
 
 pub piece_leads : (part : TemplatePart) (source : Option (List ℕ)) (span : Span) → has_piece_mark part source span ≡ true → LeadsInto source span.start

@@ -2,7 +2,7 @@
 use Rattle.std.proofs.Common.{◌≡◌, ℕ, ◌≤◌, ◌<◌, nat_le, true, false, List, [], ◌∷◌, ◌++◌, Option, Some, None, unwrap_or, refl, ap, arith}
 use Rattle.std.proofs.lemmas.Bool.{both_ways, eqb-true}
 use Rattle.std.proofs.lemmas.Bool.Decides.{nat_tests}
-use Rattle.jsgen_map.specs.Marks.{Mark, Ordered, Parted, last_from, is_last}
+use Rattle.jsgen_map.specs.Marks.{Mark, Ordered, OffsetsDiffer, last_from, is_last}
 use Rattle.jsgen_mark_laws.specs.Names.{last_before, later_mark, if_before}
 
 pub ordered_ends : (ms : List Mark) (a b : ℕ) → Ordered a ms b → a ≤ b
@@ -25,7 +25,7 @@ pub last_append : (l : Option ℕ) (ms ns : List Mark) → last_from l (ms ++ ns
 last_append l [] ns = refl
 last_append l (m ∷ ms) ns = last_append (Some m.offset) ms ns
 
-pub parted_append : (l : Option ℕ) (ms ns : List Mark) → Parted l ms → Parted (last_from l ms) ns → Parted l (ms ++ ns)
+pub parted_append : (l : Option ℕ) (ms ns : List Mark) → OffsetsDiffer l ms → OffsetsDiffer (last_from l ms) ns → OffsetsDiffer l (ms ++ ns)
 parted_append l [] ns h k = k
 parted_append l (m ∷ ms) ns h k = (h.0, parted_append (Some m.offset) ms ns h.1 k)
 

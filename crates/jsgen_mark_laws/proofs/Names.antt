@@ -1,19 +1,18 @@
 -- Marks stand in order, and names where their marks are, for all items.
-use Rattle.std.proofs.Common.{◌≡◌, ℕ, ◌+◌, ◌≤◌, Bool, true, false, ◌&&◌, ◌||◌, List, [], ◌∷◌, ◌++◌, Option, Some, None, is_some, refl, ap, sym, subst, ◌∙◌, arith, append_assoc, append-nil, if◌then◌else◌}
+use Rattle.std.proofs.Common.{◌≡◌, ℕ, ◌+◌, ◌≤◌, Bool, true, false, ◌&&◌, ◌||◌, List, [], ◌∷◌, ◌++◌, Option, Some, None, is_some, refl, ap, sym, subst, ◌∙◌, arith, append_assoc, append-nil, if◌then◌else◌, not}
 use Rattle.std.proofs.lemmas.Bool.{both_ways}
 use Rattle.jsgen_syntax.specs.Escapes.{name_text}
 use Rattle.jsgen_syntax.specs.declared.span.Span.{Span}
 use Rattle.jsgen_tree.specs.Named.{printed_name}
 use Rattle.jsgen_model.specs.Punctuator.{Round, opening, closing}
 use Rattle.jsgen_model.specs.Items.{Items, ◌⊕◌, name, private_name, deeper, in_class, brackets, wrapped, wrapped_at_start, parentheses_unless_minified, unless_minified, where_same, held, lined_case, caught, all_of_them, annotated, commented, in_lines}
-use Rattle.jsgen_map.specs.Marks.{Mark, Ordered, Parted, last_from, last_offset, is_last, unless_last}
+use Rattle.jsgen_map.specs.Marks.{Mark, Ordered, OffsetsDiffer, last_from, last_offset, is_last, unless_last}
 use Rattle.jsgen_model.specs.Marks.{size, has_start_mark, other_name_in}
-use Rattle.jsgen_model.specs.Layout as layouts
-use Rattle.jsgen_model.specs.Layout.{Pen, other_end, written, written_if, is_barred, deeper_level, entered, are_same}
+use Rattle.jsgen_model.specs.Layout.{Pen, other_end, written, written_if, is_barred, deeper_level, entered, are_printed_alike}
 use Rattle.jsgen_model.specs.Lay.{lay, lifts, annotated_if, is_enclosed, commented_from, case_mark, marked_if, name_mark, spaced}
 use Rattle.jsgen_model.specs.Private.{printed_private}
 use Rattle.jsgen_mark_laws.specs.Law.{Adds, ArePlaced, Right}
-use Rattle.jsgen_mark_laws.specs.Names.{Printed, names_of, printed_at, last_before, StandsAt, Stand}
+use Rattle.jsgen_mark_laws.specs.Names.{NameText, names_of, printed_at, last_before, StandsAt, NamePlaces}
 use Rattle.jsgen_mark_laws.proofs.Sizes.{size_append, size_some, longer}
 use Rattle.jsgen_mark_laws.proofs.Marks.{ordered_append, parted_append, was_last, before_longer, before_end, last_is}
 use Rattle.jsgen_model.specs.Comments.{are_any}
@@ -25,7 +24,7 @@ use Rattle.jsgen_mark_laws.proofs.Steps.{lay_steps, mark_step, block_step, annot
 pub right_behind : {p q : Pen} → Adds p q → Right p → Right q
 right_behind {p} {q} s r = record {
   ordered = subst (λ ms. Ordered 0 ms (size q.code)) (sym s.marks) (ordered_append p.marks s.more 0 (size p.code) (size q.code) r.ordered s.ordered);
-  parted = subst (λ ms. Parted None ms) (sym s.marks) (parted_append None p.marks s.more r.parted s.parted);
+  parted = subst (λ ms. OffsetsDiffer None ms) (sym s.marks) (parted_append None p.marks s.more r.parted s.parted);
   placed = subst (λ ms. ArePlaced q.code q.style.source ms) (sym s.marks) (placed_append q.code q.style.source p.marks s.more (placed_on s p.marks r.placed) s.placed);
 }
 
@@ -34,11 +33,11 @@ marks_are_right items p r = right_behind (lay_steps items p) r
 
 -- ---- names that stand stay where they are
 
-stand_from : (code : List ℕ) (marks : List Mark) (a b : ℕ) (ns : List Printed) → a ≤ b → Stand code marks b ns → Stand code marks a ns
+stand_from : (code : List ℕ) (marks : List Mark) (a b : ℕ) (ns : List NameText) → a ≤ b → NamePlaces code marks b ns → NamePlaces code marks a ns
 stand_from code marks a b [] h k = omega (arith, h, k)
 stand_from code marks a b (n ∷ ns) h k = (record { before = k.0.before; rest = k.0.rest; is = k.0.is; behind = omega (arith, h, k.0.behind); some = k.0.some; own = k.0.own; last = k.0.last; its = k.0.its }, k.1)
 
-at_longer : {p q : Pen} (s : Adds p q) (least : ℕ) (n : Printed) → (a : StandsAt p.code p.marks least n) → StandsAt q.code q.marks least n
+at_longer : {p q : Pen} (s : Adds p q) (least : ℕ) (n : NameText) → (a : StandsAt p.code p.marks least n) → StandsAt q.code q.marks least n
 at_longer {p} {q} s least n a = record {
   before = a.before;
   rest = a.rest ++ s.text;
@@ -50,18 +49,18 @@ at_longer {p} {q} s least n a = record {
   its = a.its;
 }
 
-pub stand_longer : {p q : Pen} (s : Adds p q) (least : ℕ) (ns : List Printed) → Stand p.code p.marks least ns → Stand q.code q.marks least ns
+pub stand_longer : {p q : Pen} (s : Adds p q) (least : ℕ) (ns : List NameText) → NamePlaces p.code p.marks least ns → NamePlaces q.code q.marks least ns
 unfolding at_longer
 stand_longer {p} {q} s least [] h = omega (arith, h, longer p.code q.code s.text s.code)
 stand_longer {p} {q} s least (n ∷ ns) h = (at_longer s least n h.0, stand_longer s (size h.0.before + size n.text) ns h.1)
 
-stand_then : {p q : Pen} (s : Adds p q) (least : ℕ) (ms ns : List Printed) → Stand p.code p.marks least ms → Stand q.code q.marks (size p.code) ns → Stand q.code q.marks least (ms ++ ns)
+stand_then : {p q : Pen} (s : Adds p q) (least : ℕ) (ms ns : List NameText) → NamePlaces p.code p.marks least ms → NamePlaces q.code q.marks (size p.code) ns → NamePlaces q.code q.marks least (ms ++ ns)
 unfolding at_longer
 stand_then {p} {q} s least [] ns h k = stand_from q.code q.marks least (size p.code) ns h k
 stand_then {p} {q} s least (m ∷ ms) ns h k = (at_longer s least m h.0, stand_then s (size h.0.before + size m.text) ms ns h.1 k)
 
 -- names, with steps round them that print none
-stand_round : {p a b q : Pen} (ns : List Printed) → Adds p a → Stand b.code b.marks (size a.code) ns → Adds b q → Stand q.code q.marks (size p.code) ns
+stand_round : {p a b q : Pen} (ns : List NameText) → Adds p a → NamePlaces b.code b.marks (size a.code) ns → Adds b q → NamePlaces q.code q.marks (size p.code) ns
 stand_round {p} {a} {b} {q} ns s h t = stand_from q.code q.marks (size p.code) (size a.code) ns (longer p.code a.code s.text s.code) (stand_longer t (size a.code) ns h)
 
 -- ---- the mark of a name
@@ -89,13 +88,13 @@ no_name : (items : Items) (p : Pen) → size p.code ≤ size (lay items p).code
 no_name items p = let s = lay_steps items p in longer p.code (lay items p).code s.text s.code
 
 -- a name behind the code of a pen, whose mark stands there
-stands : (span : Span) (w text : List ℕ) (p at q : Pen) → size p.code ≤ size at.code → Right at → q.code ≡ at.code ++ text → q.marks ≡ (name_mark span w at).marks → Stand q.code q.marks (size p.code) (printed_at (has_start_mark at.style.source span) span text)
+stands : (span : Span) (w text : List ℕ) (p at q : Pen) → size p.code ≤ size at.code → Right at → q.code ≡ at.code ++ text → q.marks ≡ (name_mark span w at).marks → NamePlaces q.code q.marks (size p.code) (printed_at (has_start_mark at.style.source span) span text)
 stands span w text p at q grown r code marks = go (has_start_mark at.style.source span) refl text refl
   where
     whole : size q.code ≡ size at.code + size text
     whole = ap size code ∙ size_append at.code text
 
-    go : (b : Bool) → has_start_mark at.style.source span ≡ b → (v : List ℕ) → text ≡ v → Stand q.code q.marks (size p.code) (printed_at b span v)
+    go : (b : Bool) → has_start_mark at.style.source span ≡ b → (v : List ℕ) → text ≡ v → NamePlaces q.code q.marks (size p.code) (printed_at b span v)
     go false f v g = omega (arith, grown, whole)
     go true f [] g = omega (arith, grown, whole)
     go true f (c ∷ cs) g =
@@ -113,7 +112,7 @@ stands span w text p at q grown r code marks = go (has_start_mark at.style.sourc
           omega (arith, whole, ap size g),
         )
 
-either_stand : (t : Bool) (p a b : Pen) (ms ns : List Printed) → Stand a.code a.marks (size p.code) ms → Stand b.code b.marks (size p.code) ns → Stand (if t then a else b).code (if t then a else b).marks (size p.code) (if t then ms else ns)
+either_stand : (t : Bool) (p a b : Pen) (ms ns : List NameText) → NamePlaces a.code a.marks (size p.code) ms → NamePlaces b.code b.marks (size p.code) ns → NamePlaces (if t then a else b).code (if t then a else b).marks (size p.code) (if t then ms else ns)
 either_stand true p a b ms ns h k = h
 either_stand false p a b ms ns h k = k
 
@@ -121,7 +120,7 @@ pub source_behind : {p q : Pen} (src : List ℕ) → Adds p q → p.style.source
 source_behind src s e = ap (λ st. st.source) s.style ∙ e
 
 abbrev Stands : Items → Pen → Type 0
-Stands items p = (src : List ℕ) → p.style.source ≡ Some src → Right p → Stand (lay items p).code (lay items p).marks (size p.code) (names_of items p)
+Stands items p = (src : List ℕ) → p.style.source ≡ Some src → Right p → NamePlaces (lay items p).code (lay items p).marks (size p.code) (names_of items p)
 
 in_parentheses : (test : Bool) (items : Items) (p : Pen) → Stands items (written_if test (opening Round) p) → Stands (wrapped test items) p
 in_parentheses test items p inside = λ src e r.
@@ -155,9 +154,9 @@ names_stand (brackets b items) p = λ src e r.
     stand_round (names_of items p1) s (names_stand items p1 src (source_behind src s e) (right_behind s r)) (written_step (closing b) other_end (lay items p1))
 names_stand (wrapped test items) p = in_parentheses test items p (names_stand items (written_if test (opening Round) p))
 names_stand (wrapped_at_start own opener items) p = let test : Bool = own || is_barred opener p.start in in_parentheses test items p (names_stand items (written_if test (opening Round) p))
-names_stand (parentheses_unless_minified items) p = let test : Bool = layouts.not p.style.minified in in_parentheses test items p (names_stand items (written_if test (opening Round) p))
+names_stand (parentheses_unless_minified items) p = let test : Bool = not p.style.minified in in_parentheses test items p (names_stand items (written_if test (opening Round) p))
 names_stand (unless_minified items) p = λ src e r. either_stand p.style.minified p p (lay items p) [] (names_of items p) (omega arith) (names_stand items p src e r)
-names_stand (where_same m n a b) p = λ src e r. either_stand (are_same p.style.tables m n) p (lay a p) (lay b p) (names_of a p) (names_of b p) (names_stand a p src e r) (names_stand b p src e r)
+names_stand (where_same m n a b) p = λ src e r. either_stand (are_printed_alike p.style.tables m n) p (lay a p) (lay b p) (names_of a p) (names_of b p) (names_stand a p src e r) (names_stand b p src e r)
 names_stand (held o items) p = λ src e r.
     let p1 : Pen = without_ending (last_byte o) p in
     let s = (passes_without (last_byte o) p).adds in

@@ -1,12 +1,12 @@
 -- Where no comment waits, the text and all that matters to what follows is that of the layout, with marks or without.
-use Rattle.std.proofs.Common.{◌≡◌, ℕ, ◌*◌, Bool, true, false, ◌&&◌, ◌||◌, List, [], ◌∷◌, ◌++◌, Option, Some, None, codes, replicate, refl, ap, sym, ◌∙◌, append_assoc, if◌then◌else◌}
+use Rattle.std.proofs.Common.{◌≡◌, ℕ, ◌*◌, Bool, true, false, ◌&&◌, ◌||◌, List, [], ◌∷◌, ◌++◌, Option, Some, None, codes, replicate, refl, ap, sym, ◌∙◌, append_assoc, if◌then◌else◌, not}
 use Rattle.jsgen_syntax.specs.Escapes.{name_text, has_escapes}
 use Rattle.jsgen_syntax.specs.Raw.{template_text}
 use Rattle.jsgen_tree.specs.Named.{printed_name}
 use Rattle.jsgen_model.specs.Punctuator.{Round, opening, closing, punctuator_text}
 use Rattle.jsgen_model.specs.Items.{Items, a_brace, annotation, annotation_line, annotated, commented, member_line, in_lines, line_break, Lines, Break, first_argument, other_argument, import_source, import_options, with_due_space, before_it, annotation_before_it, none_of_them, TemplatePart, whole_part, head_part, middle_part, tail_part, ◌⊕◌, name, private_name, template_part, indentation, deeper, in_class, brackets, wrapped, wrapped_at_start, parentheses_unless_minified, unless_minified, where_same, statement_end, mark, end_mark, link_mark, marked_word, marked_operator, marked_number, marked_indentation, comments, empty_body, held, lined_case, caught, all_of_them, with_key_annotation, then_space, Lead, to_block, to_body, to_empty}
 use Rattle.jsgen_map.specs.Marks.{Mark}
-use Rattle.jsgen_model.specs.Layout.{Pen, Ending, nowhere, other_end, operator_end, number_ending, joins, written, written_if, text_if, space_if, is_apart, name_ending, is_barred, deeper_level, entered, indented, indent_or_space, at_indentation, end_statement, are_same, not, part_text, led, on_one_line, begun_at, layout}
+use Rattle.jsgen_model.specs.Layout.{Pen, Ending, nowhere, other_end, operator_end, number_ending, joins, written, written_if, text_if, space_if, is_apart, name_ending, is_barred, deeper_level, entered, indented, indent_or_space, at_indentation, end_statement, are_printed_alike, part_text, led, on_one_line, begun_at, layout}
 use Rattle.jsgen_model.specs.Comments.{empty_store, are_any}
 use Rattle.jsgen_model.specs.Groups.{last_byte, ending_at, without_ending, closing_group, body_of, any_group, may_be_lined, are_lined, break_at, with_lines, lines_opened, lines_closed}
 use Rattle.jsgen_model.specs.Lay.{lay, annotated_if, before_block, span_mark, name_mark, piece_mark, parted, spaced, part_opening, part_closing}
@@ -179,7 +179,7 @@ alike (wrapped test items) ms q printed e h = around test items q (alike items m
 alike (wrapped_at_start own opener items) ms q printed e h = let test : Bool = own || is_barred opener q.start in around test items q (alike items ms (written_if test (opening Round) q) printed e h)
 alike (parentheses_unless_minified items) ms q printed e h = let test : Bool = not q.style.minified in around test items q (alike items ms (written_if test (opening Round) q) printed e h)
 alike (unless_minified items) ms q printed e h = either_alike q.style.minified (record { marks = ms; same = refl }) (alike items ms q printed e h)
-alike (where_same m n a b) ms q printed e h = either_alike (are_same q.style.tables m n) (alike a ms q printed e h.0) (alike b ms q printed e h.1)
+alike (where_same m n a b) ms q printed e h = either_alike (are_printed_alike q.style.tables m n) (alike a ms q printed e h.0) (alike b ms q printed e h.1)
 alike (mark span) ms q printed e h = record { marks = (lay (mark span) (with_marks ms (quiet q))).marks; same = refl }
 alike (end_mark span) ms q printed e h = record { marks = (lay (end_mark span) (with_marks ms (quiet q))).marks; same = refl }
 alike (link_mark span) ms q printed e h = record { marks = (lay (link_mark span) (with_marks ms (quiet q))).marks; same = refl }
@@ -192,8 +192,8 @@ alike (marked_operator span p) ms q printed e h =
 alike (marked_number span dot_is_its_own w) ms q printed e h =
     let marks : List Mark = (span_mark span (spaced (with_marks ms (quiet q)))).marks in
     record { marks = marks; same = in_steps (is_apart q.ending q.code) w (number_ending dot_is_its_own) marks (quiet q) }
-alike (marked_indentation span) ms q printed e h =
-    let marks : List Mark = (lay (marked_indentation span) (with_marks ms (quiet q))).marks in
+alike (marked_indentation always span) ms q printed e h =
+    let marks : List Mark = (lay (marked_indentation always span) (with_marks ms (quiet q))).marks in
     record { marks = marks; same = ap (λ p. with_marks marks p) (indentation_alike q.style.minified ms (quiet q) ∙ ap (with_marks ms) (indentation_quiet q.style.minified q)) }
 alike indentation ms q printed e h = record { marks = ms; same = indentation_alike q.style.minified ms (quiet q) ∙ ap (with_marks ms) (indentation_quiet q.style.minified q) }
 alike statement_end ms q printed e h = record { marks = ms; same = end_alike q.style.minified ms (quiet q) ∙ ap (with_marks ms) (end_quiet q.style.minified q) }
@@ -245,9 +245,9 @@ stored_alike (held o items) q = stored_alike items q
 stored_alike (lined_case start end lead items) q = ap (layout items) (led_quiet lead q) ∙ stored_alike items (led lead q)
 stored_alike (caught start body items) q = stored_alike items q
 stored_alike (unless_minified items) q = either_quiet q.style.minified (quiet q) (layout items (quiet q)) q (layout items q) refl (stored_alike items q)
-stored_alike (where_same m n a b) q = either_quiet (are_same q.style.tables m n) (layout a (quiet q)) (layout b (quiet q)) (layout a q) (layout b q) (stored_alike a q) (stored_alike b q)
+stored_alike (where_same m n a b) q = either_quiet (are_printed_alike q.style.tables m n) (layout a (quiet q)) (layout b (quiet q)) (layout a q) (layout b q) (stored_alike a q) (stored_alike b q)
 stored_alike indentation q = indentation_quiet q.style.minified q
-stored_alike (marked_indentation span) q = indentation_quiet q.style.minified q
+stored_alike (marked_indentation always span) q = indentation_quiet q.style.minified q
 stored_alike statement_end q = end_quiet q.style.minified q
 stored_alike (annotated test lifted pure span o items) q = ap (λ p. written_if test (closing Round) p) (stored_alike items (written_if test (opening Round) q))
 stored_alike (commented o items) q = let test : Bool = is_barred a_brace q.start in ap (λ p. begun_at nowhere (written_if test (closing Round) p)) (stored_alike items (begun_at nowhere (written_if test (opening Round) q)))

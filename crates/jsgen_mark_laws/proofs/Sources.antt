@@ -1,5 +1,5 @@
 -- With a source or without, the text, the comments and all that matters to what follows is the same.
-use Rattle.std.proofs.Common.{◌≡◌, ℕ, Bool, true, false, ◌&&◌, ◌||◌, List, Option, refl, ap, ◌∙◌, if◌then◌else◌}
+use Rattle.std.proofs.Common.{◌≡◌, ℕ, Bool, true, false, ◌&&◌, ◌||◌, List, Option, refl, ap, ◌∙◌, if◌then◌else◌, not}
 use Rattle.jsgen_map.specs.Marks.{Mark}
 use Rattle.jsgen_syntax.specs.declared.span.Span.{Span}
 use Rattle.jsgen_model.specs.Punctuator.{Round, opening, closing}
@@ -8,7 +8,7 @@ use Rattle.jsgen_tree.specs.Options.{Legal}
 use Rattle.jsgen_model.specs.Comments.{Comment, are_any}
 use Rattle.jsgen_model.specs.Ends.{licensed}
 use Rattle.jsgen_model.specs.Groups.{comments_at, group_at, has_orphans, last_byte, ending_at, without_ending, closing_group, case_begun, case_ended, space_behind, are_lined, lines_opened, lines_closed}
-use Rattle.jsgen_model.specs.Layout.{Pen, Start, nowhere, begun_at, other_end, written, written_if, is_barred, deeper_level, entered, end_statement, are_same, not}
+use Rattle.jsgen_model.specs.Layout.{Pen, Start, nowhere, begun_at, other_end, written, written_if, is_barred, deeper_level, entered, end_statement, are_printed_alike}
 use Rattle.jsgen_model.specs.Lay.{lay, span_mark, lifts, annotated_if, is_enclosed, commented_from, case_mark, stood, before_block}
 use Rattle.jsgen_mark_laws.specs.Law.{with_source}
 use Rattle.jsgen_mark_laws.proofs.Comments.{Passes, bare, indentation_alike, passes_comments, passes_orphans, passes_lines_of_orphans, passes_empty_body, passes_without, passes_closing, passes_begun, passes_ended, passes_space, passes_licences, ending_alike, passes_annotation, passes_annotation_line, passes_opening, passes_closing_round, passes_member_line, passes_member_space, passes_opened, passes_closed, passes_break, lined_alike}
@@ -69,7 +69,7 @@ alike (wrapped test items) s ms q = around test (alike items s ms (written_if te
 alike (wrapped_at_start own opener items) s ms q = let test : Bool = own || is_barred opener q.start in around test (alike items s ms (written_if test (opening Round) q))
 alike (parentheses_unless_minified items) s ms q = let test : Bool = not q.style.minified in around test (alike items s ms (written_if test (opening Round) q))
 alike (unless_minified items) s ms q = either_alike q.style.minified (record { marks = ms; same = refl }) (alike items s ms q)
-alike (where_same m n a b) s ms q = either_alike (are_same q.style.tables m n) (alike a s ms q) (alike b s ms q)
+alike (where_same m n a b) s ms q = either_alike (are_printed_alike q.style.tables m n) (alike a s ms q) (alike b s ms q)
 alike (comments manner o) s ms q = record { marks = ms; same = (passes_comments manner o q).alike s ms }
 alike (orphans o) s ms q = record { marks = ms; same = (passes_orphans o q).alike s ms }
 alike (orphan_lines o) s ms q = record { marks = ms; same = (passes_lines_of_orphans o q).alike s ms }
@@ -122,8 +122,8 @@ alike (in_lines lines starts end items) s ms q =
     record { marks = z.marks; same = ap (λ b. lines_closed b lines end q.depth q.lines (lay items (lines_opened b (bare s ms q)))) (lined_alike lines starts end s ms q) ∙ z.same }
 alike (line_break at) s ms q = record { marks = ms; same = (passes_break at q).alike s ms }
 alike indentation s ms q = record { marks = ms; same = indentation_alike q.style.minified s ms q }
-alike (marked_indentation span) s ms q =
-    let marks : List Mark = (lay (marked_indentation span) (bare s ms q)).marks in
+alike (marked_indentation always span) s ms q =
+    let marks : List Mark = (lay (marked_indentation always span) (bare s ms q)).marks in
     record { marks = marks; same = ap {A = Pen} (λ p. record p { marks = marks }) (indentation_alike q.style.minified s ms q) }
 alike statement_end s ms q = record { marks = ms; same = end_alike q.style.minified s ms q }
 alike (name span n) s ms q = record { marks = (lay (name span n) (bare s ms q)).marks; same = refl }

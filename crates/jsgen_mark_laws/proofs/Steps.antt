@@ -1,12 +1,12 @@
 -- What items add: text behind the code, and marks that lead to its end or behind it. All other laws of marks take this one.
-use Rattle.std.proofs.Common.{ℕ, ◌-◌, Bool, true, false, ◌&&◌, ◌||◌, ◌∷◌, None, codes, refl}
+use Rattle.std.proofs.Common.{ℕ, Bool, true, false, ◌&&◌, ◌||◌, ◌∷◌, None, codes, refl, not}
 use Rattle.jsgen_syntax.specs.Escapes.{name_text}
 use Rattle.jsgen_syntax.specs.declared.span.Span.{Span}
 use Rattle.jsgen_tree.specs.Named.{printed_name}
 use Rattle.jsgen_model.specs.Punctuator.{Round, opening, closing, punctuator_text}
 use Rattle.jsgen_model.specs.Items.{Items, nothing, ◌⊕◌, word, name, private_name, number, literal, regular_expression, template_part, string, first_string, directive, punctuator, operator, member_dot, soft_space, soft_line, hard_space, indentation, body_space, deeper, in_class, brackets, wrapped, wrapped_at_start, parentheses_unless_minified, unless_minified, where_same, statement_end, due_semicolon, drop_semicolon, statement_begins, arrow_body_begins, default_export_begins, mark, end_mark, link_mark, marked_word, marked_operator, marked_number, marked_indentation, apart, comments, orphans, orphan_lines, empty_body, held, lined_case, caught, all_of_them, Lead, to_block, to_body, to_empty, annotation, annotation_line, annotated, is_pure, commented, member_line, member_space, in_lines, line_break}
-use Rattle.jsgen_model.specs.Marks.{has_end_mark, has_link_mark}
-use Rattle.jsgen_model.specs.Layout.{Pen, Start, other_end, operator_end, number_ending, joins, written, written_if, text_if, is_apart, is_barred, deeper_level, entered, indented, at_indentation, are_same, not}
+use Rattle.jsgen_model.specs.Marks.{has_end_mark, end_offset, has_link_mark}
+use Rattle.jsgen_model.specs.Layout.{Pen, Start, other_end, operator_end, number_ending, joins, written, written_if, text_if, is_apart, is_barred, deeper_level, entered, indented, at_indentation, are_printed_alike}
 use Rattle.jsgen_model.specs.Lay.{lay, lifts, annotated_if, is_enclosed, commented_from, case_mark, stood, before_block, name_mark, may_be_indented, has_piece_mark, parted, spaced, part_opening, piece_mark, span_mark}
 use Rattle.jsgen_model.specs.Private.{printed_private}
 use Rattle.jsgen_mark_laws.specs.Law.{Adds}
@@ -70,9 +70,9 @@ lay_steps (parentheses_unless_minified items) p =
     let p1 : Pen = written_if test (opening Round) p in
     step_then (written_if_step test (opening Round) p) (step_then (lay_steps items p1) (written_if_step test (closing Round) (lay items p1)))
 lay_steps (unless_minified items) p = one_of p.style.minified (none p) (lay_steps items p)
-lay_steps (where_same m n a b) p = one_of (are_same p.style.tables m n) (lay_steps a p) (lay_steps b p)
+lay_steps (where_same m n a b) p = one_of (are_printed_alike p.style.tables m n) (lay_steps a p) (lay_steps b p)
 lay_steps (mark span) p = start_step span None p
-lay_steps (end_mark span) p = marked_if_step (has_end_mark p.style.source span) (span.end - 1) None p (end_leads p.style.source span)
+lay_steps (end_mark span) p = marked_if_step (has_end_mark p.style.source span) (end_offset p.style.source span) None p (end_leads p.style.source span)
 lay_steps (link_mark span) p = marked_if_step (has_link_mark p.style.source span p.code) span.end None p (link_leads p.style.source span p.code)
 lay_steps (marked_word span w) p =
     let p1 : Pen = spaced p in
@@ -83,7 +83,7 @@ lay_steps (marked_operator span sign) p =
 lay_steps (marked_number span dot_is_its_own w) p =
     let p1 : Pen = spaced p in
     step_then (spaced_step p) (step_then (start_step span None p1) (written_step w (number_ending dot_is_its_own) (span_mark span p1)))
-lay_steps (marked_indentation span) p = step_then (indentation_step p.style.minified p) (behind_step (may_be_indented p) span (at_indentation p.style.minified p))
+lay_steps (marked_indentation always span) p = step_then (indentation_step p.style.minified p) (behind_step (may_be_indented always p) span (at_indentation p.style.minified p))
 lay_steps apart p = texted p (lay apart p) (text_if (is_apart p.ending p.code) (codes " ")) refl refl refl
 lay_steps (word w) p = written_step _ _ p
 lay_steps (number dot_is_its_own w) p = written_step _ _ p

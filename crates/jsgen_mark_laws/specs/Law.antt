@@ -1,12 +1,12 @@
 -- What is promised of the marks that items leave.
 use Rattle.std.specs.Prelude.{◌≡◌, ℕ, ◌≤◌, List, [], ◌∷◌, ◌++◌, length, Option, Some, None, Bool, false, ◌&&◌, ⊤}
 use Rattle.jsgen_model.specs.Items.{Items, ◌⊕◌, deeper, in_class, brackets, wrapped, wrapped_at_start, parentheses_unless_minified, unless_minified, where_same, held, lined_case, caught, annotation, annotation_line, annotated, commented, in_lines}
-use Rattle.jsgen_map.specs.Marks.{Mark, Ordered, Parted, last_offset}
+use Rattle.jsgen_map.specs.Marks.{Mark, Ordered, OffsetsDiffer, last_offset}
 use Rattle.jsgen_model.specs.Marks.{size}
 use Rattle.jsgen_model.specs.Comments.{empty_store}
 use Rattle.jsgen_model.specs.Layout.{Pen, layout}
 use Rattle.jsgen_model.specs.Lay.{lay}
-use Rattle.jsgen_mark_laws.specs.Names.{names_of, Stand}
+use Rattle.jsgen_mark_laws.specs.Names.{names_of, NamePlaces}
 
 -- ---- what items add
 
@@ -35,7 +35,7 @@ pub record Adds (old new : Pen) : Type 0 where
   pub more : List Mark
   pub marks : new.marks ≡ old.marks ++ more
   pub ordered : Ordered (size old.code) more (size new.code)
-  pub parted : Parted (last_offset old.marks) more
+  pub parted : OffsetsDiffer (last_offset old.marks) more
   pub placed : ArePlaced new.code new.style.source more
 
 abbrev pub ItemsAdd : Type 0
@@ -46,7 +46,7 @@ ItemsAdd = (items : Items) (pen : Pen) → Adds pen (lay items pen)
 -- a pen's marks rise, none lies behind the code's end, neighbours have other offsets, and each has its place
 pub record Right (pen : Pen) : Type 0 where
   pub ordered : Ordered 0 pen.marks (size pen.code)
-  pub parted : Parted None pen.marks
+  pub parted : OffsetsDiffer None pen.marks
   pub placed : ArePlaced pen.code pen.style.source pen.marks
 
 abbrev pub MarksAreRight : Type 0
@@ -54,7 +54,7 @@ MarksAreRight = (items : Items) (pen : Pen) → Right pen → Right (lay items p
 
 -- each name that is printed has a place, and the last mark up to it has the start of its span
 abbrev pub NamesStand : Type 0
-NamesStand = (items : Items) (pen : Pen) (source : List ℕ) → pen.style.source ≡ Some source → Right pen → Stand (lay items pen).code (lay items pen).marks (size pen.code) (names_of items pen)
+NamesStand = (items : Items) (pen : Pen) (source : List ℕ) → pen.style.source ≡ Some source → Right pen → NamePlaces (lay items pen).code (lay items pen).marks (size pen.code) (names_of items pen)
 
 -- the same pen but for its marks
 abbrev pub with_marks : List Mark → Pen → Pen

@@ -1,5 +1,5 @@
 -- The names that items print, and the places where they stand.
-use Rattle.std.specs.Prelude.{◌≡◌, ℕ, ◌+◌, ◌≤◌, nat_le, List, [], ◌∷◌, ◌++◌, Bool, true, false, ◌||◌, Option, Some, None, if◌then◌else◌}
+use Rattle.std.specs.Prelude.{◌≡◌, ℕ, ◌+◌, ◌≤◌, nat_le, List, [], ◌∷◌, ◌++◌, Bool, true, false, ◌||◌, Option, Some, None, if◌then◌else◌, not}
 use Rattle.jsgen_syntax.specs.Escapes.{name_text}
 use Rattle.jsgen_syntax.specs.declared.span.Span.{Span}
 use Rattle.jsgen_tree.specs.Named.{printed_name}
@@ -7,24 +7,24 @@ use Rattle.jsgen_model.specs.Punctuator.{Round, opening}
 use Rattle.jsgen_model.specs.Items.{Items, nothing, ◌⊕◌, word, name, private_name, number, literal, regular_expression, template_part, string, first_string, directive, punctuator, operator, member_dot, soft_space, soft_line, hard_space, indentation, body_space, deeper, in_class, brackets, wrapped, wrapped_at_start, parentheses_unless_minified, unless_minified, where_same, statement_end, due_semicolon, drop_semicolon, statement_begins, arrow_body_begins, default_export_begins, mark, end_mark, link_mark, marked_word, marked_operator, marked_number, marked_indentation, apart, comments, orphans, orphan_lines, empty_body, held, lined_case, caught, all_of_them, annotation, annotation_line, annotated, commented, member_line, member_space, in_lines, line_break}
 use Rattle.jsgen_map.specs.Marks.{Mark}
 use Rattle.jsgen_model.specs.Marks.{size, has_start_mark}
-use Rattle.jsgen_model.specs.Layout.{Pen, other_end, written, written_if, is_barred, deeper_level, entered, are_same, not}
+use Rattle.jsgen_model.specs.Layout.{Pen, other_end, written, written_if, is_barred, deeper_level, entered, are_printed_alike}
 use Rattle.jsgen_model.specs.Lay.{lay, case_mark, annotated_from, commented_from}
 use Rattle.jsgen_model.specs.Groups.{comments_at, has_orphans, case_begun, last_byte, without_ending, are_lined, lines_opened}
 use Rattle.jsgen_model.specs.Private.{printed_private}
 
 -- the text of a name, with the start of its span
-pub record Printed : Type 0 where
+pub record NameText : Type 0 where
   pub start : ℕ
   pub text : List ℕ
 
 -- a name whose span is empty, or begins behind the source, is nowhere in it, and one without text nowhere in the code
-abbrev pub printed_at : Bool → Span → List ℕ → List Printed
+abbrev pub printed_at : Bool → Span → List ℕ → List NameText
 printed_at false span text = []
 printed_at true span [] = []
 printed_at true span (c ∷ cs) = record { start = span.start; text = c ∷ cs } ∷ []
 
 -- the names that items print from a pen, in order
-abbrev pub names_of : Items → Pen → List Printed
+abbrev pub names_of : Items → Pen → List NameText
 names_of nothing pen = []
 names_of (a ⊕ b) pen = names_of a pen ++ names_of b (lay a pen)
 names_of (word w) pen = []
@@ -52,7 +52,7 @@ names_of (wrapped test items) pen = names_of items (written_if test (opening Rou
 names_of (wrapped_at_start test opener items) pen = names_of items (written_if (test || is_barred opener pen.start) (opening Round) pen)
 names_of (parentheses_unless_minified items) pen = names_of items (written_if (not pen.style.minified) (opening Round) pen)
 names_of (unless_minified items) pen = if pen.style.minified then [] else names_of items pen
-names_of (where_same m n a b) pen = if are_same pen.style.tables m n then names_of a pen else names_of b pen
+names_of (where_same m n a b) pen = if are_printed_alike pen.style.tables m n then names_of a pen else names_of b pen
 names_of statement_end pen = []
 names_of due_semicolon pen = []
 names_of drop_semicolon pen = []
@@ -65,7 +65,7 @@ names_of (link_mark span) pen = []
 names_of (marked_word span w) pen = []
 names_of (marked_operator span p) pen = []
 names_of (marked_number span dot_is_its_own w) pen = []
-names_of (marked_indentation span) pen = []
+names_of (marked_indentation always span) pen = []
 names_of apart pen = []
 names_of (comments manner offset) pen = []
 names_of (orphans offset) pen = []
@@ -100,7 +100,7 @@ last_before bytes (m ∷ ms) = later_mark (if_before (nat_le m.bytes bytes) m) (
 -- ---- places
 
 -- at a place behind so many bytes of the code stands the name's text, and the last mark up to there has the start of its span
-pub record StandsAt (code : List ℕ) (marks : List Mark) (least : ℕ) (printed : Printed) : Type 0 where
+pub record StandsAt (code : List ℕ) (marks : List Mark) (least : ℕ) (printed : NameText) : Type 0 where
   pub before : List ℕ
   pub rest : List ℕ
   pub is : code ≡ before ++ (printed.text ++ rest)
@@ -111,6 +111,6 @@ pub record StandsAt (code : List ℕ) (marks : List Mark) (least : ℕ) (printed
   pub its : own.offset ≡ printed.start
 
 -- one place for each name, each behind the text of the one before
-abbrev pub Stand : List ℕ → List Mark → ℕ → List Printed → Type 0
-Stand code marks least [] = least ≤ size code
-Stand code marks least (p ∷ ps) = (s : StandsAt code marks least p) × Stand code marks (size s.before + size p.text) ps
+abbrev pub NamePlaces : List ℕ → List Mark → ℕ → List NameText → Type 0
+NamePlaces code marks least [] = least ≤ size code
+NamePlaces code marks least (p ∷ ps) = (s : StandsAt code marks least p) × NamePlaces code marks (size s.before + size p.text) ps

@@ -20,7 +20,7 @@ unfolding node_plain
 node_is_formed = ind-Node (λ n. IsFormed (node_plain n)) (λ x y is. subst IsFormed (sym (fold-roll-Node Tree layer x)) (subst (λ z. IsFormed (layer (map-Node Node Tree node_plain z))) is (layer_is_formed (λ e. e.0) (λ e. e.1) y)))
 
 pub program_is_formed : (p : Program Node) → IsFormed (program_plain p)
-program_is_formed p = (and_from _ _ (and_from _ _ (module_kind p.kind) (no_hole _ p.directives.items)) (no_hole _ p.body.items), (all_formed _ (λ c. (refl, tt)) p.comments.items, (if_given_formed _ (λ b. (text_is_formed b.value.value, tt)) p.hashbang, (all_formed _ (λ d. (refl, tt)) p.directives.items, (all_formed _ (λ s. node_is_formed s.node) p.body.items, tt)))))
+program_is_formed p = (and_from _ _ (and_from _ _ (and_from _ _ (module_kind p.kind) (no_hole _ p.body.items)) (no_hole _ p.directives.items)) (no_hole _ p.comments.items), (all_formed _ (λ c. (refl, tt)) p.comments.items, (if_given_formed _ (λ b. (text_is_formed b.value.value, tt)) p.hashbang, (all_formed _ (λ d. (refl, tt)) p.directives.items, (all_formed _ (λ s. node_is_formed s.node) p.body.items, tt)))))
 
 -- ---- what two tests say of each node, both say of it
 

@@ -71,15 +71,15 @@ module _ {A : Type 0} (f : A → Node) (h : (a : A) → IsFormed (node_plain (f 
   expression_is_formed (expressions.ConditionalExpression b) = (refl, (h b.value.test.node, (h b.value.consequent.node, (h b.value.alternate.node, tt))))
   expression_is_formed (expressions.SequenceExpression b) = (no_hole_changed _ _ _ b.value.expressions.items, (all_changed _ _ _ (λ n. h n.node) b.value.expressions.items, tt))
   expression_is_formed (expressions.AssignmentExpression b) = (refl, (h b.value.left.node, (h b.value.right.node, tt)))
-  expression_is_formed (expressions.Function b) = (function_by_params (λ n. IsFormed (layer (map-Node Node Tree node_plain (map-Node A Node f (opened.Expression (expressions.Function (record b { value = n }))))))) (boxed_formal_parameters_by_rest _ (λ n_params. (function_by_body _ (λ n. (refl, (if_given_formed _ (λ b. (refl, tt)) n.id, ((no_hole_changed _ _ _ n_params.value.items.items, (all_changed _ _ _ (formal_parameter_by_initializer _ (λ n. (refl, (h n.pattern.node, (tt, tt)))) (λ n_initializer. (λ n. (refl, (h n.pattern.node, (h n_initializer.node, tt)))))) n_params.value.items.items, (tt, tt))), (tt, tt))))) (λ n_body. (λ n. (refl, (if_given_formed _ (λ b. (refl, tt)) n.id, ((no_hole_changed _ _ _ n_params.value.items.items, (all_changed _ _ _ (formal_parameter_by_initializer _ (λ n. (refl, (h n.pattern.node, (tt, tt)))) (λ n_initializer. (λ n. (refl, (h n.pattern.node, (h n_initializer.node, tt)))))) n_params.value.items.items, (tt, tt))), ((and_from _ _ (no_hole _ n_body.value.directives.items) (no_hole_changed _ _ _ n_body.value.statements.items), (all_formed _ (λ d. (refl, tt)) n_body.value.directives.items, (all_changed _ _ _ (λ n. h n.node) n_body.value.statements.items, tt))), tt)))))))) (λ n_params_rest. (λ n_params. (function_by_body _ (λ n. (refl, (if_given_formed _ (λ b. (refl, tt)) n.id, ((no_hole_changed _ _ _ n_params.value.items.items, (all_changed _ _ _ (formal_parameter_by_initializer _ (λ n. (refl, (h n.pattern.node, (tt, tt)))) (λ n_initializer. (λ n. (refl, (h n.pattern.node, (h n_initializer.node, tt)))))) n_params.value.items.items, ((refl, (h n_params_rest.value.argument.node, tt)), tt))), (tt, tt))))) (λ n_body. (λ n. (refl, (if_given_formed _ (λ b. (refl, tt)) n.id, ((no_hole_changed _ _ _ n_params.value.items.items, (all_changed _ _ _ (formal_parameter_by_initializer _ (λ n. (refl, (h n.pattern.node, (tt, tt)))) (λ n_initializer. (λ n. (refl, (h n.pattern.node, (h n_initializer.node, tt)))))) n_params.value.items.items, ((refl, (h n_params_rest.value.argument.node, tt)), tt))), ((and_from _ _ (no_hole _ n_body.value.directives.items) (no_hole_changed _ _ _ n_body.value.statements.items), (all_formed _ (λ d. (refl, tt)) n_body.value.directives.items, (all_changed _ _ _ (λ n. h n.node) n_body.value.statements.items, tt))), tt))))))))))) b.value
-  expression_is_formed (expressions.ArrowFunctionExpression b) = (arrow_function_expression_by_params (λ n. IsFormed (layer (map-Node Node Tree node_plain (map-Node A Node f (opened.Expression (expressions.ArrowFunctionExpression (record b { value = n }))))))) (boxed_formal_parameters_by_rest _ (λ n_params. (arrow_function_expression_by_body _ (λ n_body. (λ n. (refl, ((no_hole_changed _ _ _ n_params.value.items.items, (all_changed _ _ _ (formal_parameter_by_initializer _ (λ n. (refl, (h n.pattern.node, (tt, tt)))) (λ n_initializer. (λ n. (refl, (h n.pattern.node, (h n_initializer.node, tt)))))) n_params.value.items.items, (tt, tt))), ((and_from _ _ (no_hole _ n_body.value.directives.items) (no_hole_changed _ _ _ n_body.value.statements.items), (all_formed _ (λ d. (refl, tt)) n_body.value.directives.items, (all_changed _ _ _ (λ n. h n.node) n_body.value.statements.items, tt))), tt))))) (λ n_body. (λ n. (refl, ((no_hole_changed _ _ _ n_params.value.items.items, (all_changed _ _ _ (formal_parameter_by_initializer _ (λ n. (refl, (h n.pattern.node, (tt, tt)))) (λ n_initializer. (λ n. (refl, (h n.pattern.node, (h n_initializer.node, tt)))))) n_params.value.items.items, (tt, tt))), (h n_body.value.node, tt))))))) (λ n_params_rest. (λ n_params. (arrow_function_expression_by_body _ (λ n_body. (λ n. (refl, ((no_hole_changed _ _ _ n_params.value.items.items, (all_changed _ _ _ (formal_parameter_by_initializer _ (λ n. (refl, (h n.pattern.node, (tt, tt)))) (λ n_initializer. (λ n. (refl, (h n.pattern.node, (h n_initializer.node, tt)))))) n_params.value.items.items, ((refl, (h n_params_rest.value.argument.node, tt)), tt))), ((and_from _ _ (no_hole _ n_body.value.directives.items) (no_hole_changed _ _ _ n_body.value.statements.items), (all_formed _ (λ d. (refl, tt)) n_body.value.directives.items, (all_changed _ _ _ (λ n. h n.node) n_body.value.statements.items, tt))), tt))))) (λ n_body. (λ n. (refl, ((no_hole_changed _ _ _ n_params.value.items.items, (all_changed _ _ _ (formal_parameter_by_initializer _ (λ n. (refl, (h n.pattern.node, (tt, tt)))) (λ n_initializer. (λ n. (refl, (h n.pattern.node, (h n_initializer.node, tt)))))) n_params.value.items.items, ((refl, (h n_params_rest.value.argument.node, tt)), tt))), (h n_body.value.node, tt)))))))))) b.value
+  expression_is_formed (expressions.Function b) = (function_by_params (λ n. IsFormed (layer (map-Node Node Tree node_plain (map-Node A Node f (opened.Expression (expressions.Function (record b { value = n }))))))) (boxed_formal_parameters_by_rest _ (λ n_params. (function_by_body _ (λ n. (refl, (if_given_formed _ (λ b. (refl, tt)) n.id, ((no_hole_changed _ _ _ n_params.value.items.items, (all_changed _ _ _ (formal_parameter_by_initializer _ (λ n. (refl, (h n.pattern.node, (tt, tt)))) (λ n_initializer. (λ n. (refl, (h n.pattern.node, (h n_initializer.node, tt)))))) n_params.value.items.items, (tt, tt))), (tt, tt))))) (λ n_body. (λ n. (refl, (if_given_formed _ (λ b. (refl, tt)) n.id, ((no_hole_changed _ _ _ n_params.value.items.items, (all_changed _ _ _ (formal_parameter_by_initializer _ (λ n. (refl, (h n.pattern.node, (tt, tt)))) (λ n_initializer. (λ n. (refl, (h n.pattern.node, (h n_initializer.node, tt)))))) n_params.value.items.items, (tt, tt))), ((and_from _ _ (no_hole_changed _ _ _ n_body.value.statements.items) (no_hole _ n_body.value.directives.items), (all_formed _ (λ d. (refl, tt)) n_body.value.directives.items, (all_changed _ _ _ (λ n. h n.node) n_body.value.statements.items, tt))), tt)))))))) (λ n_params_rest. (λ n_params. (function_by_body _ (λ n. (refl, (if_given_formed _ (λ b. (refl, tt)) n.id, ((no_hole_changed _ _ _ n_params.value.items.items, (all_changed _ _ _ (formal_parameter_by_initializer _ (λ n. (refl, (h n.pattern.node, (tt, tt)))) (λ n_initializer. (λ n. (refl, (h n.pattern.node, (h n_initializer.node, tt)))))) n_params.value.items.items, ((refl, (h n_params_rest.value.argument.node, tt)), tt))), (tt, tt))))) (λ n_body. (λ n. (refl, (if_given_formed _ (λ b. (refl, tt)) n.id, ((no_hole_changed _ _ _ n_params.value.items.items, (all_changed _ _ _ (formal_parameter_by_initializer _ (λ n. (refl, (h n.pattern.node, (tt, tt)))) (λ n_initializer. (λ n. (refl, (h n.pattern.node, (h n_initializer.node, tt)))))) n_params.value.items.items, ((refl, (h n_params_rest.value.argument.node, tt)), tt))), ((and_from _ _ (no_hole_changed _ _ _ n_body.value.statements.items) (no_hole _ n_body.value.directives.items), (all_formed _ (λ d. (refl, tt)) n_body.value.directives.items, (all_changed _ _ _ (λ n. h n.node) n_body.value.statements.items, tt))), tt))))))))))) b.value
+  expression_is_formed (expressions.ArrowFunctionExpression b) = (arrow_function_expression_by_params (λ n. IsFormed (layer (map-Node Node Tree node_plain (map-Node A Node f (opened.Expression (expressions.ArrowFunctionExpression (record b { value = n }))))))) (boxed_formal_parameters_by_rest _ (λ n_params. (arrow_function_expression_by_body _ (λ n_body. (λ n. (refl, ((no_hole_changed _ _ _ n_params.value.items.items, (all_changed _ _ _ (formal_parameter_by_initializer _ (λ n. (refl, (h n.pattern.node, (tt, tt)))) (λ n_initializer. (λ n. (refl, (h n.pattern.node, (h n_initializer.node, tt)))))) n_params.value.items.items, (tt, tt))), ((and_from _ _ (no_hole_changed _ _ _ n_body.value.statements.items) (no_hole _ n_body.value.directives.items), (all_formed _ (λ d. (refl, tt)) n_body.value.directives.items, (all_changed _ _ _ (λ n. h n.node) n_body.value.statements.items, tt))), tt))))) (λ n_body. (λ n. (refl, ((no_hole_changed _ _ _ n_params.value.items.items, (all_changed _ _ _ (formal_parameter_by_initializer _ (λ n. (refl, (h n.pattern.node, (tt, tt)))) (λ n_initializer. (λ n. (refl, (h n.pattern.node, (h n_initializer.node, tt)))))) n_params.value.items.items, (tt, tt))), (h n_body.value.node, tt))))))) (λ n_params_rest. (λ n_params. (arrow_function_expression_by_body _ (λ n_body. (λ n. (refl, ((no_hole_changed _ _ _ n_params.value.items.items, (all_changed _ _ _ (formal_parameter_by_initializer _ (λ n. (refl, (h n.pattern.node, (tt, tt)))) (λ n_initializer. (λ n. (refl, (h n.pattern.node, (h n_initializer.node, tt)))))) n_params.value.items.items, ((refl, (h n_params_rest.value.argument.node, tt)), tt))), ((and_from _ _ (no_hole_changed _ _ _ n_body.value.statements.items) (no_hole _ n_body.value.directives.items), (all_formed _ (λ d. (refl, tt)) n_body.value.directives.items, (all_changed _ _ _ (λ n. h n.node) n_body.value.statements.items, tt))), tt))))) (λ n_body. (λ n. (refl, ((no_hole_changed _ _ _ n_params.value.items.items, (all_changed _ _ _ (formal_parameter_by_initializer _ (λ n. (refl, (h n.pattern.node, (tt, tt)))) (λ n_initializer. (λ n. (refl, (h n.pattern.node, (h n_initializer.node, tt)))))) n_params.value.items.items, ((refl, (h n_params_rest.value.argument.node, tt)), tt))), (h n_body.value.node, tt)))))))))) b.value
   expression_is_formed (expressions.Class b) = (class_by_heritage (λ n. IsFormed (layer (map-Node Node Tree node_plain (map-Node A Node f (opened.Expression (expressions.Class (record b { value = n }))))))) (λ n. (refl, (if_given_formed _ (λ b. (refl, tt)) n.id, (tt, ((no_hole_changed _ _ _ n.body.value.body.items, (all_changed _ _ _ (λ n. h n.node) n.body.value.body.items, tt)), tt))))) (λ n_heritage. (λ n. (refl, (if_given_formed _ (λ b. (refl, tt)) n.id, (h n_heritage.node, ((no_hole_changed _ _ _ n.body.value.body.items, (all_changed _ _ _ (λ n. h n.node) n.body.value.body.items, tt)), tt))))))) b.value
   expression_is_formed (expressions.PrivateFieldExpression b) = (refl, (h b.value.object.node, ((refl, tt), tt)))
   expression_is_formed (expressions.PrivateInExpression b) = (refl, ((refl, tt), (h b.value.right.node, tt)))
   expression_is_formed (expressions.AwaitExpression b) = (refl, (h b.value.argument.node, tt))
   expression_is_formed (expressions.YieldExpression b) = (yield_expression_by_argument (λ n. IsFormed (layer (map-Node Node Tree node_plain (map-Node A Node f (opened.Expression (expressions.YieldExpression (record b { value = n }))))))) (λ n. (refl, (tt, tt))) (λ n_argument. (λ n. (refl, (h n_argument.node, tt))))) b.value
-  expression_is_formed (expressions.TemplateLiteral b) = (and_from _ _ (no_hole _ b.value.quasis.items) (no_hole_changed _ _ _ b.value.expressions.items), (all_formed _ (λ d. (text_is_formed d.raw, tt)) b.value.quasis.items, (all_changed _ _ _ (λ n. h n.node) b.value.expressions.items, tt)))
-  expression_is_formed (expressions.TaggedTemplateExpression b) = (refl, (h b.value.tag.node, ((and_from _ _ (no_hole _ b.value.quasi.value.quasis.items) (no_hole_changed _ _ _ b.value.quasi.value.expressions.items), (all_formed _ (λ d. (text_is_formed d.raw, tt)) b.value.quasi.value.quasis.items, (all_changed _ _ _ (λ n. h n.node) b.value.quasi.value.expressions.items, tt))), tt)))
+  expression_is_formed (expressions.TemplateLiteral b) = (and_from _ _ (no_hole_changed _ _ _ b.value.expressions.items) (no_hole _ b.value.quasis.items), (all_formed _ (λ d. (text_is_formed d.raw, tt)) b.value.quasis.items, (all_changed _ _ _ (λ n. h n.node) b.value.expressions.items, tt)))
+  expression_is_formed (expressions.TaggedTemplateExpression b) = (refl, (h b.value.tag.node, ((and_from _ _ (no_hole_changed _ _ _ b.value.quasi.value.expressions.items) (no_hole _ b.value.quasi.value.quasis.items), (all_formed _ (λ d. (text_is_formed d.raw, tt)) b.value.quasi.value.quasis.items, (all_changed _ _ _ (λ n. h n.node) b.value.quasi.value.expressions.items, tt))), tt)))
   expression_is_formed (expressions.ImportExpression b) = (import_expression_by_options (λ n. IsFormed (layer (map-Node Node Tree node_plain (map-Node A Node f (opened.Expression (expressions.ImportExpression (record b { value = n }))))))) (λ n. (refl, (h n.source.node, (tt, tt)))) (λ n_options. (λ n. (refl, (h n.source.node, (h n_options.node, tt)))))) b.value
 
   assignment_target_is_formed : (n : AssignmentTarget A) → IsFormed (layer (map-Node Node Tree node_plain (map-Node A Node f (opened.AssignmentTarget n))))
@@ -92,7 +92,7 @@ module _ {A : Type 0} (f : A → Node) (h : (a : A) → IsFormed (node_plain (f 
 
   declaration_is_formed : (n : Declaration A) → IsFormed (layer (map-Node Node Tree node_plain (map-Node A Node f (opened.Declaration n))))
   declaration_is_formed (declarations.VariableDeclaration b) = (no_hole_changed _ _ _ b.value.declarations.items, (all_changed _ _ _ (variable_declarator_by_init _ (λ n. (refl, (h n.id.node, (tt, tt)))) (λ n_init. (λ n. (refl, (h n.id.node, (h n_init.node, tt)))))) b.value.declarations.items, tt))
-  declaration_is_formed (declarations.Function b) = (function_by_params (λ n. IsFormed (layer (map-Node Node Tree node_plain (map-Node A Node f (opened.Declaration (declarations.Function (record b { value = n }))))))) (boxed_formal_parameters_by_rest _ (λ n_params. (function_by_body _ (λ n. (refl, (if_given_formed _ (λ b. (refl, tt)) n.id, ((no_hole_changed _ _ _ n_params.value.items.items, (all_changed _ _ _ (formal_parameter_by_initializer _ (λ n. (refl, (h n.pattern.node, (tt, tt)))) (λ n_initializer. (λ n. (refl, (h n.pattern.node, (h n_initializer.node, tt)))))) n_params.value.items.items, (tt, tt))), (tt, tt))))) (λ n_body. (λ n. (refl, (if_given_formed _ (λ b. (refl, tt)) n.id, ((no_hole_changed _ _ _ n_params.value.items.items, (all_changed _ _ _ (formal_parameter_by_initializer _ (λ n. (refl, (h n.pattern.node, (tt, tt)))) (λ n_initializer. (λ n. (refl, (h n.pattern.node, (h n_initializer.node, tt)))))) n_params.value.items.items, (tt, tt))), ((and_from _ _ (no_hole _ n_body.value.directives.items) (no_hole_changed _ _ _ n_body.value.statements.items), (all_formed _ (λ d. (refl, tt)) n_body.value.directives.items, (all_changed _ _ _ (λ n. h n.node) n_body.value.statements.items, tt))), tt)))))))) (λ n_params_rest. (λ n_params. (function_by_body _ (λ n. (refl, (if_given_formed _ (λ b. (refl, tt)) n.id, ((no_hole_changed _ _ _ n_params.value.items.items, (all_changed _ _ _ (formal_parameter_by_initializer _ (λ n. (refl, (h n.pattern.node, (tt, tt)))) (λ n_initializer. (λ n. (refl, (h n.pattern.node, (h n_initializer.node, tt)))))) n_params.value.items.items, ((refl, (h n_params_rest.value.argument.node, tt)), tt))), (tt, tt))))) (λ n_body. (λ n. (refl, (if_given_formed _ (λ b. (refl, tt)) n.id, ((no_hole_changed _ _ _ n_params.value.items.items, (all_changed _ _ _ (formal_parameter_by_initializer _ (λ n. (refl, (h n.pattern.node, (tt, tt)))) (λ n_initializer. (λ n. (refl, (h n.pattern.node, (h n_initializer.node, tt)))))) n_params.value.items.items, ((refl, (h n_params_rest.value.argument.node, tt)), tt))), ((and_from _ _ (no_hole _ n_body.value.directives.items) (no_hole_changed _ _ _ n_body.value.statements.items), (all_formed _ (λ d. (refl, tt)) n_body.value.directives.items, (all_changed _ _ _ (λ n. h n.node) n_body.value.statements.items, tt))), tt))))))))))) b.value
+  declaration_is_formed (declarations.Function b) = (function_by_params (λ n. IsFormed (layer (map-Node Node Tree node_plain (map-Node A Node f (opened.Declaration (declarations.Function (record b { value = n }))))))) (boxed_formal_parameters_by_rest _ (λ n_params. (function_by_body _ (λ n. (refl, (if_given_formed _ (λ b. (refl, tt)) n.id, ((no_hole_changed _ _ _ n_params.value.items.items, (all_changed _ _ _ (formal_parameter_by_initializer _ (λ n. (refl, (h n.pattern.node, (tt, tt)))) (λ n_initializer. (λ n. (refl, (h n.pattern.node, (h n_initializer.node, tt)))))) n_params.value.items.items, (tt, tt))), (tt, tt))))) (λ n_body. (λ n. (refl, (if_given_formed _ (λ b. (refl, tt)) n.id, ((no_hole_changed _ _ _ n_params.value.items.items, (all_changed _ _ _ (formal_parameter_by_initializer _ (λ n. (refl, (h n.pattern.node, (tt, tt)))) (λ n_initializer. (λ n. (refl, (h n.pattern.node, (h n_initializer.node, tt)))))) n_params.value.items.items, (tt, tt))), ((and_from _ _ (no_hole_changed _ _ _ n_body.value.statements.items) (no_hole _ n_body.value.directives.items), (all_formed _ (λ d. (refl, tt)) n_body.value.directives.items, (all_changed _ _ _ (λ n. h n.node) n_body.value.statements.items, tt))), tt)))))))) (λ n_params_rest. (λ n_params. (function_by_body _ (λ n. (refl, (if_given_formed _ (λ b. (refl, tt)) n.id, ((no_hole_changed _ _ _ n_params.value.items.items, (all_changed _ _ _ (formal_parameter_by_initializer _ (λ n. (refl, (h n.pattern.node, (tt, tt)))) (λ n_initializer. (λ n. (refl, (h n.pattern.node, (h n_initializer.node, tt)))))) n_params.value.items.items, ((refl, (h n_params_rest.value.argument.node, tt)), tt))), (tt, tt))))) (λ n_body. (λ n. (refl, (if_given_formed _ (λ b. (refl, tt)) n.id, ((no_hole_changed _ _ _ n_params.value.items.items, (all_changed _ _ _ (formal_parameter_by_initializer _ (λ n. (refl, (h n.pattern.node, (tt, tt)))) (λ n_initializer. (λ n. (refl, (h n.pattern.node, (h n_initializer.node, tt)))))) n_params.value.items.items, ((refl, (h n_params_rest.value.argument.node, tt)), tt))), ((and_from _ _ (no_hole_changed _ _ _ n_body.value.statements.items) (no_hole _ n_body.value.directives.items), (all_formed _ (λ d. (refl, tt)) n_body.value.directives.items, (all_changed _ _ _ (λ n. h n.node) n_body.value.statements.items, tt))), tt))))))))))) b.value
   declaration_is_formed (declarations.Class b) = (class_by_heritage (λ n. IsFormed (layer (map-Node Node Tree node_plain (map-Node A Node f (opened.Declaration (declarations.Class (record b { value = n }))))))) (λ n. (refl, (if_given_formed _ (λ b. (refl, tt)) n.id, (tt, ((no_hole_changed _ _ _ n.body.value.body.items, (all_changed _ _ _ (λ n. h n.node) n.body.value.body.items, tt)), tt))))) (λ n_heritage. (λ n. (refl, (if_given_formed _ (λ b. (refl, tt)) n.id, (h n_heritage.node, ((no_hole_changed _ _ _ n.body.value.body.items, (all_changed _ _ _ (λ n. h n.node) n.body.value.body.items, tt)), tt))))))) b.value
 
   statement_is_formed : (n : Statement A) → IsFormed (layer (map-Node Node Tree node_plain (map-Node A Node f (opened.Statement n))))
@@ -119,7 +119,7 @@ module _ {A : Type 0} (f : A → Node) (h : (a : A) → IsFormed (node_plain (f 
   statement_is_formed (statements.ExportNamedDeclaration b) = (no_hole _ b.value.specifiers.items, (all_formed _ (λ d. (refl, (module_export_name_is_formed d.local, (module_export_name_is_formed d.exported, tt)))) b.value.specifiers.items, tt))
   statement_is_formed (statements.ExportFromDeclaration b) = (no_hole _ b.value.specifiers.items, (all_formed _ (λ d. (refl, (module_export_name_is_formed d.local, (module_export_name_is_formed d.exported, tt)))) b.value.specifiers.items, ((string_is_formed b.value.source.value.value, tt), (if_given_formed _ (λ b. (no_hole _ b.value.entries.items, (all_formed _ (λ d. (refl, (import_attribute_key_is_formed d.key, ((string_is_formed d.value.value.value, tt), tt)))) b.value.entries.items, tt))) b.value.with_clause, tt))))
   statement_is_formed (statements.ExportAllDeclaration b) = (refl, (if_given_formed _ (λ b. module_export_name_is_formed b) b.value.exported, ((string_is_formed b.value.source.value.value, tt), (if_given_formed _ (λ b. (no_hole _ b.value.entries.items, (all_formed _ (λ d. (refl, (import_attribute_key_is_formed d.key, ((string_is_formed d.value.value.value, tt), tt)))) b.value.entries.items, tt))) b.value.with_clause, tt))))
-  statement_is_formed (statements.ExportDefaultDeclaration b) = (export_default_declaration_by_declaration (λ n. IsFormed (layer (map-Node Node Tree node_plain (map-Node A Node f (opened.Statement (statements.ExportDefaultDeclaration (record b { value = n }))))))) (boxed_function_by_params _ (boxed_formal_parameters_by_rest _ (λ n_declaration_params. (boxed_function_by_body _ (λ n_declaration. (λ n. (refl, ((refl, (if_given_formed _ (λ b. (refl, tt)) n_declaration.value.id, ((no_hole_changed _ _ _ n_declaration_params.value.items.items, (all_changed _ _ _ (formal_parameter_by_initializer _ (λ n. (refl, (h n.pattern.node, (tt, tt)))) (λ n_initializer. (λ n. (refl, (h n.pattern.node, (h n_initializer.node, tt)))))) n_declaration_params.value.items.items, (tt, tt))), (tt, tt)))), tt)))) (λ n_declaration_body. (λ n_declaration. (λ n. (refl, ((refl, (if_given_formed _ (λ b. (refl, tt)) n_declaration.value.id, ((no_hole_changed _ _ _ n_declaration_params.value.items.items, (all_changed _ _ _ (formal_parameter_by_initializer _ (λ n. (refl, (h n.pattern.node, (tt, tt)))) (λ n_initializer. (λ n. (refl, (h n.pattern.node, (h n_initializer.node, tt)))))) n_declaration_params.value.items.items, (tt, tt))), ((and_from _ _ (no_hole _ n_declaration_body.value.directives.items) (no_hole_changed _ _ _ n_declaration_body.value.statements.items), (all_formed _ (λ d. (refl, tt)) n_declaration_body.value.directives.items, (all_changed _ _ _ (λ n. h n.node) n_declaration_body.value.statements.items, tt))), tt)))), tt))))))) (λ n_declaration_params_rest. (λ n_declaration_params. (boxed_function_by_body _ (λ n_declaration. (λ n. (refl, ((refl, (if_given_formed _ (λ b. (refl, tt)) n_declaration.value.id, ((no_hole_changed _ _ _ n_declaration_params.value.items.items, (all_changed _ _ _ (formal_parameter_by_initializer _ (λ n. (refl, (h n.pattern.node, (tt, tt)))) (λ n_initializer. (λ n. (refl, (h n.pattern.node, (h n_initializer.node, tt)))))) n_declaration_params.value.items.items, ((refl, (h n_declaration_params_rest.value.argument.node, tt)), tt))), (tt, tt)))), tt)))) (λ n_declaration_body. (λ n_declaration. (λ n. (refl, ((refl, (if_given_formed _ (λ b. (refl, tt)) n_declaration.value.id, ((no_hole_changed _ _ _ n_declaration_params.value.items.items, (all_changed _ _ _ (formal_parameter_by_initializer _ (λ n. (refl, (h n.pattern.node, (tt, tt)))) (λ n_initializer. (λ n. (refl, (h n.pattern.node, (h n_initializer.node, tt)))))) n_declaration_params.value.items.items, ((refl, (h n_declaration_params_rest.value.argument.node, tt)), tt))), ((and_from _ _ (no_hole _ n_declaration_body.value.directives.items) (no_hole_changed _ _ _ n_declaration_body.value.statements.items), (all_formed _ (λ d. (refl, tt)) n_declaration_body.value.directives.items, (all_changed _ _ _ (λ n. h n.node) n_declaration_body.value.statements.items, tt))), tt)))), tt)))))))))) (boxed_class_by_heritage _ (λ n_declaration. (λ n. (refl, ((refl, (if_given_formed _ (λ b. (refl, tt)) n_declaration.value.id, (tt, ((no_hole_changed _ _ _ n_declaration.value.body.value.body.items, (all_changed _ _ _ (λ n. h n.node) n_declaration.value.body.value.body.items, tt)), tt)))), tt)))) (λ n_declaration_heritage. (λ n_declaration. (λ n. (refl, ((refl, (if_given_formed _ (λ b. (refl, tt)) n_declaration.value.id, (h n_declaration_heritage.node, ((no_hole_changed _ _ _ n_declaration.value.body.value.body.items, (all_changed _ _ _ (λ n. h n.node) n_declaration.value.body.value.body.items, tt)), tt)))), tt)))))) (λ n_declaration. (λ n. (refl, (h n_declaration.value.node, tt))))) b.value
+  statement_is_formed (statements.ExportDefaultDeclaration b) = (export_default_declaration_by_declaration (λ n. IsFormed (layer (map-Node Node Tree node_plain (map-Node A Node f (opened.Statement (statements.ExportDefaultDeclaration (record b { value = n }))))))) (boxed_function_by_params _ (boxed_formal_parameters_by_rest _ (λ n_declaration_params. (boxed_function_by_body _ (λ n_declaration. (λ n. (refl, ((refl, (if_given_formed _ (λ b. (refl, tt)) n_declaration.value.id, ((no_hole_changed _ _ _ n_declaration_params.value.items.items, (all_changed _ _ _ (formal_parameter_by_initializer _ (λ n. (refl, (h n.pattern.node, (tt, tt)))) (λ n_initializer. (λ n. (refl, (h n.pattern.node, (h n_initializer.node, tt)))))) n_declaration_params.value.items.items, (tt, tt))), (tt, tt)))), tt)))) (λ n_declaration_body. (λ n_declaration. (λ n. (refl, ((refl, (if_given_formed _ (λ b. (refl, tt)) n_declaration.value.id, ((no_hole_changed _ _ _ n_declaration_params.value.items.items, (all_changed _ _ _ (formal_parameter_by_initializer _ (λ n. (refl, (h n.pattern.node, (tt, tt)))) (λ n_initializer. (λ n. (refl, (h n.pattern.node, (h n_initializer.node, tt)))))) n_declaration_params.value.items.items, (tt, tt))), ((and_from _ _ (no_hole_changed _ _ _ n_declaration_body.value.statements.items) (no_hole _ n_declaration_body.value.directives.items), (all_formed _ (λ d. (refl, tt)) n_declaration_body.value.directives.items, (all_changed _ _ _ (λ n. h n.node) n_declaration_body.value.statements.items, tt))), tt)))), tt))))))) (λ n_declaration_params_rest. (λ n_declaration_params. (boxed_function_by_body _ (λ n_declaration. (λ n. (refl, ((refl, (if_given_formed _ (λ b. (refl, tt)) n_declaration.value.id, ((no_hole_changed _ _ _ n_declaration_params.value.items.items, (all_changed _ _ _ (formal_parameter_by_initializer _ (λ n. (refl, (h n.pattern.node, (tt, tt)))) (λ n_initializer. (λ n. (refl, (h n.pattern.node, (h n_initializer.node, tt)))))) n_declaration_params.value.items.items, ((refl, (h n_declaration_params_rest.value.argument.node, tt)), tt))), (tt, tt)))), tt)))) (λ n_declaration_body. (λ n_declaration. (λ n. (refl, ((refl, (if_given_formed _ (λ b. (refl, tt)) n_declaration.value.id, ((no_hole_changed _ _ _ n_declaration_params.value.items.items, (all_changed _ _ _ (formal_parameter_by_initializer _ (λ n. (refl, (h n.pattern.node, (tt, tt)))) (λ n_initializer. (λ n. (refl, (h n.pattern.node, (h n_initializer.node, tt)))))) n_declaration_params.value.items.items, ((refl, (h n_declaration_params_rest.value.argument.node, tt)), tt))), ((and_from _ _ (no_hole_changed _ _ _ n_declaration_body.value.statements.items) (no_hole _ n_declaration_body.value.directives.items), (all_formed _ (λ d. (refl, tt)) n_declaration_body.value.directives.items, (all_changed _ _ _ (λ n. h n.node) n_declaration_body.value.statements.items, tt))), tt)))), tt)))))))))) (boxed_class_by_heritage _ (λ n_declaration. (λ n. (refl, ((refl, (if_given_formed _ (λ b. (refl, tt)) n_declaration.value.id, (tt, ((no_hole_changed _ _ _ n_declaration.value.body.value.body.items, (all_changed _ _ _ (λ n. h n.node) n_declaration.value.body.value.body.items, tt)), tt)))), tt)))) (λ n_declaration_heritage. (λ n_declaration. (λ n. (refl, ((refl, (if_given_formed _ (λ b. (refl, tt)) n_declaration.value.id, (h n_declaration_heritage.node, ((no_hole_changed _ _ _ n_declaration.value.body.value.body.items, (all_changed _ _ _ (λ n. h n.node) n_declaration.value.body.value.body.items, tt)), tt)))), tt)))))) (λ n_declaration. (λ n. (refl, (h n_declaration.value.node, tt))))) b.value
 
   binding_pattern_is_formed : (n : BindingPattern A) → IsFormed (layer (map-Node Node Tree node_plain (map-Node A Node f (opened.BindingPattern n))))
   binding_pattern_is_formed (binding_patterns.BindingIdentifier b) = (refl, tt)
@@ -129,7 +129,7 @@ module _ {A : Type 0} (f : A → Node) (h : (a : A) → IsFormed (node_plain (f 
 
   class_element_is_formed : (n : ClassElement A) → IsFormed (layer (map-Node Node Tree node_plain (map-Node A Node f (opened.ClassElement n))))
   class_element_is_formed (class_elements.StaticBlock b) = (no_hole_changed _ _ _ b.value.body.items, (all_changed _ _ _ (λ n. h n.node) b.value.body.items, tt))
-  class_element_is_formed (class_elements.MethodDefinition b) = (method_definition_by_key (λ n. IsFormed (layer (map-Node Node Tree node_plain (map-Node A Node f (opened.ClassElement (class_elements.MethodDefinition (record b { value = n }))))))) (λ n_key. (method_definition_by_value _ (boxed_function_by_params _ (boxed_formal_parameters_by_rest _ (λ n_value_params. (boxed_function_by_body _ (λ n_value. (λ n. (refl, ((refl, tt), ((refl, (if_given_formed _ (λ b. (refl, tt)) n_value.value.id, ((no_hole_changed _ _ _ n_value_params.value.items.items, (all_changed _ _ _ (formal_parameter_by_initializer _ (λ n. (refl, (h n.pattern.node, (tt, tt)))) (λ n_initializer. (λ n. (refl, (h n.pattern.node, (h n_initializer.node, tt)))))) n_value_params.value.items.items, (tt, tt))), (tt, tt)))), tt))))) (λ n_value_body. (λ n_value. (λ n. (refl, ((refl, tt), ((refl, (if_given_formed _ (λ b. (refl, tt)) n_value.value.id, ((no_hole_changed _ _ _ n_value_params.value.items.items, (all_changed _ _ _ (formal_parameter_by_initializer _ (λ n. (refl, (h n.pattern.node, (tt, tt)))) (λ n_initializer. (λ n. (refl, (h n.pattern.node, (h n_initializer.node, tt)))))) n_value_params.value.items.items, (tt, tt))), ((and_from _ _ (no_hole _ n_value_body.value.directives.items) (no_hole_changed _ _ _ n_value_body.value.statements.items), (all_formed _ (λ d. (refl, tt)) n_value_body.value.directives.items, (all_changed _ _ _ (λ n. h n.node) n_value_body.value.statements.items, tt))), tt)))), tt)))))))) (λ n_value_params_rest. (λ n_value_params. (boxed_function_by_body _ (λ n_value. (λ n. (refl, ((refl, tt), ((refl, (if_given_formed _ (λ b. (refl, tt)) n_value.value.id, ((no_hole_changed _ _ _ n_value_params.value.items.items, (all_changed _ _ _ (formal_parameter_by_initializer _ (λ n. (refl, (h n.pattern.node, (tt, tt)))) (λ n_initializer. (λ n. (refl, (h n.pattern.node, (h n_initializer.node, tt)))))) n_value_params.value.items.items, ((refl, (h n_value_params_rest.value.argument.node, tt)), tt))), (tt, tt)))), tt))))) (λ n_value_body. (λ n_value. (λ n. (refl, ((refl, tt), ((refl, (if_given_formed _ (λ b. (refl, tt)) n_value.value.id, ((no_hole_changed _ _ _ n_value_params.value.items.items, (all_changed _ _ _ (formal_parameter_by_initializer _ (λ n. (refl, (h n.pattern.node, (tt, tt)))) (λ n_initializer. (λ n. (refl, (h n.pattern.node, (h n_initializer.node, tt)))))) n_value_params.value.items.items, ((refl, (h n_value_params_rest.value.argument.node, tt)), tt))), ((and_from _ _ (no_hole _ n_value_body.value.directives.items) (no_hole_changed _ _ _ n_value_body.value.statements.items), (all_formed _ (λ d. (refl, tt)) n_value_body.value.directives.items, (all_changed _ _ _ (λ n. h n.node) n_value_body.value.statements.items, tt))), tt)))), tt))))))))))))) (λ n_key. (method_definition_by_value _ (boxed_function_by_params _ (boxed_formal_parameters_by_rest _ (λ n_value_params. (boxed_function_by_body _ (λ n_value. (λ n. (refl, ((refl, tt), ((refl, (if_given_formed _ (λ b. (refl, tt)) n_value.value.id, ((no_hole_changed _ _ _ n_value_params.value.items.items, (all_changed _ _ _ (formal_parameter_by_initializer _ (λ n. (refl, (h n.pattern.node, (tt, tt)))) (λ n_initializer. (λ n. (refl, (h n.pattern.node, (h n_initializer.node, tt)))))) n_value_params.value.items.items, (tt, tt))), (tt, tt)))), tt))))) (λ n_value_body. (λ n_value. (λ n. (refl, ((refl, tt), ((refl, (if_given_formed _ (λ b. (refl, tt)) n_value.value.id, ((no_hole_changed _ _ _ n_value_params.value.items.items, (all_changed _ _ _ (formal_parameter_by_initializer _ (λ n. (refl, (h n.pattern.node, (tt, tt)))) (λ n_initializer. (λ n. (refl, (h n.pattern.node, (h n_initializer.node, tt)))))) n_value_params.value.items.items, (tt, tt))), ((and_from _ _ (no_hole _ n_value_body.value.directives.items) (no_hole_changed _ _ _ n_value_body.value.statements.items), (all_formed _ (λ d. (refl, tt)) n_value_body.value.directives.items, (all_changed _ _ _ (λ n. h n.node) n_value_body.value.statements.items, tt))), tt)))), tt)))))))) (λ n_value_params_rest. (λ n_value_params. (boxed_function_by_body _ (λ n_value. (λ n. (refl, ((refl, tt), ((refl, (if_given_formed _ (λ b. (refl, tt)) n_value.value.id, ((no_hole_changed _ _ _ n_value_params.value.items.items, (all_changed _ _ _ (formal_parameter_by_initializer _ (λ n. (refl, (h n.pattern.node, (tt, tt)))) (λ n_initializer. (λ n. (refl, (h n.pattern.node, (h n_initializer.node, tt)))))) n_value_params.value.items.items, ((refl, (h n_value_params_rest.value.argument.node, tt)), tt))), (tt, tt)))), tt))))) (λ n_value_body. (λ n_value. (λ n. (refl, ((refl, tt), ((refl, (if_given_formed _ (λ b. (refl, tt)) n_value.value.id, ((no_hole_changed _ _ _ n_value_params.value.items.items, (all_changed _ _ _ (formal_parameter_by_initializer _ (λ n. (refl, (h n.pattern.node, (tt, tt)))) (λ n_initializer. (λ n. (refl, (h n.pattern.node, (h n_initializer.node, tt)))))) n_value_params.value.items.items, ((refl, (h n_value_params_rest.value.argument.node, tt)), tt))), ((and_from _ _ (no_hole _ n_value_body.value.directives.items) (no_hole_changed _ _ _ n_value_body.value.statements.items), (all_formed _ (λ d. (refl, tt)) n_value_body.value.directives.items, (all_changed _ _ _ (λ n. h n.node) n_value_body.value.statements.items, tt))), tt)))), tt))))))))))))) (λ n_key. (method_definition_by_value _ (boxed_function_by_params _ (boxed_formal_parameters_by_rest _ (λ n_value_params. (boxed_function_by_body _ (λ n_value. (λ n. (refl, (h n_key.value.node, ((refl, (if_given_formed _ (λ b. (refl, tt)) n_value.value.id, ((no_hole_changed _ _ _ n_value_params.value.items.items, (all_changed _ _ _ (formal_parameter_by_initializer _ (λ n. (refl, (h n.pattern.node, (tt, tt)))) (λ n_initializer. (λ n. (refl, (h n.pattern.node, (h n_initializer.node, tt)))))) n_value_params.value.items.items, (tt, tt))), (tt, tt)))), tt))))) (λ n_value_body. (λ n_value. (λ n. (refl, (h n_key.value.node, ((refl, (if_given_formed _ (λ b. (refl, tt)) n_value.value.id, ((no_hole_changed _ _ _ n_value_params.value.items.items, (all_changed _ _ _ (formal_parameter_by_initializer _ (λ n. (refl, (h n.pattern.node, (tt, tt)))) (λ n_initializer. (λ n. (refl, (h n.pattern.node, (h n_initializer.node, tt)))))) n_value_params.value.items.items, (tt, tt))), ((and_from _ _ (no_hole _ n_value_body.value.directives.items) (no_hole_changed _ _ _ n_value_body.value.statements.items), (all_formed _ (λ d. (refl, tt)) n_value_body.value.directives.items, (all_changed _ _ _ (λ n. h n.node) n_value_body.value.statements.items, tt))), tt)))), tt)))))))) (λ n_value_params_rest. (λ n_value_params. (boxed_function_by_body _ (λ n_value. (λ n. (refl, (h n_key.value.node, ((refl, (if_given_formed _ (λ b. (refl, tt)) n_value.value.id, ((no_hole_changed _ _ _ n_value_params.value.items.items, (all_changed _ _ _ (formal_parameter_by_initializer _ (λ n. (refl, (h n.pattern.node, (tt, tt)))) (λ n_initializer. (λ n. (refl, (h n.pattern.node, (h n_initializer.node, tt)))))) n_value_params.value.items.items, ((refl, (h n_value_params_rest.value.argument.node, tt)), tt))), (tt, tt)))), tt))))) (λ n_value_body. (λ n_value. (λ n. (refl, (h n_key.value.node, ((refl, (if_given_formed _ (λ b. (refl, tt)) n_value.value.id, ((no_hole_changed _ _ _ n_value_params.value.items.items, (all_changed _ _ _ (formal_parameter_by_initializer _ (λ n. (refl, (h n.pattern.node, (tt, tt)))) (λ n_initializer. (λ n. (refl, (h n.pattern.node, (h n_initializer.node, tt)))))) n_value_params.value.items.items, ((refl, (h n_value_params_rest.value.argument.node, tt)), tt))), ((and_from _ _ (no_hole _ n_value_body.value.directives.items) (no_hole_changed _ _ _ n_value_body.value.statements.items), (all_formed _ (λ d. (refl, tt)) n_value_body.value.directives.items, (all_changed _ _ _ (λ n. h n.node) n_value_body.value.statements.items, tt))), tt)))), tt)))))))))))))) b.value
+  class_element_is_formed (class_elements.MethodDefinition b) = (method_definition_by_key (λ n. IsFormed (layer (map-Node Node Tree node_plain (map-Node A Node f (opened.ClassElement (class_elements.MethodDefinition (record b { value = n }))))))) (λ n_key. (method_definition_by_value _ (boxed_function_by_params _ (boxed_formal_parameters_by_rest _ (λ n_value_params. (boxed_function_by_body _ (λ n_value. (λ n. (refl, ((refl, tt), ((refl, (if_given_formed _ (λ b. (refl, tt)) n_value.value.id, ((no_hole_changed _ _ _ n_value_params.value.items.items, (all_changed _ _ _ (formal_parameter_by_initializer _ (λ n. (refl, (h n.pattern.node, (tt, tt)))) (λ n_initializer. (λ n. (refl, (h n.pattern.node, (h n_initializer.node, tt)))))) n_value_params.value.items.items, (tt, tt))), (tt, tt)))), tt))))) (λ n_value_body. (λ n_value. (λ n. (refl, ((refl, tt), ((refl, (if_given_formed _ (λ b. (refl, tt)) n_value.value.id, ((no_hole_changed _ _ _ n_value_params.value.items.items, (all_changed _ _ _ (formal_parameter_by_initializer _ (λ n. (refl, (h n.pattern.node, (tt, tt)))) (λ n_initializer. (λ n. (refl, (h n.pattern.node, (h n_initializer.node, tt)))))) n_value_params.value.items.items, (tt, tt))), ((and_from _ _ (no_hole_changed _ _ _ n_value_body.value.statements.items) (no_hole _ n_value_body.value.directives.items), (all_formed _ (λ d. (refl, tt)) n_value_body.value.directives.items, (all_changed _ _ _ (λ n. h n.node) n_value_body.value.statements.items, tt))), tt)))), tt)))))))) (λ n_value_params_rest. (λ n_value_params. (boxed_function_by_body _ (λ n_value. (λ n. (refl, ((refl, tt), ((refl, (if_given_formed _ (λ b. (refl, tt)) n_value.value.id, ((no_hole_changed _ _ _ n_value_params.value.items.items, (all_changed _ _ _ (formal_parameter_by_initializer _ (λ n. (refl, (h n.pattern.node, (tt, tt)))) (λ n_initializer. (λ n. (refl, (h n.pattern.node, (h n_initializer.node, tt)))))) n_value_params.value.items.items, ((refl, (h n_value_params_rest.value.argument.node, tt)), tt))), (tt, tt)))), tt))))) (λ n_value_body. (λ n_value. (λ n. (refl, ((refl, tt), ((refl, (if_given_formed _ (λ b. (refl, tt)) n_value.value.id, ((no_hole_changed _ _ _ n_value_params.value.items.items, (all_changed _ _ _ (formal_parameter_by_initializer _ (λ n. (refl, (h n.pattern.node, (tt, tt)))) (λ n_initializer. (λ n. (refl, (h n.pattern.node, (h n_initializer.node, tt)))))) n_value_params.value.items.items, ((refl, (h n_value_params_rest.value.argument.node, tt)), tt))), ((and_from _ _ (no_hole_changed _ _ _ n_value_body.value.statements.items) (no_hole _ n_value_body.value.directives.items), (all_formed _ (λ d. (refl, tt)) n_value_body.value.directives.items, (all_changed _ _ _ (λ n. h n.node) n_value_body.value.statements.items, tt))), tt)))), tt))))))))))))) (λ n_key. (method_definition_by_value _ (boxed_function_by_params _ (boxed_formal_parameters_by_rest _ (λ n_value_params. (boxed_function_by_body _ (λ n_value. (λ n. (refl, ((refl, tt), ((refl, (if_given_formed _ (λ b. (refl, tt)) n_value.value.id, ((no_hole_changed _ _ _ n_value_params.value.items.items, (all_changed _ _ _ (formal_parameter_by_initializer _ (λ n. (refl, (h n.pattern.node, (tt, tt)))) (λ n_initializer. (λ n. (refl, (h n.pattern.node, (h n_initializer.node, tt)))))) n_value_params.value.items.items, (tt, tt))), (tt, tt)))), tt))))) (λ n_value_body. (λ n_value. (λ n. (refl, ((refl, tt), ((refl, (if_given_formed _ (λ b. (refl, tt)) n_value.value.id, ((no_hole_changed _ _ _ n_value_params.value.items.items, (all_changed _ _ _ (formal_parameter_by_initializer _ (λ n. (refl, (h n.pattern.node, (tt, tt)))) (λ n_initializer. (λ n. (refl, (h n.pattern.node, (h n_initializer.node, tt)))))) n_value_params.value.items.items, (tt, tt))), ((and_from _ _ (no_hole_changed _ _ _ n_value_body.value.statements.items) (no_hole _ n_value_body.value.directives.items), (all_formed _ (λ d. (refl, tt)) n_value_body.value.directives.items, (all_changed _ _ _ (λ n. h n.node) n_value_body.value.statements.items, tt))), tt)))), tt)))))))) (λ n_value_params_rest. (λ n_value_params. (boxed_function_by_body _ (λ n_value. (λ n. (refl, ((refl, tt), ((refl, (if_given_formed _ (λ b. (refl, tt)) n_value.value.id, ((no_hole_changed _ _ _ n_value_params.value.items.items, (all_changed _ _ _ (formal_parameter_by_initializer _ (λ n. (refl, (h n.pattern.node, (tt, tt)))) (λ n_initializer. (λ n. (refl, (h n.pattern.node, (h n_initializer.node, tt)))))) n_value_params.value.items.items, ((refl, (h n_value_params_rest.value.argument.node, tt)), tt))), (tt, tt)))), tt))))) (λ n_value_body. (λ n_value. (λ n. (refl, ((refl, tt), ((refl, (if_given_formed _ (λ b. (refl, tt)) n_value.value.id, ((no_hole_changed _ _ _ n_value_params.value.items.items, (all_changed _ _ _ (formal_parameter_by_initializer _ (λ n. (refl, (h n.pattern.node, (tt, tt)))) (λ n_initializer. (λ n. (refl, (h n.pattern.node, (h n_initializer.node, tt)))))) n_value_params.value.items.items, ((refl, (h n_value_params_rest.value.argument.node, tt)), tt))), ((and_from _ _ (no_hole_changed _ _ _ n_value_body.value.statements.items) (no_hole _ n_value_body.value.directives.items), (all_formed _ (λ d. (refl, tt)) n_value_body.value.directives.items, (all_changed _ _ _ (λ n. h n.node) n_value_body.value.statements.items, tt))), tt)))), tt))))))))))))) (λ n_key. (method_definition_by_value _ (boxed_function_by_params _ (boxed_formal_parameters_by_rest _ (λ n_value_params. (boxed_function_by_body _ (λ n_value. (λ n. (refl, (h n_key.value.node, ((refl, (if_given_formed _ (λ b. (refl, tt)) n_value.value.id, ((no_hole_changed _ _ _ n_value_params.value.items.items, (all_changed _ _ _ (formal_parameter_by_initializer _ (λ n. (refl, (h n.pattern.node, (tt, tt)))) (λ n_initializer. (λ n. (refl, (h n.pattern.node, (h n_initializer.node, tt)))))) n_value_params.value.items.items, (tt, tt))), (tt, tt)))), tt))))) (λ n_value_body. (λ n_value. (λ n. (refl, (h n_key.value.node, ((refl, (if_given_formed _ (λ b. (refl, tt)) n_value.value.id, ((no_hole_changed _ _ _ n_value_params.value.items.items, (all_changed _ _ _ (formal_parameter_by_initializer _ (λ n. (refl, (h n.pattern.node, (tt, tt)))) (λ n_initializer. (λ n. (refl, (h n.pattern.node, (h n_initializer.node, tt)))))) n_value_params.value.items.items, (tt, tt))), ((and_from _ _ (no_hole_changed _ _ _ n_value_body.value.statements.items) (no_hole _ n_value_body.value.directives.items), (all_formed _ (λ d. (refl, tt)) n_value_body.value.directives.items, (all_changed _ _ _ (λ n. h n.node) n_value_body.value.statements.items, tt))), tt)))), tt)))))))) (λ n_value_params_rest. (λ n_value_params. (boxed_function_by_body _ (λ n_value. (λ n. (refl, (h n_key.value.node, ((refl, (if_given_formed _ (λ b. (refl, tt)) n_value.value.id, ((no_hole_changed _ _ _ n_value_params.value.items.items, (all_changed _ _ _ (formal_parameter_by_initializer _ (λ n. (refl, (h n.pattern.node, (tt, tt)))) (λ n_initializer. (λ n. (refl, (h n.pattern.node, (h n_initializer.node, tt)))))) n_value_params.value.items.items, ((refl, (h n_value_params_rest.value.argument.node, tt)), tt))), (tt, tt)))), tt))))) (λ n_value_body. (λ n_value. (λ n. (refl, (h n_key.value.node, ((refl, (if_given_formed _ (λ b. (refl, tt)) n_value.value.id, ((no_hole_changed _ _ _ n_value_params.value.items.items, (all_changed _ _ _ (formal_parameter_by_initializer _ (λ n. (refl, (h n.pattern.node, (tt, tt)))) (λ n_initializer. (λ n. (refl, (h n.pattern.node, (h n_initializer.node, tt)))))) n_value_params.value.items.items, ((refl, (h n_value_params_rest.value.argument.node, tt)), tt))), ((and_from _ _ (no_hole_changed _ _ _ n_value_body.value.statements.items) (no_hole _ n_value_body.value.directives.items), (all_formed _ (λ d. (refl, tt)) n_value_body.value.directives.items, (all_changed _ _ _ (λ n. h n.node) n_value_body.value.statements.items, tt))), tt)))), tt)))))))))))))) b.value
   class_element_is_formed (class_elements.PropertyDefinition b) = (property_definition_by_key (λ n. IsFormed (layer (map-Node Node Tree node_plain (map-Node A Node f (opened.ClassElement (class_elements.PropertyDefinition (record b { value = n }))))))) (λ n_key. (property_definition_by_value _ (λ n. (refl, ((refl, tt), (tt, tt)))) (λ n_value. (λ n. (refl, ((refl, tt), (h n_value.node, tt))))))) (λ n_key. (property_definition_by_value _ (λ n. (refl, ((refl, tt), (tt, tt)))) (λ n_value. (λ n. (refl, ((refl, tt), (h n_value.node, tt))))))) (λ n_key. (property_definition_by_value _ (λ n. (refl, (h n_key.value.node, (tt, tt)))) (λ n_value. (λ n. (refl, (h n_key.value.node, (h n_value.node, tt)))))))) b.value
 
   pub layer_is_formed : (y : Node-F A) → IsFormed (layer (map-Node Node Tree node_plain (map-Node A Node f y)))

@@ -72,10 +72,10 @@ abbrev pub ended : Legal → List ℕ → Trees → Pen → Pen
 ended legal source rows pen = licensed legal (map (comment_at source) (moved_licences legal source rows)) pen
 
 -- those that stand in a file of their own
-abbrev pub is_apart : Legal → Bool
-is_apart (linked path) = true
-is_apart external = true
-is_apart legal = false
+abbrev pub stand_apart : Legal → Bool
+stand_apart (linked path) = true
+stand_apart external = true
+stand_apart legal = false
 
 abbrev pub licences_apart : Legal → List ℕ → Trees → List Atoms
-licences_apart legal source rows = if is_apart legal then moved_licences legal source rows else []
+licences_apart legal source rows = if stand_apart legal then moved_licences legal source rows else []

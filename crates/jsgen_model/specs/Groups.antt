@@ -1,5 +1,5 @@
 -- The text of comments, from a pen.
-use Rattle.std.specs.Prelude.{ℕ, ◌-◌, List, [], ◌∷◌, Bool, true, false, Option, Some, None, ◌&&◌, ◌||◌, ◌==◌, codes, drop, if◌then◌else◌}
+use Rattle.std.specs.Prelude.{ℕ, ◌-◌, List, [], ◌∷◌, Bool, true, false, Option, Some, None, ◌&&◌, ◌||◌, ◌==◌, codes, drop, if◌then◌else◌, not}
 use Rattle.std.specs.List.{filter, last_or, list_any, list_all}
 use Rattle.std.specs.Option.{option_map_or}
 use Rattle.std.specs.Str.{skip_leading_whitespace}
@@ -10,7 +10,7 @@ use Rattle.jsgen_tree.specs.declared.statements.CommentContent.{CommentContent}
 use Rattle.jsgen_tree.specs.declared.statements.CommentContent.TheVariants as contents
 use Rattle.jsgen_model.specs.Items.{Annotation, is_pure, no_side_effects, Lines, of_call, of_import, Break, first_argument, other_argument, import_source, import_options, Manner, all_of_them, then_space, with_due_space, annotation_before_it, with_key_annotation, none_of_them, Lead, to_body}
 use Rattle.jsgen_model.specs.Comments.{Comment, Store, there, without, are_any, taken, orphans_below, left_below, has_orphans_below}
-use Rattle.jsgen_model.specs.Layout.{Pen, Style, on_one_line, other_end, written, written_if, white_if, begun_at, not, at_indentation, deeper_level, led}
+use Rattle.jsgen_model.specs.Layout.{Pen, Style, on_one_line, other_end, written, written_if, white_if, begun_at, at_indentation, deeper_level, led}
 use Rattle.jsgen_model.specs.Tokens.{is_line_terminator}
 
 -- ---- steps
@@ -127,8 +127,8 @@ is_line kinds.HtmlClose = true
 is_line kind = false
 
 -- nothing may follow it on its line, or nothing did
-abbrev pub ends_line : Comment → Bool
-ends_line c = is_line c.kind || c.newline_behind
+abbrev pub ends_its_line : Comment → Bool
+ends_its_line c = is_line c.kind || c.newline_behind
 
 -- behind the last stands a line end, or a space in place of the next indentation
 abbrev pub behind_last : Bool → Pen → Pen
@@ -136,14 +136,14 @@ behind_last true pen = line_ended pen
 behind_last false pen = with_pending_space true pen
 
 -- those behind a comment, which nothing follows on its line where it goes to the end of one; the test tells that a line ends behind the last, whatever stood there
-abbrev pub behind : Bool → Comment → List Comment → Pen → Pen
-behind ended c [] pen = behind_last (ended || ends_line c) pen
-behind ended c (d ∷ cs) pen = behind ended d cs (comment_written d (before_later (d.newline_before || is_line c.kind) (is_legal d.content) pen))
+abbrev pub behind_comment : Bool → Comment → List Comment → Pen → Pen
+behind_comment ended c [] pen = behind_last (ended || ends_its_line c) pen
+behind_comment ended c (d ∷ cs) pen = behind_comment ended d cs (comment_written d (before_later (d.newline_before || is_line c.kind) (is_legal d.content) pen))
 
 -- what began before comments begins behind them
 abbrev pub group : Bool → List Comment → Pen → Pen
 group ended [] pen = pen
-group ended (c ∷ cs) pen = begun_at pen.start (behind ended c cs (comment_written c (before_first c.newline_before pen)))
+group ended (c ∷ cs) pen = begun_at pen.start (behind_comment ended c cs (comment_written c (before_first c.newline_before pen)))
 
 -- ---- what is printed of the store
 
@@ -183,19 +183,19 @@ is_printed annotation_before_it cs = list_any is_tool_annotation cs
 is_printed none_of_them cs = false
 is_printed manner cs = are_any cs
 
-abbrev pub ends_in : ℕ → Pen → Bool
-ends_in c pen = option_map_or (λ d. d == c) (last_of pen.code) false
+abbrev pub code_ends_in : ℕ → Pen → Bool
+code_ends_in c pen = option_map_or (λ d. d == c) (last_of pen.code) false
 
 -- behind `/` a comment would be another one
 abbrev pub before_group : Manner → Pen → Pen
-before_group with_key_annotation pen = white_if (ends_in 47 pen) (codes " ") pen
+before_group with_key_annotation pen = white_if (code_ends_in 47 pen) (codes " ") pen
 before_group manner pen = pen
 
 abbrev pub behind_group : Manner → Pen → Pen
 behind_group all_of_them pen = pen
 behind_group then_space pen = with_pending_space false (softly_spaced pen)
 behind_group with_due_space pen = used_up pen
-behind_group manner pen = if ends_in 10 pen then indented_here pen else used_up pen
+behind_group manner pen = if code_ends_in 10 pen then indented_here pen else used_up pen
 
 abbrev pub printed_if : Bool → Manner → ℕ → Pen → Pen
 printed_if true manner o pen = behind_group manner (group false (group_at o pen) (without_group o (before_group manner pen)))
@@ -298,7 +298,7 @@ annotation_by (c ∷ cs) kind o pen = comment_written c (without_annotation o pe
 
 -- behind `/` an annotation would be another comment
 abbrev pub annotation_written : Bool → Annotation → ℕ → Pen → Pen
-annotation_written ends kind o pen = annotation_by (fitting_at ends kind o pen) kind o (written_if (ends_in 47 pen) (codes " ") pen)
+annotation_written ends kind o pen = annotation_by (fitting_at ends kind o pen) kind o (written_if (code_ends_in 47 pen) (codes " ") pen)
 
 -- before what begins here
 abbrev pub annotation_at : Annotation → ℕ → Pen → Pen

@@ -57,7 +57,7 @@ pub data Items : Type 0 where
   template_part : TemplatePart → Bool → Span → List ℕ → Items
   -- a string by its units, in backticks only where the test holds
   string : Bool → List ℕ → Items
-  -- a string that is a whole first statement, and mustn't be read as a directive
+  -- a string that is a whole first statement, minified in backticks, so that it isn't read as a directive
   first_string : List ℕ → Items
   -- a directive, by the raw text between its quotes
   directive : List ℕ → Items
@@ -104,8 +104,9 @@ pub data Items : Type 0 where
   marked_word : Span → List ℕ → Items
   marked_operator : Span → Punctuator → Items
   marked_number : Span → Bool → List ℕ → Items
-  -- indentation, and where there may be any the mark of a span behind it
-  marked_indentation : Span → Items
+  -- indentation, and where the level is above 0 or a space is pending the mark of a span behind it: in minified text, which prints neither,
+  -- only where the test holds
+  marked_indentation : Bool → Span → Items
   -- the space before a word, where a mark stands between them
   apart : Items
   -- the comments that belong to an offset, and those that belong to smaller ones and outlive their places

@@ -1,13 +1,13 @@
 -- The text, the comments and the marks that items give, from a pen: `layout` has the text alone, as it is without comments.
-use Rattle.std.specs.Prelude.{ℕ, List, ◌∷◌, ◌++◌, ◌-◌, nat_lt, Bool, true, false, Option, None, ◌&&◌, ◌||◌, codes, if◌then◌else◌}
+use Rattle.std.specs.Prelude.{ℕ, List, ◌∷◌, ◌++◌, nat_lt, Bool, true, false, Option, None, ◌&&◌, ◌||◌, codes, if◌then◌else◌, not}
 use Rattle.jsgen_syntax.specs.Escapes.{name_text, has_escapes}
 use Rattle.jsgen_syntax.specs.Raw.{template_text}
 use Rattle.jsgen_syntax.specs.declared.span.Span.{Span}
 use Rattle.jsgen_tree.specs.Named.{printed_name}
 use Rattle.jsgen_model.specs.Punctuator.{Punctuator, Round, opening, closing, punctuator_text}
 use Rattle.jsgen_model.specs.Items.{Items, a_brace, TemplatePart, whole_part, head_part, middle_part, tail_part, ◌⊕◌, name, private_name, template_part, deeper, in_class, brackets, wrapped, wrapped_at_start, parentheses_unless_minified, unless_minified, where_same, mark, end_mark, link_mark, marked_word, marked_operator, marked_number, marked_indentation, indentation, comments, orphans, orphan_lines, empty_body, held, lined_case, caught, annotation, annotation_line, annotated, commented, member_line, member_space, in_lines, line_break, is_pure, Lead, to_empty, all_of_them}
-use Rattle.jsgen_model.specs.Marks.{one_more_if, size, other_name_in, has_start_mark, has_end_mark, has_link_mark}
-use Rattle.jsgen_model.specs.Layout.{Pen, Start, nowhere, other_end, operator_end, written, written_if, is_apart, joins, number_ending, name_ending, is_barred, deeper_level, entered, with_private_name, are_same, not, layout, begun_at}
+use Rattle.jsgen_model.specs.Marks.{one_more_if, size, other_name_in, has_start_mark, has_end_mark, end_offset, has_link_mark}
+use Rattle.jsgen_model.specs.Layout.{Pen, Start, nowhere, other_end, operator_end, written, written_if, is_apart, joins, number_ending, name_ending, is_barred, deeper_level, entered, with_private_name, are_printed_alike, layout, begun_at}
 use Rattle.jsgen_model.specs.Private.{printed_private}
 use Rattle.jsgen_model.specs.Comments.{are_any}
 use Rattle.jsgen_model.specs.Groups.{comments_at, orphans_before, has_orphans, orphan_lines_at, empty_body_at, group_at, last_byte, ending_at, without_ending, closing_group, case_begun, case_ended, space_behind, annotation_at, annotation_line_at, commented_if, member_line_at, member_space_at, break_at, are_lined, lines_opened, lines_closed}
@@ -18,12 +18,12 @@ use Rattle.jsgen_model.specs.Groups.{comments_at, orphans_before, has_orphans, o
 abbrev pub marked_if : Bool → ℕ → Option (List ℕ) → Pen → Pen
 marked_if test offset named pen = record pen { marks = one_more_if test (record { bytes = size pen.code; offset = offset; name = named }) pen.marks }
 
--- the mark of a span's start, of its last byte, and of what follows it behind the object of a link
+-- the mark of a span's start, of its last character, and of what follows it behind the object of a link
 abbrev pub span_mark : Span → Pen → Pen
 span_mark span pen = marked_if (has_start_mark pen.style.source span) span.start None pen
 
 abbrev pub span_end_mark : Span → Pen → Pen
-span_end_mark span pen = marked_if (has_end_mark pen.style.source span) (span.end - 1) None pen
+span_end_mark span pen = marked_if (has_end_mark pen.style.source span) (end_offset pen.style.source span) None pen
 
 abbrev pub link_end_mark : Span → Pen → Pen
 link_end_mark span pen = marked_if (has_link_mark pen.style.source span pen.code) span.end None pen
@@ -42,9 +42,9 @@ has_piece_mark tail_part source span = has_start_mark source span
 abbrev pub piece_mark : TemplatePart → Span → Pen → Pen
 piece_mark part span pen = marked_if (has_piece_mark part pen.style.source span) span.start None pen
 
--- the mark behind indentation: where the text is pretty, and the level is above 0 or one space stands in its place
-abbrev pub may_be_indented : Pen → Bool
-may_be_indented pen = not pen.style.minified && (pen.pending_space || nat_lt 0 pen.depth)
+-- the mark behind indentation: where the level is above 0, or a space is pending; in minified text, which prints neither, where the test holds
+abbrev pub may_be_indented : Bool → Pen → Bool
+may_be_indented always pen = (always || not pen.style.minified) && (pen.pending_space || nat_lt 0 pen.depth)
 
 abbrev pub mark_behind : Bool → Span → Pen → Pen
 mark_behind test span pen = marked_if (test && has_start_mark pen.style.source span) span.start None pen
@@ -128,14 +128,14 @@ lay (wrapped test items) pen = written_if test (closing Round) (lay items (writt
 lay (wrapped_at_start test opener items) pen = written_if (test || is_barred opener pen.start) (closing Round) (lay items (written_if (test || is_barred opener pen.start) (opening Round) pen))
 lay (parentheses_unless_minified items) pen = written_if (not pen.style.minified) (closing Round) (lay items (written_if (not pen.style.minified) (opening Round) pen))
 lay (unless_minified items) pen = if pen.style.minified then pen else lay items pen
-lay (where_same m n a b) pen = if are_same pen.style.tables m n then lay a pen else lay b pen
+lay (where_same m n a b) pen = if are_printed_alike pen.style.tables m n then lay a pen else lay b pen
 lay (mark span) pen = span_mark span pen
 lay (end_mark span) pen = span_end_mark span pen
 lay (link_mark span) pen = link_end_mark span pen
 lay (marked_word span w) pen = written w other_end (span_mark span (spaced pen))
 lay (marked_operator span p) pen = written (punctuator_text p) (operator_end p) (span_mark span (parted p pen))
 lay (marked_number span dot_is_its_own w) pen = written w (number_ending dot_is_its_own) (span_mark span (spaced pen))
-lay (marked_indentation span) pen = mark_behind (may_be_indented pen) span (layout indentation pen)
+lay (marked_indentation always span) pen = mark_behind (may_be_indented always pen) span (layout indentation pen)
 lay (comments manner o) pen = comments_at manner o pen
 lay (orphans o) pen = orphans_before o pen
 lay (orphan_lines o) pen = orphan_lines_at o pen

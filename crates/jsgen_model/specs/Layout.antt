@@ -1,5 +1,5 @@
 -- The text that items give, from a pen.
-use Rattle.std.specs.Prelude.{ℕ, suc, ◌*◌, List, [], ◌∷◌, ◌++◌, Bool, true, false, Option, None, ◌&&◌, ◌||◌, ◌==◌, codes, replicate, if◌then◌else◌}
+use Rattle.std.specs.Prelude.{ℕ, suc, ◌*◌, List, [], ◌∷◌, ◌++◌, Bool, true, false, Option, None, ◌&&◌, ◌||◌, ◌==◌, codes, replicate, if◌then◌else◌, not}
 use Rattle.std.specs.List.{last_or}
 use Rattle.std.specs.Option.{option_map_or}
 use Rattle.jsgen_syntax.specs.Buffer.{indent_code}
@@ -152,10 +152,6 @@ text_if false text = []
 abbrev pub written_if : Bool → List ℕ → Pen → Pen
 written_if test text pen = record pen { code = pen.code ++ text_if test text; ending = ending_unless test pen.ending; start = unless_printed test pen.start }
 
-abbrev pub not : Bool → Bool
-not true = false
-not false = true
-
 -- what begins at the end of the code
 abbrev pub begun_at : Start → Pen → Pen
 begun_at start pen = record pen { start = start }
@@ -196,8 +192,8 @@ deeper_level false depth = suc depth
 -- ---- names
 
 -- a name, apart from a word that the code ends in
-abbrev pub with_name : List ℕ → Pen → Pen
-with_name w pen = written (space_if (is_apart pen.ending pen.code) ++ name_text pen.style.ascii w) (name_ending (has_escapes pen.style.ascii w)) pen
+abbrev pub with_name_written : List ℕ → Pen → Pen
+with_name_written w pen = written (space_if (is_apart pen.ending pen.code) ++ name_text pen.style.ascii w) (name_ending (has_escapes pen.style.ascii w)) pen
 
 -- a private name: no word goes on with `#`
 abbrev pub with_private_name : List ℕ → Pen → Pen
@@ -208,8 +204,8 @@ abbrev pub entered : Pen → Pen
 entered pen = record pen { classes = classes_within pen.style.tables pen.next_class pen.classes; next_class = suc pen.next_class }
 
 -- two names are printed the same
-abbrev pub are_same : Tables → Named → Named → Bool
-are_same tables m n = bytes_eq (printed_name tables m) (printed_name tables n)
+abbrev pub are_printed_alike : Tables → Named → Named → Bool
+are_printed_alike tables m n = bytes_eq (printed_name tables m) (printed_name tables n)
 
 -- ---- regular expressions
 
@@ -244,9 +240,9 @@ but_backticks quote = quote
 abbrev pub chosen_quote : Style → Bool → List ℕ → Quote
 chosen_quote style backticks units = if style.minified then cheapest backticks units else (if backticks then style.quote else but_backticks style.quote)
 
--- a first statement: minified in backticks, and else in parentheses
-abbrev pub first_text : Style → List ℕ → List ℕ
-first_text style units = if style.minified then quoted Backtick style.ascii units else opening Round ++ (quoted style.quote style.ascii units ++ closing Round)
+-- the quote of a first statement, which minified stands in no parentheses
+abbrev pub first_quote : Style → Quote
+first_quote style = if style.minified then Backtick else style.quote
 
 -- a directive: the raw text between its quotes
 abbrev pub directive_quoted : Style → List ℕ → List ℕ
@@ -276,14 +272,14 @@ abbrev pub layout : Items → Pen → Pen
 layout nothing pen = pen
 layout (a ⊕ b) pen = layout b (layout a pen)
 layout (word w) pen = written (space_if (is_apart pen.ending pen.code) ++ w) other_end pen
-layout (name span n) pen = with_name (printed_name pen.style.tables n) pen
+layout (name span n) pen = with_name_written (printed_name pen.style.tables n) pen
 layout (private_name span w) pen = with_private_name (printed_private pen.style.tables pen.classes w) pen
 layout (number dot_is_its_own w) pen = written (space_if (is_apart pen.ending pen.code) ++ w) (number_ending dot_is_its_own) pen
 layout (literal w) pen = written w other_end pen
 layout (regular_expression pattern flags) pen = written (space_if (joins_pattern pen.code pattern) ++ regular_expression_text pen.style.ascii pattern flags) regular_expression_end pen
 layout (template_part part tagged span raw) pen = written (part_text part (template_text tagged pen.style.minified pen.style.ascii raw)) other_end pen
 layout (string backticks units) pen = written (quoted (chosen_quote pen.style backticks units) pen.style.ascii units) other_end pen
-layout (first_string units) pen = written (first_text pen.style units) other_end pen
+layout (first_string units) pen = written (quoted (first_quote pen.style) pen.style.ascii units) other_end pen
 layout (directive raw) pen = written (directive_quoted pen.style raw) other_end pen
 layout (punctuator p) pen = written (punctuator_text p) other_end pen
 layout (operator p) pen = written (space_if (joins pen.ending pen.code p) ++ punctuator_text p) (operator_end p) pen
@@ -300,7 +296,7 @@ layout (wrapped test items) pen = written_if test (closing Round) (layout items 
 layout (wrapped_at_start test opener items) pen = written_if (test || is_barred opener pen.start) (closing Round) (layout items (written_if (test || is_barred opener pen.start) (opening Round) pen))
 layout (parentheses_unless_minified items) pen = written_if (not pen.style.minified) (closing Round) (layout items (written_if (not pen.style.minified) (opening Round) pen))
 layout (unless_minified items) pen = if pen.style.minified then pen else layout items pen
-layout (where_same m n a b) pen = if are_same pen.style.tables m n then layout a pen else layout b pen
+layout (where_same m n a b) pen = if are_printed_alike pen.style.tables m n then layout a pen else layout b pen
 layout statement_end pen = end_statement pen.style.minified pen
 layout due_semicolon pen = print_due pen
 layout drop_semicolon pen = with_semicolon false pen
@@ -311,7 +307,7 @@ layout default_export_begins pen = record pen { start = default_export }
 layout (marked_word span w) pen = written (space_if (is_apart pen.ending pen.code) ++ w) other_end pen
 layout (marked_operator span p) pen = written (space_if (joins pen.ending pen.code p) ++ punctuator_text p) (operator_end p) pen
 layout (marked_number span dot_is_its_own w) pen = written (space_if (is_apart pen.ending pen.code) ++ w) (number_ending dot_is_its_own) pen
-layout (marked_indentation span) pen = at_indentation pen.style.minified pen
+layout (marked_indentation always span) pen = at_indentation pen.style.minified pen
 layout apart pen = white_if (is_apart pen.ending pen.code) (codes " ") pen
 layout (mark span) pen = pen
 layout (end_mark span) pen = pen

@@ -24,6 +24,7 @@ pub mod Normal
 pub mod Renamed
 pub mod Resolved
 pub mod Plain
+pub mod Premises
 pub mod Grammar
 pub mod Reading
 pub mod Law

@@ -1,5 +1,6 @@
 -- The marks of a source map, while a text is laid out.
-use Rattle.std.specs.Prelude.{ℕ, List, Bool, true, false, Option, Some, None, ◌&&◌, ◌||◌, ◌==◌, nat_lt, nat_le, length, not, if◌then◌else◌}
+use Rattle.std.specs.Prelude.{ℕ, ◌-◌, List, Bool, true, false, Option, Some, None, ◌&&◌, ◌||◌, ◌==◌, nat_lt, nat_le, length, not, if◌then◌else◌}
+use Rattle.std.specs.Fmt.Cut.{floor_char_boundary}
 use Rattle.std.specs.List.{last_or}
 use Rattle.std.specs.Option.{option_map_or}
 use Rattle.std.specs.Str.{encode_utf8_all}
@@ -36,18 +37,23 @@ other_name_in (Some source) span printed = other_than (name_text_at source span)
 
 -- ---- which spans have marks, where the source is handed in
 
-abbrev pub is_empty : Span → Bool
-is_empty span = span.start == span.end
+abbrev pub is_empty_span : Span → Bool
+is_empty_span span = span.start == span.end
 
 -- the span begins in the source, or at its end
 abbrev pub has_start_mark : Option (List ℕ) → Span → Bool
 has_start_mark None span = false
-has_start_mark (Some source) span = not (is_empty span) && nat_le span.start (length source)
+has_start_mark (Some source) span = not (is_empty_span span) && nat_le span.start (length source)
 
 -- the last byte of the span lies in the source
 abbrev pub has_end_mark : Option (List ℕ) → Span → Bool
 has_end_mark None span = false
-has_end_mark (Some source) span = not (is_empty span) && nat_le span.end (length source)
+has_end_mark (Some source) span = not (is_empty_span span) && nat_le span.end (length source)
+
+-- where the character begins that has the last byte of the span
+abbrev pub end_offset : Option (List ℕ) → Span → ℕ
+end_offset None span = 0
+end_offset (Some source) span = floor_char_boundary source (span.end - 1)
 
 -- a call or an index ends in this
 abbrev pub closes_link : ℕ → Bool
@@ -59,4 +65,4 @@ ends_in_link code = option_map_or closes_link (last_or None code) false
 -- the span's end lies in the source, where it has more
 abbrev pub has_link_mark : Option (List ℕ) → Span → List ℕ → Bool
 has_link_mark None span code = false
-has_link_mark (Some source) span code = not (is_empty span) && (ends_in_link code && nat_lt span.end (length source))
+has_link_mark (Some source) span code = not (is_empty_span span) && (ends_in_link code && nat_lt span.end (length source))

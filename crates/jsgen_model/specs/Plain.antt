@@ -1,5 +1,5 @@
 -- The trees of which a reading is promised: core, and among these the plain ones.
-use Rattle.std.specs.Prelude.{◌≡◌, ◌^◌, ◌&&◌, ◌||◌, ◌⊎◌, Bool, true, false, not, nat_lt, codes}
+use Rattle.std.specs.Prelude.{◌≡◌, ◌^◌, ◌&&◌, ◌||◌, ◌⊎◌, Bool, true, false, not, nat_lt, codes, List, [], ◌∷◌, if◌then◌else◌}
 use Rattle.std.specs.Str.{all_scalars}
 use Rattle.jsgen_syntax.specs.Raw.{holds_close_tag}
 use Rattle.jsgen_syntax.specs.Wtf8.{are_units}
@@ -7,11 +7,11 @@ use Rattle.jsgen_syntax.specs.declared.span.SourceKind.{SourceKind}
 use Rattle.jsgen_syntax.specs.declared.span.SourceKind.TheVariants as source_kinds
 use Rattle.jsgen_tree.specs.Atom.{Atom, text}
 use Rattle.jsgen_tree.specs.Number.{NumericKind, Whole, Raw}
-use Rattle.jsgen_tree.specs.Tree.{Tree, node, Trees, no_trees, more, hole, MaybeTrees, no_list, listed, Atoms}
+use Rattle.jsgen_tree.specs.Tree.{Tree, node, Slots, no_slots, one, maybe, many, maybe_many, Trees, no_trees, more, hole, MaybeTrees, no_list, listed, Atoms}
 use Rattle.jsgen_tree.specs.Nodes as tree
 use Rattle.jsgen_tree.specs.declared.types.NodeType.{NodeType}
 use Rattle.jsgen_tree.specs.declared.types.NodeType.TheVariants as types
-use Rattle.jsgen_tree.specs.Table.{value_named}
+use Rattle.jsgen_tree.specs.Table.{Field, Presence, needed, may_be_absent, Sort, child, children, children_or_holes, maybe_children, is_value, value_named}
 use Rattle.jsgen_tree.specs.Fields.{fields}
 use Rattle.jsgen_tree.specs.Values.{as_flag, program_kind, directive_directive, numeric_literal_kind, numeric_literal_digits, string_literal_value, reg_exp_literal_pattern, template_element_raw, hashbang_value, variable_declaration_declare, variable_declarator_definite, for_of_statement_is_await, function_is_async, function_generator, function_declare, formal_parameter_is_override, formal_parameter_readonly, formal_parameter_optional, arrow_function_expression_is_async, class_declare, class_is_abstract, method_definition_is_override, method_definition_is_abstract, method_definition_optional, property_definition_declare, property_definition_is_abstract, property_definition_is_override, property_definition_readonly, property_definition_optional, property_definition_definite}
 use Rattle.jsgen_tree.specs.Everywhere.{Everywhere}
@@ -23,10 +23,6 @@ use Rattle.jsgen_tree.specs.Job.{JobData}
 -- Each type of which no reading is promised is left out here by its name.
 abbrev pub is_core_type : NodeType → Bool
 -- generated from tools/nodes/table.txt: types
-is_core_type types.PrivateIdentifier = false
-is_core_type types.PrivateFieldExpression = false
-is_core_type types.PrivateInExpression = false
-is_core_type types.Hashbang = false
 -- end of what is generated: types
 is_core_type type = true
 
@@ -80,11 +76,15 @@ is_core_alone types.AssignmentTargetWithDefault = true
 is_core_alone types.AssignmentTargetPropertyIdentifier = true
 is_core_alone types.AssignmentTargetPropertyProperty = true
 is_core_alone types.AssignmentTargetRest = true
+is_core_alone types.PrivateIdentifier = true
+is_core_alone types.PrivateFieldExpression = true
+is_core_alone types.PrivateInExpression = true
 is_core_alone types.Class = true
 is_core_alone types.ClassBody = true
 is_core_alone types.StaticBlock = true
 is_core_alone types.MethodDefinition = true
 is_core_alone types.PropertyDefinition = true
+is_core_alone types.Hashbang = true
 is_core_alone types.ImportDeclaration = true
 is_core_alone types.ImportDefaultSpecifier = true
 is_core_alone types.ImportNamespaceSpecifier = true
@@ -130,9 +130,9 @@ is_number Whole a = nat_lt (numeric_literal_digits a) (2 ^ 128)
 is_number Raw a = true
 
 -- a directive by its raw text
-abbrev pub is_raw : Atom → Bool
-is_raw (text raw) = true
-is_raw v = false
+abbrev pub is_raw_text : Atom → Bool
+is_raw_text (text raw) = true
+is_raw_text v = false
 
 abbrev pub has_no_hole : Trees → Bool
 has_no_hole no_trees = true
@@ -143,110 +143,35 @@ abbrev pub has_no_hole_if_listed : MaybeTrees → Bool
 has_no_hole_if_listed no_list = true
 has_no_hole_if_listed (listed ts) = has_no_hole ts
 
--- The node has the children that its type has, and no hole stands in a list but an array's; a program is a module, a whole number is of 128 bits, a string is of units of 16 bits, a directive has its raw text, and the characters of a regular expression, of a piece of a template and of a hashbang are Unicode scalar values. Each node that is built in Rust is so.
+-- the first slot is that of a field that holds children: one child, one that may be absent, or a list, in which no hole stands but where the field has holes; and the rest holds of the other slots
+abbrev pub fills_first_field : Presence → Sort → Slots → (Slots → Bool) → Bool
+fills_first_field needed (child set) (one t others) rest = rest others
+fills_first_field may_be_absent (child set) (maybe m others) rest = rest others
+fills_first_field p (children set) (many ts others) rest = rest others && has_no_hole ts
+fills_first_field p (children_or_holes set) (many ts others) rest = rest others
+fills_first_field p (maybe_children set) (maybe_many ts others) rest = rest others && has_no_hole_if_listed ts
+fills_first_field p sort slots rest = false
+
+-- the children are those of the fields that are read, in their order, and the test holds
+abbrev pub fills_fields : Bool → List Field → Slots → Bool
+fills_fields test [] no_slots = test
+fills_fields test [] slots = false
+fills_fields test (f ∷ fs) slots = if f.is_read && not (is_value f.sort) then fills_first_field f.presence f.sort slots (fills_fields test fs) else fills_fields test fs slots
+
+-- A program is a module, a whole number is of 128 bits, a string is of units of 16 bits, a directive has its raw text, and the characters of a regular expression, of a piece of a template and of a hashbang are Unicode scalar values
+abbrev pub has_formed_values : NodeType → Atoms → Bool
+has_formed_values types.Program a = is_module (program_kind a)
+has_formed_values types.Directive a = is_raw_text (directive_directive a)
+has_formed_values types.NumericLiteral a = is_number (numeric_literal_kind a) a
+has_formed_values types.StringLiteral a = are_units (string_literal_value a)
+has_formed_values types.RegExpLiteral a = all_scalars (reg_exp_literal_pattern a)
+has_formed_values types.TemplateElement a = all_scalars (template_element_raw a)
+has_formed_values types.Hashbang a = all_scalars (hashbang_value a)
+has_formed_values type a = true
+
+-- Each node that is built in Rust is so.
 abbrev pub is_formed : Tree → Bool
-is_formed (tree.program a comments hashbang directives body) = is_module (program_kind a) && has_no_hole directives && has_no_hole body
-is_formed (tree.directive a) = is_raw (directive_directive a)
-is_formed (tree.numeric_literal a) = is_number (numeric_literal_kind a) a
-is_formed (tree.string_literal a) = are_units (string_literal_value a)
-is_formed (tree.reg_exp_literal a) = all_scalars (reg_exp_literal_pattern a)
-is_formed (tree.template_element a) = all_scalars (template_element_raw a)
-is_formed (tree.hashbang a) = all_scalars (hashbang_value a)
--- generated from tools/nodes/table.txt: formed
-is_formed (tree.comment a) = true
-is_formed (tree.variable_declaration a declarations) = has_no_hole declarations
-is_formed (tree.variable_declarator a id init) = true
-is_formed (tree.binding_identifier a) = true
-is_formed (tree.expression_statement a expression) = true
-is_formed (tree.block a body) = has_no_hole body
-is_formed (tree.if_statement a test consequent alternate) = true
-is_formed (tree.empty_statement a) = true
-is_formed (tree.identifier_reference a) = true
-is_formed (tree.this_expression a) = true
-is_formed (tree.null_literal a) = true
-is_formed (tree.boolean_literal a) = true
-is_formed (tree.big_int_literal a) = true
-is_formed (tree.parenthesized a expression) = true
-is_formed (tree.binary a left right) = true
-is_formed (tree.logical a left right) = true
-is_formed (tree.identifier_name a) = true
-is_formed (tree.static_member a object property) = true
-is_formed (tree.computed_member a object expression) = true
-is_formed (tree.call a callee arguments) = has_no_hole arguments
-is_formed (tree.chain a expression) = true
-is_formed (tree.spread a argument) = true
-is_formed (tree.array a elements) = true
-is_formed (tree.object_property a key value) = true
-is_formed (tree.object_expression a properties) = has_no_hole properties
-is_formed (tree.unary a argument) = true
-is_formed (tree.new_target a) = true
-is_formed (tree.update a argument) = true
-is_formed (tree.new_expression a callee arguments) = has_no_hole arguments
-is_formed (tree.super a) = true
-is_formed (tree.import_meta a) = true
-is_formed (tree.conditional a test consequent alternate) = true
-is_formed (tree.sequence a expressions) = has_no_hole expressions
-is_formed (tree.assignment a left right) = true
-is_formed (tree.formal_parameter a pattern initializer) = true
-is_formed (tree.formal_parameter_rest a argument) = true
-is_formed (tree.formal_parameters a items rest) = has_no_hole items
-is_formed (tree.function a id params body) = true
-is_formed (tree.function_body a directives statements) = has_no_hole directives && has_no_hole statements
-is_formed (tree.arrow_function a params body) = true
-is_formed (tree.await_expression a argument) = true
-is_formed (tree.yield_expression a argument) = true
-is_formed (tree.template_literal a quasis expressions) = has_no_hole quasis && has_no_hole expressions
-is_formed (tree.tagged_template a tag quasi) = true
-is_formed (tree.import_call a source options) = true
-is_formed (tree.for_statement a init test update body) = true
-is_formed (tree.for_in_statement a left right body) = true
-is_formed (tree.for_of_statement a left right body) = true
-is_formed (tree.while_statement a test body) = true
-is_formed (tree.do_while_statement a body test) = true
-is_formed (tree.label_identifier a) = true
-is_formed (tree.labeled_statement a label body) = true
-is_formed (tree.continue_statement a label) = true
-is_formed (tree.break_statement a label) = true
-is_formed (tree.return_statement a argument) = true
-is_formed (tree.throw_statement a argument) = true
-is_formed (tree.debugger_statement a) = true
-is_formed (tree.switch_statement a discriminant cases) = has_no_hole cases
-is_formed (tree.switch_case a test consequent) = has_no_hole consequent
-is_formed (tree.try_statement a block handler finalizer) = true
-is_formed (tree.catch_clause a param body) = true
-is_formed (tree.object_pattern a properties rest) = has_no_hole properties
-is_formed (tree.binding_property a key value) = true
-is_formed (tree.binding_rest_element a argument) = true
-is_formed (tree.array_pattern a elements rest) = true
-is_formed (tree.assignment_pattern a left right) = true
-is_formed (tree.array_target a elements rest) = true
-is_formed (tree.object_target a properties rest) = has_no_hole properties
-is_formed (tree.target_with_default a binding init) = true
-is_formed (tree.target_property_identifier a binding init) = true
-is_formed (tree.target_property a the_name binding) = true
-is_formed (tree.target_rest a target) = true
-is_formed (tree.private_identifier a) = true
-is_formed (tree.private_member a object field) = true
-is_formed (tree.private_in a left right) = true
-is_formed (tree.class a id heritage body) = true
-is_formed (tree.class_body a body) = has_no_hole body
-is_formed (tree.static_block a body) = has_no_hole body
-is_formed (tree.method_definition a key value) = true
-is_formed (tree.property_definition a key value) = true
-is_formed (tree.import_declaration a specifiers source with_clause) = has_no_hole_if_listed specifiers
-is_formed (tree.import_default_specifier a local) = true
-is_formed (tree.import_namespace_specifier a local) = true
-is_formed (tree.import_specifier a imported local) = true
-is_formed (tree.with_clause a entries) = has_no_hole entries
-is_formed (tree.import_attribute a key value) = true
-is_formed (tree.export_declaration a declaration) = true
-is_formed (tree.export_named_declaration a specifiers) = has_no_hole specifiers
-is_formed (tree.export_from_declaration a specifiers source with_clause) = has_no_hole specifiers
-is_formed (tree.export_specifier a local exported) = true
-is_formed (tree.export_all_declaration a exported source with_clause) = true
-is_formed (tree.export_default_declaration a declaration) = true
--- end of what is generated: formed
-is_formed t = false
+is_formed (node type a slots) = fills_fields (has_formed_values type a) (fields type) slots
 
 -- ---- core, and plain
 

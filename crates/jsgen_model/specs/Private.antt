@@ -11,13 +11,13 @@ name_in [] w = None
 name_in (e ∷ es) w = if bytes_eq w e.0 then Some e.1 else name_in es w
 
 -- the one that the first of these classes gives
-abbrev pub name_by : List (List (List ℕ × List ℕ)) → List ℕ → List ℕ → Option (List ℕ)
-name_by tables [] w = None
-name_by tables (k ∷ ks) w = option_or (option_and_then (λ table. name_in table w) (slice_get tables k)) (name_by tables ks w)
+abbrev pub private_name_by : List (List (List ℕ × List ℕ)) → List ℕ → List ℕ → Option (List ℕ)
+private_name_by tables [] w = None
+private_name_by tables (k ∷ ks) w = option_or (option_and_then (λ table. name_in table w) (slice_get tables k)) (private_name_by tables ks w)
 
 -- within these classes, the innermost first
 abbrev pub printed_private : Tables → List ℕ → List ℕ → List ℕ
-printed_private tables classes w = unwrap_or (option_and_then (λ all. name_by all classes w) tables.private) w
+printed_private tables classes w = unwrap_or (option_and_then (λ all. private_name_by all classes w) tables.private) w
 
 abbrev pub has_table : Tables → ℕ → Bool
 has_table tables number = is_some (option_and_then (λ all. slice_get all number) tables.private)

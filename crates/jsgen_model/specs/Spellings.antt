@@ -47,11 +47,11 @@ left_place type = in_brackets Comma
 
 abbrev pub update_items : Span → Bool → Items → Items → Items → Items
 update_items s true item first last = marked s item ⊕ last
-update_items s false item first last = mark s ⊕ (first ⊕ item)
+update_items s false item first last = mark s ⊕ first ⊕ item
 
 -- operands and the operator between them, in parentheses where the test holds
 abbrev pub operation : Bool → Items → Items → Items → Items
-operation test item left right = wrapped test (left ⊕ (soft_space ⊕ (item ⊕ (soft_space ⊕ right))))
+operation test item left right = wrapped test (left ⊕ soft_space ⊕ item ⊕ soft_space ⊕ right)
 
 -- what a prefix operator or `await` may begin: a unary operation, and a number, whose minus is one
 abbrev pub is_prefixed : Tree → Bool
@@ -129,7 +129,7 @@ items_if false items = nothing
 
 -- among statements a declaration has comments, indentation and an end; the number is where it begins
 abbrev pub as_statement : Bool → ℕ → Items → Items
-as_statement test start items = items_if test (comments all_of_them start ⊕ indentation) ⊕ (items ⊕ items_if test statement_end)
+as_statement test start items = items_if test (comments all_of_them start ⊕ indentation) ⊕ items ⊕ items_if test statement_end
 
 -- ---- the first statement of a body
 
@@ -143,7 +143,7 @@ string_statement (tree.expression_statement a expression) = string_in (without_p
 string_statement t = None
 
 abbrev pub unless_string : Span → Span → Option (List ℕ) → Items → Items
-unless_string line own (Some units) items = comments all_of_them line.start ⊕ (marked_indentation line ⊕ (mark own ⊕ (first_string units ⊕ statement_end)))
+unless_string line own (Some units) items = comments all_of_them line.start ⊕ marked_indentation true line ⊕ parentheses_unless_minified (comments with_key_annotation own.start ⊕ mark own ⊕ first_string units) ⊕ statement_end
 unless_string line own None items = items
 
 -- where the string stands
@@ -159,10 +159,10 @@ first_statement t items = unless_string (span_of t) (span_inside t) (string_stat
 
 -- braces of a span round statements, one level deeper; in empty ones stands nothing. A semicolon that is left is dropped
 abbrev pub filled_braces : Span → Items → Items
-filled_braces s items = mark s ⊕ (brackets Brace (soft_line ⊕ (deeper items ⊕ (indentation ⊕ end_mark s))) ⊕ drop_semicolon)
+filled_braces s items = mark s ⊕ brackets Brace (soft_line ⊕ deeper items ⊕ indentation ⊕ end_mark s) ⊕ drop_semicolon
 
 abbrev pub empty_braces : Span → Items
-empty_braces s = mark s ⊕ (brackets Brace (end_mark s) ⊕ drop_semicolon)
+empty_braces s = mark s ⊕ brackets Brace (end_mark s) ⊕ drop_semicolon
 
 abbrev pub braces : Span → Trees → Items → Items
 braces s no_trees items = empty_braces s
@@ -170,12 +170,12 @@ braces s ts items = filled_braces s items
 
 -- braces round statements, behind which orphans may stand
 abbrev pub block_braces : Span → Trees → Items → Items
-block_braces s no_trees items = mark s ⊕ (brackets Brace (orphan_lines s.end ⊕ end_mark s) ⊕ drop_semicolon)
+block_braces s no_trees items = mark s ⊕ brackets Brace (orphan_lines s.end ⊕ end_mark s) ⊕ drop_semicolon
 block_braces s ts items = filled_braces s (items ⊕ orphans s.end)
 
 -- among statements a block is a line of its own
 abbrev pub block_items : Bool → Items → Items
-block_items test items = items_if test indentation ⊕ (items ⊕ items_if test soft_line)
+block_items test items = items_if test indentation ⊕ items ⊕ items_if test soft_line
 
 -- how a statement stands as the body of another one
 abbrev pub shape_of_type : NodeType → Shape
@@ -199,14 +199,14 @@ body_end false = nothing
 -- What `if` is followed by, which has a span: within what is around it, or as it stands among statements. Where it ends in an `if`
 -- without `else`, it stands in braces
 abbrev pub consequent_items : Span → Shape → Bool → Items → Items → Bool → Items
-consequent_items own shapes.Block false inner whole else_follows = soft_space ⊕ (inner ⊕ braces_end else_follows)
-consequent_items own shapes.Empty false inner whole else_follows = punctuator semicolon ⊕ (soft_line ⊕ body_end else_follows)
-consequent_items own s false inner whole else_follows = body_space ⊕ (whole ⊕ body_end else_follows)
-consequent_items own s true inner whole else_follows = soft_space ⊕ (filled_braces own whole ⊕ braces_end else_follows)
+consequent_items own shapes.Block false inner whole else_follows = soft_space ⊕ inner ⊕ braces_end else_follows
+consequent_items own shapes.Empty false inner whole else_follows = punctuator semicolon ⊕ soft_line ⊕ body_end else_follows
+consequent_items own s false inner whole else_follows = body_space ⊕ whole ⊕ body_end else_follows
+consequent_items own s true inner whole else_follows = soft_space ⊕ filled_braces own whole ⊕ braces_end else_follows
 
 -- what the head of a loop or a label is followed by: a block goes on with the line, and any other statement stands behind one space
 abbrev pub body_items : Shape → Items → Items → Items
-body_items shapes.Block inner whole = soft_space ⊕ (inner ⊕ soft_line)
+body_items shapes.Block inner whole = soft_space ⊕ inner ⊕ soft_line
 body_items shapes.Empty inner whole = punctuator semicolon ⊕ soft_line
 body_items s inner whole = body_space ⊕ whole
 
@@ -217,9 +217,9 @@ alternate_items s inner whole = body_items s inner whole
 
 -- what stands between `do` and `while`, which has a span: a statement that is no block stands on a line of its own, with its semicolon
 abbrev pub do_items : Span → Shape → Items → Items → Items
-do_items own shapes.Block inner whole = soft_space ⊕ (inner ⊕ soft_space)
-do_items own shapes.Empty inner whole = comments all_of_them own.start ⊕ (mark own ⊕ (punctuator semicolon ⊕ (soft_line ⊕ indentation)))
-do_items own s inner whole = soft_line ⊕ (deeper (whole ⊕ due_semicolon) ⊕ indentation)
+do_items own shapes.Block inner whole = soft_space ⊕ inner ⊕ soft_space
+do_items own shapes.Empty inner whole = comments all_of_them own.start ⊕ mark own ⊕ punctuator semicolon ⊕ soft_line ⊕ indentation
+do_items own s inner whole = soft_line ⊕ deeper (whole ⊕ due_semicolon) ⊕ indentation
 
 -- the same of the one statement of a case: what leads to it, and the statement
 abbrev pub lead_to : Shape → Span → Lead
@@ -326,7 +326,7 @@ before_called false = none_of_them
 
 -- a string that is a key is never in backticks
 abbrev pub key_text : Tree → Items → Items
-key_text (tree.string_literal a) items = comments with_key_annotation a.span.start ⊕ (mark a.span ⊕ string false (string_literal_value a))
+key_text (tree.string_literal a) items = comments with_key_annotation a.span.start ⊕ mark a.span ⊕ string false (string_literal_value a)
 key_text key items = items
 
 -- a key stands in brackets where it is computed, and where it is a negative number, which is no key by itself (ECMA-262, 13.2.5)
@@ -354,19 +354,19 @@ unless_short shorthand w value items = if is_proto w then items_unless shorthand
 
 -- what stands before a property's value: its key, which may be a name, and a colon, but where the value alone says the key
 abbrev pub before_value : Bool → Option (List ℕ) → Option Named → Items → Items
-before_value shorthand None value key = key ⊕ (punctuator colon ⊕ soft_space)
-before_value shorthand (Some w) value key = unless_short shorthand w value (key ⊕ (punctuator colon ⊕ soft_space))
+before_value shorthand None value key = key ⊕ punctuator colon ⊕ soft_space
+before_value shorthand (Some w) value key = unless_short shorthand w value (key ⊕ punctuator colon ⊕ soft_space)
 
 -- what stands before what a property is bound to: its key, which may be a name, and a colon, but where that is printed as the key is
 -- written, by itself or with a default
 abbrev pub before_bound : Option (List ℕ) → Option Named → Items → Items
-before_bound None value key = key ⊕ (punctuator colon ⊕ soft_space)
-before_bound (Some w) value key = unless_said w value (key ⊕ (punctuator colon ⊕ soft_space))
+before_bound None value key = key ⊕ punctuator colon ⊕ soft_space
+before_bound (Some w) value key = unless_said w value (key ⊕ punctuator colon ⊕ soft_space)
 
 -- the braces of an object pattern, in which an empty one has nothing
 abbrev pub pattern_braces : Trees → Maybe → Items → Items
 pattern_braces no_trees absent items = brackets Brace nothing
-pattern_braces properties rest items = brackets Brace (soft_space ⊕ (items ⊕ soft_space))
+pattern_braces properties rest items = brackets Brace (soft_space ⊕ items ⊕ soft_space)
 
 -- what stands behind the elements of a pattern: what takes the rest, or else the comma of a last element that is left out
 abbrev pub behind_elements : Trees → Maybe → Items → Items
@@ -437,7 +437,7 @@ function_items function_kinds.Expression pure pife place start items = annotatio
 -- the words before a function's name (ECMA-262, 15.2, 15.5, 15.6 and 15.8); the tests tell that it is `async`, and a generator. Of two
 -- marks of one span, one behind the other, the second is left out
 abbrev pub function_words : Span → Bool → Bool → Items
-function_words s is_async generator = items_if is_async (marked_word s (codes "async") ⊕ hard_space) ⊕ (marked_word s (codes "function") ⊕ items_if generator (punctuator star ⊕ soft_space))
+function_words s is_async generator = items_if is_async (marked_word s (codes "async") ⊕ hard_space) ⊕ marked_word s (codes "function") ⊕ items_if generator (punctuator star ⊕ soft_space)
 
 -- a function is the value of a property
 abbrev pub is_function : NodeType → Bool
@@ -451,7 +451,7 @@ method_words t = nothing
 
 -- the braces of a function's body, in which an empty one has comments alone; those at its last byte stand at its end
 abbrev pub body_braces : Span → Trees → Trees → Items → Items
-body_braces s no_trees no_trees items = mark s ⊕ (brackets Brace (empty_body s.end ⊕ end_mark s) ⊕ drop_semicolon)
+body_braces s no_trees no_trees items = mark s ⊕ brackets Brace (empty_body s.end ⊕ end_mark s) ⊕ drop_semicolon
 body_braces s directives statements items = filled_braces s (held s.end (items ⊕ orphans s.end))
 
 -- where an arrow function's body is an expression, it begins behind the arrow
@@ -480,7 +480,7 @@ element_end type = soft_line
 
 -- among others a member is a line of its own
 abbrev pub element_items : Bool → ℕ → Items → Items → Items
-element_items in_list start items end = items_if in_list (comments all_of_them start ⊕ indentation) ⊕ (items ⊕ items_if in_list end)
+element_items in_list start items end = items_if in_list (comments all_of_them start ⊕ indentation) ⊕ items ⊕ items_if in_list end
 
 abbrev pub method_kind_word : MethodDefinitionKind → Items
 method_kind_word method_kinds.Get = key_word (codes "get")
@@ -491,7 +491,7 @@ method_kind_word kind = nothing
 
 -- a name's own text, and behind a colon what it is printed as
 abbrev pub renamed_items : Named → Items
-renamed_items n = name unmarked (as_written (own_name n)) ⊕ (punctuator colon ⊕ (soft_space ⊕ name unmarked n))
+renamed_items n = name unmarked (as_written (own_name n)) ⊕ punctuator colon ⊕ soft_space ⊕ name unmarked n
 
 -- a name alone, or where it is printed otherwise, that behind its own
 abbrev pub own_or_renamed : Option Named → Items → Items
@@ -566,28 +566,28 @@ unless_same t u items = unless_named (export_named t) (export_named u) items
 
 -- `as`, and a name behind it
 abbrev pub as_name : Items → Items
-as_name items = soft_space ⊕ (word (codes "as") ⊕ (soft_space ⊕ items))
+as_name items = soft_space ⊕ word (codes "as") ⊕ soft_space ⊕ items
 
 -- An import by its name: what is imported, and behind `as` the name that it has here, where the two differ. Of a string that says
 -- the same the name alone is left
 abbrev pub import_items : Tree → Tree → Items → Items → Items
-import_items (tree.string_literal a) local imported bound = unless_same (tree.string_literal a) local (imported ⊕ (soft_space ⊕ (word (codes "as") ⊕ soft_space))) ⊕ bound
+import_items (tree.string_literal a) local imported bound = unless_same (tree.string_literal a) local (imported ⊕ soft_space ⊕ word (codes "as") ⊕ soft_space) ⊕ bound
 import_items t local imported bound = imported ⊕ unless_same t local (as_name bound)
 
 -- what is imported behind a default, or without one: all exports, or in braces some by their names. The items are of the first, and of all
 abbrev pub others_items : NodeType → Items → Items → Items
 others_items types.ImportNamespaceSpecifier first every = first ⊕ hard_space
-others_items type first every = brackets Brace (soft_space ⊕ (every ⊕ soft_space)) ⊕ soft_space
+others_items type first every = brackets Brace (soft_space ⊕ every ⊕ soft_space) ⊕ soft_space
 
 -- an import begins with a default, or with what may stand behind one
 abbrev pub clause_items : NodeType → Items → Items → Items → Items
-clause_items types.ImportDefaultSpecifier first behind others = hard_space ⊕ (first ⊕ behind)
+clause_items types.ImportDefaultSpecifier first behind others = hard_space ⊕ first ⊕ behind
 clause_items type first behind others = soft_space ⊕ others
 
 -- braces with a space on each side of what is in them, and nothing in empty ones
 abbrev pub spaced_braces : Trees → Items → Items
 spaced_braces no_trees items = brackets Brace nothing
-spaced_braces ts items = brackets Brace (soft_space ⊕ (items ⊕ soft_space))
+spaced_braces ts items = brackets Brace (soft_space ⊕ items ⊕ soft_space)
 
 -- a key of an attribute: a name without a mark, or a string
 abbrev pub attribute_key : Tree → Items → Items
@@ -609,11 +609,11 @@ starts_if (given t) = (span_of t).start ∷ []
 
 -- what an import or an export begins with
 abbrev pub module_word : Span → List ℕ → Items
-module_word s w = comments all_of_them s.start ⊕ (indentation ⊕ (mark s ⊕ word w))
+module_word s w = comments all_of_them s.start ⊕ indentation ⊕ mark s ⊕ word w
 
 -- what the export of a declaration begins with; the test tells that it is a function that has no side effects
 abbrev pub export_word : Bool → Span → Items
-export_word pure s = comments all_of_them s.start ⊕ (annotation_line false pure s.start ⊕ (indentation ⊕ (mark s ⊕ word (codes "export"))))
+export_word pure s = comments all_of_them s.start ⊕ annotation_line false pure s.start ⊕ indentation ⊕ mark s ⊕ word (codes "export")
 
 -- what ends a declaration that is exported
 abbrev pub exported_end : NodeType → Items
@@ -642,4 +642,4 @@ is_pure_declaration t = false
 -- what is exported by default: a declaration, or an expression, which may begin with neither a function nor a class (ECMA-262, 16.2.3)
 abbrev pub default_items : Bool → Items → Items → Items
 default_items true declaration expression = declaration ⊕ soft_line
-default_items false declaration expression = default_export_begins ⊕ (expression ⊕ statement_end)
+default_items false declaration expression = default_export_begins ⊕ expression ⊕ statement_end

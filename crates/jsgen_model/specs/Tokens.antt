@@ -147,7 +147,7 @@ ends_before (Sign p) text = stands p (punctuator_text p ++ text) && not (longer_
 
 -- ---- plain tokens
 
--- no private name, hashbang, part of a template or regular expression
+-- no private name, part of a template or regular expression
 abbrev pub is_plain_piece : Piece → Bool
 is_plain_piece (Word w) = true
 is_plain_piece (Number w) = true

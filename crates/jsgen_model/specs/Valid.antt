@@ -64,18 +64,18 @@ pub record ChildPlace : Type 0 where
   pub around : Surroundings
 
 -- the object of a member and what is called: what a link goes on from
-abbrev pub linked : List NodeSet → List NodeSet
-linked [] = []
-linked (s ∷ ss) = sets.Link ∷ ss
+abbrev pub before_link : List NodeSet → List NodeSet
+before_link [] = []
+before_link (s ∷ ss) = sets.Link ∷ ss
 
 -- what a node's fields ask for
 abbrev pub asked_sets : NodeType → List NodeSet
-asked_sets types.StaticMemberExpression = linked (child_sets (fields types.StaticMemberExpression))
-asked_sets types.ComputedMemberExpression = linked (child_sets (fields types.ComputedMemberExpression))
-asked_sets types.CallExpression = linked (child_sets (fields types.CallExpression))
+asked_sets types.StaticMemberExpression = before_link (child_sets (fields types.StaticMemberExpression))
+asked_sets types.ComputedMemberExpression = before_link (child_sets (fields types.ComputedMemberExpression))
+asked_sets types.CallExpression = before_link (child_sets (fields types.CallExpression))
 asked_sets types.BindingProperty = sets.PropertyKey ∷ sets.BindingElement ∷ []
 asked_sets types.ArrayPattern = sets.BindingElement ∷ sets.BindingRestElement ∷ []
-asked_sets types.PrivateFieldExpression = linked (child_sets (fields types.PrivateFieldExpression))
+asked_sets types.PrivateFieldExpression = before_link (child_sets (fields types.PrivateFieldExpression))
 asked_sets types.Program = sets.Comment ∷ sets.Hashbang ∷ sets.Directive ∷ sets.ModuleItem ∷ []
 asked_sets type = child_sets (fields type)
 
@@ -404,14 +404,25 @@ any_lacks_value no_trees = false
 any_lacks_value (more t ts) = lacks_value t || any_lacks_value ts
 any_lacks_value (hole ts) = any_lacks_value ts
 
+-- the span of the first such declarator, and this one where there is none
+abbrev pub lacking : Span → Trees → Span
+lacking s no_trees = s
+lacking s (more t ts) = if lacks_value t then span_of t else lacking s ts
+lacking s (hole ts) = lacking s ts
+
 -- a declaration binds a pattern and gives it no value, which only the head of a loop over values does (ECMA-262, 14.3.1 and 14.3.2)
 abbrev pub binds_nothing : Tree → Bool
 binds_nothing (tree.variable_declaration a declarations) = any_lacks_value declarations
 binds_nothing t = false
 
+-- where it does so: at the declarator
+abbrev pub unbound : Tree → Span
+unbound (tree.variable_declaration a declarations) = lacking a.span declarations
+unbound t = span_of t
+
 abbrev pub init_faults : Maybe → List TreeFault
 init_faults absent = []
-init_faults (given t) = fault_if (binds_nothing t) (faults.Place (span_of t).start)
+init_faults (given t) = fault_if (binds_nothing t) (faults.Place (unbound t).start)
 
 -- ---- imports, exports and hashbangs (ECMA-262, 16.2 and 12.5)
 
@@ -423,28 +434,25 @@ abbrev pub is_named_import : NodeType → Bool
 is_named_import types.ImportSpecifier = true
 is_named_import type = false
 
-abbrev pub are_named : Trees → Bool
-are_named no_trees = true
-are_named (more t ts) = is_named_import (type_of t) && are_named ts
-are_named (hole ts) = are_named ts
+-- each of these is of a type that fits
+abbrev pub misplaced_faults : (NodeType → Bool) → Trees → List TreeFault
+misplaced_faults fits no_trees = []
+misplaced_faults fits (more t ts) = fault_if (not (fits (type_of t))) (faults.Place (span_of t).start) ++ misplaced_faults fits ts
+misplaced_faults fits (hole ts) = misplaced_faults fits ts
 
-abbrev pub is_empty : Trees → Bool
-is_empty no_trees = true
-is_empty ts = false
-
--- all exports by one name, or some by theirs
-abbrev pub are_behind_default : Trees → Bool
-are_behind_default (more (tree.import_namespace_specifier a local) ts) = is_empty ts
-are_behind_default ts = are_named ts
+-- all exports by one name, and nothing behind them, or some by theirs
+abbrev pub behind_default_faults : Trees → List TreeFault
+behind_default_faults (more (tree.import_namespace_specifier a local) ts) = misplaced_faults (λ type. false) ts
+behind_default_faults ts = misplaced_faults is_named_import ts
 
 -- a default stands first
-abbrev pub are_specifiers : Trees → Bool
-are_specifiers (more (tree.import_default_specifier a local) ts) = are_behind_default ts
-are_specifiers ts = are_behind_default ts
+abbrev pub specifier_faults : Trees → List TreeFault
+specifier_faults (more (tree.import_default_specifier a local) ts) = behind_default_faults ts
+specifier_faults ts = behind_default_faults ts
 
-abbrev pub import_faults : Span → MaybeTrees → List TreeFault
-import_faults s no_list = []
-import_faults s (listed ts) = fault_if (not (are_specifiers ts)) (faults.Place s.start)
+abbrev pub import_faults : MaybeTrees → List TreeFault
+import_faults no_list = []
+import_faults (listed ts) = specifier_faults ts
 
 abbrev pub is_reference : NodeType → Bool
 is_reference types.IdentifierReference = true
@@ -455,22 +463,19 @@ abbrev pub fits_source : Bool → NodeType → Bool
 fits_source true type = not (is_reference type)
 fits_source false type = is_reference type
 
-abbrev pub fit_source : Bool → Trees → Bool
-fit_source has_source no_trees = true
-fit_source has_source (more (tree.export_specifier a local exported) ts) = fits_source has_source (type_of local) && fit_source has_source ts
-fit_source has_source (more t ts) = fit_source has_source ts
-fit_source has_source (hole ts) = fit_source has_source ts
-
-abbrev pub export_faults : Bool → Span → Trees → List TreeFault
-export_faults has_source s specifiers = fault_if (not (fit_source has_source specifiers)) (faults.Place s.start)
+abbrev pub export_faults : Bool → Trees → List TreeFault
+export_faults has_source no_trees = []
+export_faults has_source (more (tree.export_specifier a local exported) ts) = fault_if (not (fits_source has_source (type_of local))) (faults.Place a.span.start) ++ export_faults has_source ts
+export_faults has_source (more t ts) = export_faults has_source ts
+export_faults has_source (hole ts) = export_faults has_source ts
 
 -- ---- comments (ECMA-262, 12.4 and B.1.1)
 
 -- the text begins so, and what follows holds
-abbrev pub begins_with : List ℕ → (List ℕ → Bool) → List ℕ → Bool
-begins_with [] holds cs = holds cs
-begins_with (m ∷ mark) holds [] = false
-begins_with (m ∷ mark) holds (c ∷ cs) = (m == c) && begins_with mark holds cs
+abbrev pub begins_with_mark : List ℕ → (List ℕ → Bool) → List ℕ → Bool
+begins_with_mark [] holds cs = holds cs
+begins_with_mark (m ∷ mark) holds [] = false
+begins_with_mark (m ∷ mark) holds (c ∷ cs) = (m == c) && begins_with_mark mark holds cs
 
 -- the first `*/` is the end of the text
 abbrev pub ends_at_close : List ℕ → Bool
@@ -481,11 +486,11 @@ ends_at_close (c ∷ d ∷ e ∷ cs) = not ((c == 42) && (d == 47)) && ends_at_c
 
 -- the text is a comment of this kind
 abbrev pub is_comment : CommentKind → List ℕ → Bool
-is_comment comments.Line cs = begins_with (codes "//") (λ rest. not (has_line_end rest)) cs
-is_comment comments.HtmlOpen cs = begins_with (codes "<!--") (λ rest. not (has_line_end rest)) cs
-is_comment comments.HtmlClose cs = begins_with (codes "-->") (λ rest. not (has_line_end rest)) cs
-is_comment comments.SingleLineBlock cs = begins_with (codes "/*") (λ rest. not (has_line_end rest) && ends_at_close rest) cs
-is_comment comments.MultiLineBlock cs = begins_with (codes "/*") (λ rest. has_line_end rest && ends_at_close rest) cs
+is_comment comments.Line cs = begins_with_mark (codes "//") (λ rest. not (has_line_end rest)) cs
+is_comment comments.HtmlOpen cs = begins_with_mark (codes "<!--") (λ rest. not (has_line_end rest)) cs
+is_comment comments.HtmlClose cs = begins_with_mark (codes "-->") (λ rest. not (has_line_end rest)) cs
+is_comment comments.SingleLineBlock cs = begins_with_mark (codes "/*") (λ rest. not (has_line_end rest) && ends_at_close rest) cs
+is_comment comments.MultiLineBlock cs = begins_with_mark (codes "/*") (λ rest. has_line_end rest && ends_at_close rest) cs
 
 -- a comment is one of its kind in the source
 abbrev pub comment_faults : List ℕ → Span → CommentKind → List TreeFault
@@ -493,7 +498,7 @@ comment_faults source s kind = fault_if (not (spans_characters (encode_utf8_all 
 
 -- what names the file of the licences is a line's end and a comment on one line, whatever the path in it holds
 abbrev pub names_a_file : Legal → Bool
-names_a_file (chosen.linked path) = begins_with (codes "\n") (is_comment comments.SingleLineBlock) (reference path)
+names_a_file (chosen.linked path) = begins_with_mark (codes "\n") (is_comment comments.SingleLineBlock) (reference path)
 names_a_file legal = true
 
 abbrev pub licence_faults : Span → Legal → List TreeFault
@@ -595,9 +600,9 @@ own_faults around (tree.target_rest a target) = target_faults target
 own_faults around (tree.template_element a) = piece_faults a.span (template_element_raw a) (template_element_cooked a)
 own_faults around (tree.template_literal a quasis expressions) = template_faults a.span quasis expressions
 own_faults around (tree.hashbang a) = hashbang_faults a.span (hashbang_value a)
-own_faults around (tree.import_declaration a specifiers source attributes) = import_faults a.span specifiers
-own_faults around (tree.export_named_declaration a specifiers) = export_faults false a.span specifiers
-own_faults around (tree.export_from_declaration a specifiers source attributes) = export_faults true a.span specifiers
+own_faults around (tree.import_declaration a specifiers source attributes) = import_faults specifiers
+own_faults around (tree.export_named_declaration a specifiers) = export_faults false specifiers
+own_faults around (tree.export_from_declaration a specifiers source attributes) = export_faults true specifiers
 own_faults around t = []
 
 abbrev pub takes_super : NodeSet → Bool
@@ -704,9 +709,13 @@ fits_kind set (tree.class a id heritage body) = fits_place set (as_function_kind
 fits_kind set (tree.variable_declaration a declarations) = not (is_among_statements set && any_lacks_value declarations)
 fits_kind set t = true
 
+-- what doesn't fit a place: of a declaration that may stand there the declarator that lacks a value, else the child itself
+abbrev pub misfit : NodeSet → Tree → Span
+misfit set t = if may_stand set (type_of t) then unbound t else span_of t
+
 -- a child is of the set that its field asks for, and `super`, defaults, optional links, pieces that stand for nothing, functions, classes and declarations only where they may be
 abbrev pub set_faults : NodeSet → Tree → List TreeFault
-set_faults set t = fault_if (not (may_stand set (type_of t) && fits_kind set t)) (faults.Place (span_of t).start) ++ (link_faults set t ++ uncooked_faults set t)
+set_faults set t = fault_if (not (may_stand set (type_of t) && fits_kind set t)) (faults.Place (misfit set t).start) ++ (link_faults set t ++ uncooked_faults set t)
 
 -- no field asks for a child that has no place
 abbrev pub place_faults : List ChildPlace → Tree → List TreeFault

@@ -116,7 +116,7 @@ fn print_all(node: &ImportNamespaceSpecifier, p: &mut Printer<'_>)
 
 // Some by their names in braces, and a space.
 fn print_named(specifiers: &[ImportDeclarationSpecifier], p: &mut Printer<'_>)
-    ensures { Lays p.old p.new (brackets Brace (soft_space ⊕ (spell_list (trees (map in_import_declaration_specifier specifiers.now)) plainly ⊕ soft_space)) ⊕ soft_space) }
+    ensures { Lays p.old p.new (brackets Brace (soft_space ⊕ spell_list (trees (map in_import_declaration_specifier specifiers.now)) plainly ⊕ soft_space) ⊕ soft_space) }
 {
     print_filled_braces::<_, Specifiers>(specifiers, p);
     p.print_soft_space();
@@ -190,7 +190,7 @@ pub fn print_import_specifier(node: &ImportSpecifier, p: &mut Printer<'_>, place
 // What is imported, and `as`, unless the name says it.
 fn print_before_name(imported: &ModuleExportName, local: &BindingIdentifier, p: &mut Printer<'_>)
     ensures { Lays p.old p.new (unless_same (in_module_export_name imported.now) (binding_identifier_row local.now)
-        (spell (in_module_export_name imported.now) plainly ⊕ (soft_space ⊕ (word (codes "as") ⊕ soft_space)))) }
+        (spell (in_module_export_name imported.now) plainly ⊕ soft_space ⊕ word (codes "as") ⊕ soft_space)) }
 {
     if imports_as(imported, local, p) {
         return;

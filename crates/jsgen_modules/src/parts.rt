@@ -82,7 +82,7 @@ pub fn print_empty_braces(p: &mut Printer<'_>)
 
 /// A list in braces with a space on each side.
 pub fn print_filled_braces<E, L: PrintMember<E>>(members: &[E], p: &mut Printer<'_>)
-    ensures { Lays p.old p.new (brackets Brace (soft_space ⊕ (spell_list (trees (map L.plain members.now)) plainly ⊕ soft_space))) }
+    ensures { Lays p.old p.new (brackets Brace (soft_space ⊕ spell_list (trees (map L.plain members.now)) plainly ⊕ soft_space)) }
 {
     p.print_opening(Bracket::Brace);
     p.print_soft_space();

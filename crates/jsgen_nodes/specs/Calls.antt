@@ -14,9 +14,9 @@ use Rattle.jsgen_model.specs.Spell.{spell, is_marked_as_called, argument_items, 
 -- from what is called on
 abbrev pub from_callee : Tree → Place → Items
 from_callee (tree.call a callee arguments) place =
-    linked_items callee (spell callee (called place)) ⊕ (bracket_link (call_expression_optional a)
+    linked_items callee (spell callee (called place)) ⊕ bracket_link (call_expression_optional a)
     ⊕ brackets Round (argument_items (is_require_call callee arguments || is_definition_call callee arguments) arguments a.span
-    (spell_arguments (is_require_call callee arguments) (is_definition_call callee arguments) arguments (in_brackets Comma))))
+    (spell_arguments (is_require_call callee arguments) (is_definition_call callee arguments) arguments (in_brackets Comma)))
 from_callee t place = nothing
 
 -- the comments before what is in no parentheses
@@ -25,9 +25,9 @@ own_comments manner t = if is_marked_as_called t then nothing else comments mann
 
 -- what is imported, and how, behind what leads to it
 abbrev pub imported_items : Tree → Maybe → Items
-imported_items source options = line_break (import_source (span_of source).start) ⊕ (spell source (in_brackets Comma) ⊕ spell_behind_comma options (in_brackets Comma))
+imported_items source options = line_break (import_source (span_of source).start) ⊕ spell source (in_brackets Comma) ⊕ spell_behind_comma options (in_brackets Comma)
 
 -- a function from its word on; behind the name it is spelled as a method is
 abbrev pub from_word : Tree → Place → Items
-from_word (tree.function a id params body) place = function_words a.span (function_is_async a) (function_generator a) ⊕ (spell_if_given id (child Lowest place) ⊕ spell_method (tree.function a id params body) place)
+from_word (tree.function a id params body) place = function_words a.span (function_is_async a) (function_generator a) ⊕ spell_if_given id (child Lowest place) ⊕ spell_method (tree.function a id params body) place
 from_word t place = nothing

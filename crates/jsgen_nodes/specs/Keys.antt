@@ -9,7 +9,7 @@ use Rattle.jsgen_tree.specs.declared.types.NodeType.{NodeType}
 use Rattle.jsgen_tree.specs.declared.types.NodeType.TheVariants as types
 use Rattle.jsgen_place.specs.Place.{in_brackets}
 use Rattle.jsgen_model.specs.Items.{Items}
-use Rattle.jsgen_model.specs.Layout.{are_same}
+use Rattle.jsgen_model.specs.Layout.{are_printed_alike}
 use Rattle.jsgen_model.specs.Spell.{spell, needs_brackets, key_items}
 
 abbrev pub is_string : NodeType → Bool
@@ -23,7 +23,7 @@ is_number type = false
 -- by the tables a value, which may be a reference, is printed as this name is written
 abbrev pub is_said : Tables → Option Named → List ℕ → Bool
 is_said tables None w = false
-is_said tables (Some value) w = are_same tables value (as_written w)
+is_said tables (Some value) w = are_printed_alike tables value (as_written w)
 
 -- by the tables a property is its value alone, where its key may be a name, and its value a reference
 abbrev pub is_value_alone : Tables → Bool → Option (List ℕ) → Option Named → Bool

@@ -53,8 +53,8 @@ fn print_from_target<N: PrintNode>(
     p: &mut Printer<'_>,
     place: Place,
 )
-    ensures { Lays p.old p.new (mark node.now.span ⊕ (spell (in_assignment_target N.plain node.now.left) (quoted_plainly (is_key_of_exports (in_assignment_target N.plain node.now.left)) (in_brackets Comma))
-        ⊕ (soft_space ⊕ (assignment_item node.now.operator ⊕ (soft_space ⊕ spell (in_expression N.plain node.now.right) (child Comma place)))))) }
+    ensures { Lays p.old p.new (mark node.now.span ⊕ spell (in_assignment_target N.plain node.now.left) (quoted_plainly (is_key_of_exports (in_assignment_target N.plain node.now.left)) (in_brackets Comma))
+        ⊕ soft_space ⊕ assignment_item node.now.operator ⊕ soft_space ⊕ spell (in_expression N.plain node.now.right) (child Comma place)) }
 {
     let target = Place::in_brackets(Precedence::Comma);
     let plain = node.left.get().is_key_of_exports();

@@ -146,7 +146,7 @@ fn is_function(node_type: NodeType) -> bool
 
 // A method or an accessor, whose function follows its key.
 fn print_method_property<N: PrintNode>(node: &ObjectProperty<N>, p: &mut Printer<'_>, place: Place)
-    ensures { Lays p.old p.new (accessor_word node.now.kind ⊕ (method_words (in_expression N.plain node.now.value) ⊕ (key_of node.now.computed (in_property_key N.plain node.now.key) ⊕ spell_method (in_expression N.plain node.now.value) place))) }
+    ensures { Lays p.old p.new (accessor_word node.now.kind ⊕ method_words (in_expression N.plain node.now.value) ⊕ key_of node.now.computed (in_property_key N.plain node.now.key) ⊕ spell_method (in_expression N.plain node.now.value) place) }
 {
     print_accessor_word(node.kind, p);
     node.value.get().print_method_words(p);
@@ -157,7 +157,7 @@ fn print_method_property<N: PrintNode>(node: &ObjectProperty<N>, p: &mut Printer
 // A property with a value: the value alone, or behind its key.
 fn print_valued_property<N: PrintNode>(node: &ObjectProperty<N>, p: &mut Printer<'_>)
     ensures { Lays p.old p.new (before_value node.now.shorthand (written_name_in (in_property_key N.plain node.now.key)) (looked_up_in (without_parentheses (in_expression N.plain node.now.value))) (key_of node.now.computed (in_property_key N.plain node.now.key))
-        ⊕ (before_expression before_it (in_expression N.plain node.now.value) ⊕ spell (in_expression N.plain node.now.value) (in_brackets Comma))) }
+        ⊕ before_expression before_it (in_expression N.plain node.now.value) ⊕ spell (in_expression N.plain node.now.value) (in_brackets Comma)) }
 {
     print_before_value(node, p);
     node.value

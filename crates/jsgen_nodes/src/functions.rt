@@ -342,7 +342,7 @@ pub fn print_function_body<N: PrintNode>(node: &FunctionBody<N>, p: &mut Printer
 
 // Braces in which nothing stands but comments.
 fn print_empty_body(span: Span, p: &mut Printer<'_>)
-    ensures { Lays p.old p.new (mark span ⊕ (brackets Brace (empty_body span.end ⊕ end_mark span) ⊕ drop_semicolon)) }
+    ensures { Lays p.old p.new (mark span ⊕ brackets Brace (empty_body span.end ⊕ end_mark span) ⊕ drop_semicolon) }
 {
     p.print_mark(span);
     p.print_opening(Bracket::Brace);

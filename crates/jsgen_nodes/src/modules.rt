@@ -136,7 +136,7 @@ fn print_declared<N: PrintNode>(node: &N, p: &mut Printer<'_>)
 }
 
 fn print_undeclared<N: PrintNode>(node: &N, p: &mut Printer<'_>)
-    ensures { Lays p.old p.new (default_export_begins ⊕ (spell (N.plain node.now) (in_brackets Comma) ⊕ statement_end)) }
+    ensures { Lays p.old p.new (default_export_begins ⊕ spell (N.plain node.now) (in_brackets Comma) ⊕ statement_end) }
 {
     p.begin_default_export();
     node.print(p, Place::in_brackets(Precedence::Comma));

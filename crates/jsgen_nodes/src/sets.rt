@@ -1,7 +1,7 @@
 // Generated from tools/nodes/table.txt; edit that and run tools/nodes/generate.
 // A set prints as its member does.
 ghost use Rattle.std.specs.Prelude.{◌≡◌, true, nat_le};
-ghost use Rattle.jsgen_tree.specs.Rows.{in_simple_assignment_target, expression_plain, assignment_target_plain, declaration_plain, statement_plain, binding_pattern_plain, class_element_plain};
+ghost use Rattle.jsgen_tree.specs.Rows.{in_member_expression, in_simple_assignment_target, expression_plain, assignment_target_plain, declaration_plain, statement_plain, binding_pattern_plain, class_element_plain};
 ghost use Rattle.jsgen_printer.specs.Steps.{Lays};
 ghost use Rattle.jsgen_model.specs.Spell.{spell};
 ghost use Rattle.jsgen_nodes.specs.Parts.{expression_part, assignment_target_part, declaration_part, statement_part, binding_pattern_part};
@@ -49,7 +49,7 @@ use jsgen_spelled::{
     print_while_statement, print_yield_expression,
 };
 use jsgen_tree::{
-    AssignmentTarget, BindingPattern, ClassElement, Declaration, Expression,
+    AssignmentTarget, BindingPattern, ClassElement, Declaration, Expression, MemberExpression,
     SimpleAssignmentTarget, Statement,
 };
 
@@ -403,6 +403,27 @@ pub fn print_class_element<N: PrintNode>(node: &ClassElement<N>, p: &mut Printer
         ClassElement::PropertyDefinition(node) => print_property_definition::<_, InClass>(
             node, p, place,
         ),
+    }
+}
+
+pub fn print_member_expression<N: PrintNode>(
+    node: &MemberExpression<N>,
+    p: &mut Printer<'_>,
+    place: Place,
+)
+    ensures { Lays p.old p.new (spell (in_member_expression N.plain node.now) place) }
+{
+    match node {
+        MemberExpression::StaticMemberExpression(node) => print_static_member_expression(
+            node, p, place,
+        ),
+        MemberExpression::ComputedMemberExpression(node) => print_computed_member_expression(
+            node, p, place,
+        ),
+        MemberExpression::PrivateFieldExpression(node) => print_private_field_expression::<
+            _,
+            Inside,
+        >(node, p, place),
     }
 }
 

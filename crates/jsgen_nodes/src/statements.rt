@@ -7,7 +7,8 @@ ghost use Rattle.jsgen_printer.specs.Steps.{Lays};
 ghost use Rattle.jsgen_tree.specs.Inside.{ends_open};
 ghost use Rattle.jsgen_place.specs.Place.{within_statement, among_statements};
 ghost use Rattle.jsgen_model.specs.Punctuator.{semicolon};
-ghost use Rattle.jsgen_model.specs.Items.{◌⊕◌, punctuator, soft_space, soft_line, body_space};
+ghost use Rattle.jsgen_model.specs.Items.{◌⊕◌, punctuator, soft_space, soft_line, body_space, parentheses_unless_minified, comments, with_key_annotation, mark, first_string};
+ghost use Rattle.jsgen_syntax.specs.Units.{js_units};
 
 use crate::PrintNode;
 use crate::inside::Inside;
@@ -18,7 +19,7 @@ use jsgen_lists::{
 use jsgen_modules::print_hashbang;
 use jsgen_place::{Place, Shape};
 use jsgen_printer::{Bracket, Printer};
-use jsgen_syntax::Precedence;
+use jsgen_syntax::{JsStr, Precedence, Span};
 use jsgen_tree::{BlockStatement, Directive, Hashbang, IfStatement, Program, StatementNode};
 
 pub fn print_program<N: PrintNode>(node: &Program<N>, p: &mut Printer<'_>, place: Place)
@@ -71,13 +72,24 @@ fn print_first_statement<N: PrintNode>(statement: &N, p: &mut Printer<'_>, place
         Some(value) => {
             let line = statement.span();
             p.print_comments(line.start);
-            p.print_marked_indentation(line);
-            p.print_mark(statement.inside_span());
-            p.print_first_string(value);
+            p.print_marked_indentation(true, line);
+            print_first_string(value, statement.inside_span(), p);
             p.print_statement_end();
         }
         None => statement.print(p, place),
     }
+}
+
+// In parentheses that minified text leaves out.
+fn print_first_string(value: &JsStr, own: Span, p: &mut Printer<'_>)
+    ensures { Lays p.old p.new (parentheses_unless_minified (comments with_key_annotation own.start ⊕ mark own ⊕ first_string (js_units value.now))) }
+{
+    let wrap = !p.is_minified();
+    p.print_opening_if(wrap);
+    p.print_key_comments(own.start);
+    p.print_mark(own);
+    p.print_first_string(value);
+    p.print_closing_if(wrap);
 }
 
 /// Statements, one after another.
@@ -168,7 +180,7 @@ fn print_closed_consequent<N: PrintNode>(consequent: &N, p: &mut Printer<'_>, el
 
 // On the line of the head, behind one space.
 fn print_line_consequent<N: PrintNode>(consequent: &N, p: &mut Printer<'_>, else_follows: bool)
-    ensures { Lays p.old p.new (body_space ⊕ (spell (N.plain consequent.now) among_statements ⊕ body_end else_follows)) }
+    ensures { Lays p.old p.new (body_space ⊕ spell (N.plain consequent.now) among_statements ⊕ body_end else_follows) }
 {
     p.begin_body();
     consequent.print(p, Place::among_statements());
@@ -177,7 +189,7 @@ fn print_line_consequent<N: PrintNode>(consequent: &N, p: &mut Printer<'_>, else
 
 // A consequent in braces of its own.
 fn print_braced<N: PrintNode>(consequent: &N, p: &mut Printer<'_>, else_follows: bool)
-    ensures { Lays p.old p.new (soft_space ⊕ (filled_braces (span_of (N.plain consequent.now)) (spell (N.plain consequent.now) among_statements) ⊕ braces_end else_follows)) }
+    ensures { Lays p.old p.new (soft_space ⊕ filled_braces (span_of (N.plain consequent.now)) (spell (N.plain consequent.now) among_statements) ⊕ braces_end else_follows) }
 {
     p.print_soft_space();
     let depth = open_braces(consequent.span(), p);

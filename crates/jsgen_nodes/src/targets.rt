@@ -181,7 +181,7 @@ fn print_before_target<N: PrintNode>(
     node: &AssignmentTargetPropertyProperty<N>,
     p: &mut Printer<'_>,
 )
-    ensures { Lays p.old p.new (before_target (written_name_in (in_property_key N.plain node.now.name)) (target_named (in_assignment_target_maybe_default N.plain node.now.binding)) (key_of node.now.computed (in_property_key N.plain node.now.name) ⊕ (punctuator colon ⊕ soft_space))) }
+    ensures { Lays p.old p.new (before_target (written_name_in (in_property_key N.plain node.now.name)) (target_named (in_assignment_target_maybe_default N.plain node.now.binding)) (key_of node.now.computed (in_property_key N.plain node.now.name) ⊕ punctuator colon ⊕ soft_space)) }
 {
     if is_key_left_out(node, p) {
         return;

@@ -22,7 +22,7 @@ use Rattle.jsgen_tree.specs.Nodes as tree
 use Rattle.jsgen_model.specs.Punctuator.{Punctuator, comma, dot, arrow, Round, Square, Brace}
 use Rattle.jsgen_model.specs.Tokens.{Tokens, done, piece, group, ◌⧺◌, Private, Word, Number, Quoted, Sign, Beyond}
 use Rattle.jsgen_model.specs.Normal.{nothing_of, named, unnumbered, link_values, call_values, by_text, joined}
-use Rattle.jsgen_model.specs.Grammar.{Allowed, with_in, in_parameters, in_arrow_body, on_same_line, ReadsKey, ReadsMemberKey, ReadsMethodAs, is_power, operation_level, operator_piece, update_sign, assignment_sign, may_stand, simple_target, names_function, has_suffix, starts_in_brace}
+use Rattle.jsgen_model.specs.Grammar.{Allowed, with_in, in_parameters, in_arrow_body, on_same_line, ReadsKey, ReadsMemberKey, ReadsMethodAs, is_power, operation_level, operator_piece, update_sign, assignment_sign, may_operate, simple_target, names_function, has_suffix, starts_in_brace}
 use Rattle.jsgen_model.specs.Grammar as grammar
 use Rattle.jsgen_one_reading.specs.States.{binary, logic, assigning, updating, a_dot, a_link, an_arrow, a_question, a_colon, a_comma, a_semicolon, an_in, an_of, another, before_of, left_of, logical_of, assign_to, test_of, new_of, arrow_of, with_words, of_object, of_class, operand, linked, async_word, settled, newly, chained, parameters_read, arrowed, parameter, function_named, property, property_word, method_key, keyed, one_tree, some_trees, with_rest, rank, Kind, kind, left_rank, kind_rank, Frame, wanted, fill, set_in, settle, Kept, Manner, Owner, State, a_quoted, a_whole, a_head, a_further}
 use Rattle.jsgen_one_reading.specs.ExpressionPieces.{when, by_word, with_field, without_last, operand_piece, pushed_binary, pushed_logical, pushed_test, settled_piece, named_parameter, linked_piece, dotted_piece, chaining_piece, chain_dotted_piece, async_piece}
@@ -83,12 +83,12 @@ assign_step c k t u o m h e = rw (assignment_kind o, e, le-leb (wanted k) 2 h) r
 pub assign_fill : (o : AssignmentOperator) (t u v : Tree) → names_function o t v ≡ names_function o u v → fill (assign_to o t u) v ≡ Some (tree.assignment (bare (assignment_operator o ∷ [])) u v)
 assign_fill o t u v n = rw (same_same (names_function o t v) (names_function o u v) n) refl
 
-pub binary_step : (c : Allowed) (k : List Frame) (l : Tree) (o : BinaryOperator) → is_power o ≡ false → may_stand c o ≡ true → wanted k ≤ rank (operation_level o) → settled_piece c k l (kind c.in_operator (operator_piece o)) ≡ operand c (left_of o l ∷ k)
+pub binary_step : (c : Allowed) (k : List Frame) (l : Tree) (o : BinaryOperator) → is_power o ≡ false → may_operate c o ≡ true → wanted k ≤ rank (operation_level o) → settled_piece c k l (kind c.in_operator (operator_piece o)) ≡ operand c (left_of o l ∷ k)
 binary_step c k l o n s h =
     let r = binary_ranks o n in
     rw (operator_kind c o s, stays (rank (operation_level o)) (left_rank o) c k l h r.4 (omega arith) (omega arith), le-leb (wanted k) (rank (operation_level o)) h) refl
 
-pub binary_bound : (c : Allowed) (o : BinaryOperator) → is_power o ≡ false → may_stand c o ≡ true → kind_rank (kind c.in_operator (operator_piece o)) ≤ rank (operation_level o)
+pub binary_bound : (c : Allowed) (o : BinaryOperator) → is_power o ≡ false → may_operate c o ≡ true → kind_rank (kind c.in_operator (operator_piece o)) ≤ rank (operation_level o)
 binary_bound c o n s = let r = binary_ranks o n in rw (operator_kind c o s, r.1) (omega arith)
 
 pub power_step : (c : Allowed) (k : List Frame) (l : Tree) → wanted k ≤ 15 → pushed_binary operators.Exponential (settle 17 c k l) ≡ operand c (left_of operators.Exponential l ∷ k)

@@ -19,7 +19,7 @@ use Rattle.jsgen_model.specs.Normal.{named, unnumbered, joined}
 use Rattle.jsgen_model.specs.Grammar.{Allowed, Call, with_in, units_of, text_of, is_word, on_same_line, is_reference_alone, starts_function_or_class, may_be_exported, EndsBy, declaring, ReadsImported, ReadsModuleName, ReadsSource, ReadsNamedImports}
 use Rattle.jsgen_model.specs.Grammar as grammar
 use Rattle.jsgen_one_reading.specs.Modules.{import_call_of, import_of, bound_alike, word_text, exported}
-use Rattle.jsgen_one_reading.specs.States.{Frame, State, wrap_of, imported_of, exported_default, a_declaration, operand, linked, async_word, start, ended, failed, binding, exchange, import_start, import_others, before_source, attribute_key, specifiers, specifier_named, specifier_as, before_default, default_async, exports, exported_named, wrong, one_tree, some_trees, a_body, wanted, set_in}
+use Rattle.jsgen_one_reading.specs.States.{Frame, State, wrap_of, imported_of, exported_default, a_declaration, operand, linked, start, ended, failed, binding, exchange, import_start, import_others, before_source, attribute_key, specifiers, specifier_named, specifier_as, before_default, exports, exported_named, wrong, one_tree, some_trees, a_body, wanted, set_in}
 use Rattle.jsgen_one_reading.specs.ExpressionPieces.{word_operand}
 use Rattle.jsgen_one_reading.specs.Steps.{word_start, quoted_piece, module_name, bound_piece, attributes_piece, specifiers_piece, specifier_named_piece, exports_piece, exporting_word, before_default_piece, step}
 use Rattle.jsgen_one_reading.specs.Brackets.{imported_with}
@@ -27,7 +27,7 @@ use Rattle.jsgen_one_reading.specs.Reader.{run}
 use Rattle.jsgen_one_reading.proofs.Steps.{then_done, untrue, run_failed}
 use Rattle.jsgen_one_reading.proofs.Shown.{ExpressionShown}
 use Rattle.jsgen_one_reading.proofs.Claims.{Settles, Claim, both_calls, parted}
-use Rattle.jsgen_one_reading.proofs.StatementSteps.{and_not, and_assoc, starts_the, declares, declares_then, and_false}
+use Rattle.jsgen_one_reading.proofs.StatementSteps.{async_expression, and_assoc, starts_the, declares, declares_then, and_false}
 
 -- ---- `import(..)`
 
@@ -130,20 +130,6 @@ exporting_declares c k Const = refl
 exporting_declares c k Let = refl
 exporting_declares c k Var = refl
 
--- behind `async` what is exported goes on as an expression where no function does
-default_goes_on : (c : Allowed) (k : List Frame) (ts : Tokens) → declares ts ≡ false → run (exchange (default_async c k)) ts ≡ run (async_word c (exported_default ∷ k)) ts
-default_goes_on c k done h = refl
-default_goes_on c k (piece m (Word w) ts) h = ap (λ x. run x ts) (rw (and_not (bytes_eq w (codes "function")) m h) refl)
-default_goes_on c k (piece true (Number w) ts) h = refl
-default_goes_on c k (piece false (Number w) ts) h = refl
-default_goes_on c k (piece true (Quoted q w) ts) h = refl
-default_goes_on c k (piece false (Quoted q w) ts) h = refl
-default_goes_on c k (piece true (Beyond s) ts) h = refl
-default_goes_on c k (piece false (Beyond s) ts) h = refl
-default_goes_on c k (piece true (Sign p) ts) h = refl
-default_goes_on c k (piece false (Sign p) ts) h = refl
-default_goes_on c k (group m b inside ts) h = refl
-
 no_function : (a b x : Bool) → not (a || b || x) ≡ true → (a ≡ false) × (b ≡ false) × (x ≡ false)
 no_function true b x h = untrue h
 no_function false true x h = untrue h
@@ -163,7 +149,7 @@ default_begins c (piece m (Word w) us) t e s k rest d = by (bytes_eq w (codes "a
     by true a =
         let q : w ≡ codes "async" = (bytes_eq-Decides w (codes "async")).0 a in
         let n : declares us ≡ false = ap (λ x. x && declares us) (sym a) ∙ and_assoc (bytes_eq w (codes "async")) (is_word (codes "function") us) (on_same_line us) f.2 in
-        ap (λ x. run (before_default_piece c k (Word x)) (us ⧺ rest)) q ∙ (default_goes_on c k (us ⧺ rest) (declares_then us rest n d) ∙ sym (ap (λ x. run (word_operand c (exported_default ∷ k) x) (us ⧺ rest)) q))
+        ap (λ x. run (before_default_piece c k (Word x)) (us ⧺ rest)) q ∙ (async_expression c (exported_default ∷ k) (us ⧺ rest) (declares_then us rest n d) ∙ sym (ap (λ x. run (word_operand c (exported_default ∷ k) x) (us ⧺ rest)) q))
 default_begins c (piece m (Number w) us) t e s k rest d = refl
 default_begins c (piece m (Quoted q w) us) t e s k rest d = refl
 default_begins c (piece m (Beyond x) us) t e s k rest d = refl

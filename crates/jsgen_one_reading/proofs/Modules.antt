@@ -1,5 +1,5 @@
 -- What the grammar reads as a module, the reader reads, so it is one tree.
-use Rattle.std.proofs.Common.{◌≡◌, List, [], ◌∷◌, Bool, true, false, codes, refl, ap, sym, ◌∙◌, arith}
+use Rattle.std.proofs.Common.{◌≡◌, ℕ, List, [], ◌∷◌, Bool, true, false, Option, Some, None, codes, refl, ap, sym, ◌∙◌, arith}
 use Rattle.std.specs.Prelude.{◌&&◌}
 use Rattle.std.proofs.lemmas.Bool.{both_ways}
 use Rattle.jsgen_tree.specs.Tree.{Tree, Maybe, absent, given, Trees, no_trees, more, no_list, listed}
@@ -7,7 +7,7 @@ use Rattle.jsgen_tree.specs.Nodes as tree
 use Rattle.jsgen_model.specs.Punctuator.{colon, comma, semicolon, Brace}
 use Rattle.jsgen_model.specs.Tokens.{Tokens, done, piece, group, ◌⧺◌, Word, Quoted, Sign}
 use Rattle.jsgen_model.specs.Normal.{nothing_of, named, unnumbered, declared_as, joined}
-use Rattle.jsgen_model.specs.Grammar.{in_module, is_reference_alone, text_of, ReadsAttribute, ReadsAttributes, ReadsSource, ReadsSpecifier, ReadsSpecifiers, ReadsNamedImports, ReadsImportClause, ReadsImport, ReadsExported, ReadsAllExported, ReadsDeclared, ReadsDefault, ReadsExport, ReadsModuleItem, ReadsModuleItems, ReadsModuleBody, ReadsModule}
+use Rattle.jsgen_model.specs.Grammar.{in_module, is_reference_alone, text_of, hashbang_of, ReadsAttribute, ReadsAttributes, ReadsSource, ReadsSpecifier, ReadsSpecifiers, ReadsNamedImports, ReadsImportClause, ReadsImport, ReadsExported, ReadsAllExported, ReadsDeclared, ReadsDefault, ReadsExport, ReadsModuleItem, ReadsModuleItems, ReadsModuleBody, ReadsModule, ReadsProgram}
 use Rattle.jsgen_model.specs.Grammar as grammar
 use Rattle.jsgen_one_reading.specs.Modules.{import_of, default_import, namespace_import, named_import, attribute_of, attributes_of, exported, default_exported, named_export, export_of, export_from, export_all}
 use Rattle.jsgen_one_reading.specs.States.{Frame, in_a_body, list_of, wrap_of, exported_default, as_statement, operand, start, ended, ending, before_directives, exchange, import_start, import_named, import_others, before_from, before_source, behind_source, attributes, attribute_key, attribute_done, specifiers, specifier_done, exporting, before_default, all_exported_as, exports, exported_as, exported_done, names_exported, one_tree, some_trees, some_exports, a_body, directives}
@@ -160,6 +160,15 @@ pub one_reading : (ts : Tokens) (p q : Tree) → ReadsModule ts p → ReadsModul
 one_reading ts p q (grammar.a_module {directives = ds} {body = ss} d) (grammar.a_module {directives = es} {body = us} f) =
     let e = both_parts (sym (module_body_read d refl no_trees) ∙ module_body_read f refl no_trees) in
     ap (λ x. tree.program (nothing_of 4) no_trees absent x ss) e.0 ∙ ap (λ x. tree.program (nothing_of 4) no_trees absent es x) e.1
+
+-- a program with this hashbang in the place of its own
+abbrev behind_line : Tree → Tree → Tree
+behind_line line (tree.program a comments hashbang directives body) = tree.program a comments (given line) directives body
+behind_line line t = t
+
+pub one_program : (hashbang : Option (List ℕ)) (ts : Tokens) (p q : Tree) → ReadsProgram hashbang ts p → ReadsProgram hashbang ts q → p ≡ q
+one_program None ts p q (grammar.without_hashbang r) (grammar.without_hashbang s) = one_reading ts p q r s
+one_program (Some w) ts p q (grammar.behind_hashbang r) (grammar.behind_hashbang s) = ap (behind_line (hashbang_of w)) (one_reading ts _ _ r s)
 
 pub module_read : (ts : Tokens) (ds ss : Trees) → ReadsModule ts (tree.program (nothing_of 4) no_trees absent ds ss) → run (directives false no_trees) ts ≡ a_body ds ss
 module_read ts ds ss (grammar.a_module d) = module_body_read d refl no_trees

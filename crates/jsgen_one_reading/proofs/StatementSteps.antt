@@ -106,14 +106,14 @@ word_begins c w us t k e f g a i =
 abbrev pub declares : Tokens → Bool
 declares ts = is_word (codes "function") ts && on_same_line ts
 
-pub and_not : (a b : Bool) → a && not b ≡ false → not b && a ≡ false
+and_not : (a b : Bool) → a && not b ≡ false → not b && a ≡ false
 and_not true true h = refl
 and_not false true h = refl
 and_not true false h = untrue (sym h)
 and_not false false h = refl
 
--- behind `async` a statement goes on as an expression where that doesn't stand
-pub async_expression : (c : Allowed) (k : List Frame) (ts : Tokens) → declares ts ≡ false → run (async_start c k) ts ≡ run (async_word c (expression_of ∷ k)) ts
+-- behind `async` an expression goes on where that doesn't stand
+pub async_expression : (c : Allowed) (k : List Frame) (ts : Tokens) → declares ts ≡ false → run (async_start c k) ts ≡ run (async_word c k) ts
 async_expression c k done h = refl
 async_expression c k (piece m (Word w) ts) h = ap (λ x. run x ts) (rw (and_not (bytes_eq w (codes "function")) m h) refl)
 async_expression c k (piece true (Number w) ts) h = refl
@@ -184,7 +184,7 @@ begins c (piece m (Word w) us) t e s k rest d = by (bytes_eq w (codes "async")) 
     by true a j i =
         let q : w ≡ codes "async" = (bytes_eq-Decides w (codes "async")).0 a in
         let n : declares us ≡ false = ap (λ x. x && declares us) (sym a) ∙ g in
-        ap (λ x. run (word_start c k x) (us ⧺ rest)) q ∙ (async_expression c k (us ⧺ rest) (declares_then us rest n d) ∙ sym (ap (λ x. run (word_operand c (expression_of ∷ k) x) (us ⧺ rest)) q))
+        ap (λ x. run (word_start c k x) (us ⧺ rest)) q ∙ (async_expression c (expression_of ∷ k) (us ⧺ rest) (declares_then us rest n d) ∙ sym (ap (λ x. run (word_operand c (expression_of ∷ k) x) (us ⧺ rest)) q))
 begins c (piece m (Number w) us) t e s k rest d = refl
 begins c (piece m (Quoted q w) us) t e s k rest d = refl
 begins c (piece m (Beyond x) us) t e s k rest d = refl
@@ -202,7 +202,7 @@ label_start c k w {v} n rest e h = by (bytes_eq w (codes "async")) refl ∙ refe
     by false a = ap (λ x. run x (piece n (Sign colon) rest)) (name_start c k w e h a)
     by true a =
         let q : w ≡ codes "async" = (bytes_eq-Decides w (codes "async")).0 a in
-        ap (λ x. run (word_start c k x) (piece n (Sign colon) rest)) q ∙ (async_expression c k (piece n (Sign colon) rest) refl ∙ sym (ap (λ x. run (word_operand c (expression_of ∷ k) x) (piece n (Sign colon) rest)) q))
+        ap (λ x. run (word_start c k x) (piece n (Sign colon) rest)) q ∙ (async_expression c (expression_of ∷ k) (piece n (Sign colon) rest) refl ∙ sym (ap (λ x. run (word_operand c (expression_of ∷ k) x) (piece n (Sign colon) rest)) q))
 
 -- an expression begins behind `throw`, on its line
 pub thrown_begins : (c : Allowed) (a : Tokens) → on_same_line a ≡ true → (k : List Frame) (rest : Tokens) → run (thrown c k) (a ⧺ rest) ≡ run (operand c (throw_of ∷ k)) (a ⧺ rest)
@@ -597,7 +597,7 @@ function_step c k h = rw h refl
 pub class_step : (c : Allowed) (k : List Frame) → is_list k ≡ true → word_start c k (codes "class") ≡ class_word (as_statement c k)
 class_step c k h = rw h refl
 
-pub async_function_step : (c : Allowed) (k : List Frame) → is_list k ≡ true → async_start_piece c k false (Word (codes "function")) ≡ function_word (as_statement c k) true false
+pub async_function_step : (c : Allowed) (k : List Frame) → is_list k ≡ true → async_start_piece c (expression_of ∷ k) false (Word (codes "function")) ≡ function_word (as_statement c k) true false
 async_function_step c k h = rw h refl
 
 pub last_string : (c : Allowed) (ds : Trees) (us : List ℕ) → c.return_statement ≡ true → finish (string_first c ds us) ≡ a_body (joined ds (more (directive_of us) no_trees)) no_trees

@@ -23,7 +23,7 @@ use Rattle.jsgen_tree.specs.Nodes as tree
 use Rattle.jsgen_model.specs.Punctuator.{Punctuator, star, comma, colon, semicolon, arrow, equal, Bracket, Round, Square, Brace}
 use Rattle.jsgen_model.specs.Tokens.{Tokens, done, piece, group, ◌⧺◌, Middle, Tail, Word, Number, Quoted, Sign, Beyond}
 use Rattle.jsgen_model.specs.Normal.{nothing_of, unnumbered, call_values, joined}
-use Rattle.jsgen_model.specs.Grammar.{is_power, operation_level, next_level, operator_piece, unary_piece, update_sign, assignment_sign, may_stand, simple_target, on_same_line, Allowed}
+use Rattle.jsgen_model.specs.Grammar.{is_power, operation_level, next_level, operator_piece, unary_piece, update_sign, assignment_sign, may_operate, simple_target, on_same_line, Allowed}
 use Rattle.jsgen_one_reading.specs.Modules.{default_exported}
 use Rattle.jsgen_one_reading.specs.States.{imported_of, exported_default, binary, logic, assigning, updating, a_dot, a_link, an_arrow, a_question, a_colon, a_comma, a_semicolon, an_in, an_of, another, unary_of, await_of, before_of, left_of, logical_of, assign_to, test_of, choice_of, new_of, arrow_of, yield_of, value_of, target_of, default_of, elements_of, parts_of, arguments, spread_of, properties_of, property_of, key_alone, expression_of, list_of, then_of, wrap_of, of_right, at, failed, operand, linked, async_word, yielded, settled, chained, closed, start, ended, wrong, one_tree, some_trees, rank, Kind, sign_kind, kind, left_rank, kind_rank, Bottom, Frame, right_rank, wants, gives, wanted, same, fill, restored, settle, State, extends_of, field_of, a_quoted, a_whole, a_head, a_further, private_of}
 use Rattle.jsgen_one_reading.specs.ExpressionPieces.{prefixed, word_operand, operand_piece, pushed_coalesce, pushed_part, settled_piece, linked_piece, chained_piece, async_reference, is_operator, closed_piece, yield_alone}
@@ -78,7 +78,7 @@ rest_rank i (group m Brace inside ts) = 17
 rest_rank i (group m b inside ts) = 19
 
 -- an operator that may stand is one by its token
-pub operator_kind : (c : Allowed) (o : BinaryOperator) → may_stand c o ≡ true → kind c.in_operator (operator_piece o) ≡ binary o
+pub operator_kind : (c : Allowed) (o : BinaryOperator) → may_operate c o ≡ true → kind c.in_operator (operator_piece o) ≡ binary o
 operator_kind c operators.BitwiseOR h = refl
 operator_kind c operators.BitwiseXOR h = refl
 operator_kind c operators.BitwiseAnd h = refl

@@ -10,7 +10,7 @@ use Rattle.jsgen_model.specs.Tokens.{Piece, Tokens, done, piece, group, Word, Si
 use Rattle.jsgen_model.specs.Normal.{nothing_of, named, link_values, call_values, property_values, joined}
 use Rattle.jsgen_model.specs.Grammar.{Allowed, with_in, without_in, in_parameters, in_body, in_arrow_body, arrow_values, is_plain_method, function_of, method_of, in_member, class_of, member_values}
 use Rattle.jsgen_one_reading.specs.Modules.{import_call_of, attributes_of}
-use Rattle.jsgen_one_reading.specs.States.{Exchange, import_start, import_others, source_with, attributes, specifiers, exporting, before_default, default_async, exports, names_exported, imported_of, exported_default, importing, exchange, some_exports, wanted, manner_kind, Place, Holds, Frame, Manner, Owner, State, Answer, in_braces, in_a_body, a_parameter, sole_parameter, an_element, a_catch, in_array, names, targets, new_of, arrow_of, yield_of, target_of, elements_of, arguments, key_alone, expression_of, throw_of, return_of, list_of, then_of, wrap_of, first_part, test_part, last_part, with_words, getting, setting, of_object, failed, operand, linked, async_word, yielded, newly, supered, chaining, chained, before_parameters, parameters_read, arrowed, closed, parameter, binding, bound, before_pattern, pattern_behind, target, pattern_elements, pattern_properties, pattern_key, start, async_start, ended, ending, tested, thrown, while_head, for_head, switch_head, switch_body, do_tested, returning, head, async_first, second_part, third_part, before_case, trying, tried, catching, caught, handled, finalizing, before_directives, string_first, function_word, function_named, function_headed, property, property_word, method_key, keyed, method_headed, property_done, one_tree, some_trees, with_rest, a_body, a_loop, settle, of_class, settled, class_word, class_headed, static_word}
+use Rattle.jsgen_one_reading.specs.States.{Exchange, import_start, import_others, source_with, attributes, specifiers, exporting, before_default, exports, names_exported, imported_of, exported_default, importing, exchange, some_exports, wanted, manner_kind, Place, Holds, Frame, Manner, Owner, State, Answer, in_braces, in_a_body, a_parameter, sole_parameter, an_element, a_catch, in_array, names, targets, new_of, arrow_of, yield_of, target_of, elements_of, arguments, key_alone, expression_of, throw_of, return_of, list_of, then_of, wrap_of, first_part, test_part, last_part, with_words, getting, setting, of_object, failed, operand, linked, async_word, yielded, newly, supered, chaining, chained, before_parameters, parameters_read, arrowed, closed, parameter, binding, bound, before_pattern, pattern_behind, target, pattern_elements, pattern_properties, pattern_key, start, async_start, ended, ending, tested, thrown, while_head, for_head, switch_head, switch_body, do_tested, returning, head, async_first, second_part, third_part, before_case, trying, tried, catching, caught, handled, finalizing, before_directives, string_first, function_word, function_named, function_headed, property, property_word, method_key, keyed, method_headed, property_done, one_tree, some_trees, with_rest, a_body, a_loop, settle, of_class, settled, class_word, class_headed, static_word}
 use Rattle.jsgen_one_reading.specs.ExpressionPieces.{when, by_word, async_reference}
 use Rattle.jsgen_one_reading.specs.Steps.{others_imported, listed_in, try_of, string_of, behind_directives, kept, kept_kind, by_manner, nameless, by_static, kept_class, kept_allowed, extended}
 
@@ -103,7 +103,6 @@ abbrev pub faced_exchange : Exchange → Bool → Bracket → Behind → State
 faced_exchange (import_start c k) mark Brace a = exchange (import_others c k no_trees)
 faced_exchange (import_start c k) mark b a = importing c (expression_of ∷ k)
 faced_exchange (before_default c k) mark b a = faced_operand c (exported_default ∷ k) b a
-faced_exchange (default_async c k) mark b a = faced_async c (exported_default ∷ k) mark b a
 faced_exchange x mark b a = exchange x
 
 -- the state that faces a bracket, by what stands behind the whole
@@ -127,7 +126,7 @@ faced (handled c k body h) mark b a = faced_start (listed_in c k (try_of body (g
 faced (property_word c o w) mark b a = faced_word c o w mark b
 faced (thrown c k) mark b a = if mark then failed else faced_operand c (throw_of ∷ k) b a
 faced (start c k) mark b a = faced_start (start c k) b a
-faced (async_start c k) mark b a = faced_async c (expression_of ∷ k) mark b a
+faced (async_start c k) mark b a = faced_async c k mark b a
 faced (ended c k s) mark b a = faced_start (listed_in c k s) b a
 faced (linked c k t) mark Brace a = extended (settle 17 c k t)
 faced (settled c k t) mark Brace a = extended (settle 17 c k t)

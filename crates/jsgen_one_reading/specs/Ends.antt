@@ -148,7 +148,7 @@ abbrev pub finish : State → Answer
 finish (settled c k t) = at_end (settle 1 c k t)
 finish (linked c k t) = at_end (settle 1 c k t)
 finish (async_word c k) = at_end (settle 1 c k async_reference)
-finish (async_start c k) = at_end (settle 1 c (expression_of ∷ k) async_reference)
+finish (async_start c k) = at_end (settle 1 c k async_reference)
 finish (yielded c k) = at_end (settle 1 c k yield_alone)
 finish (chained c k t) = at_end (settle 1 c k (tree.chain (nothing_of 0) t))
 finish (closed c k t) = at_end (settle 1 c k t)

@@ -1,5 +1,5 @@
 -- What is true of the reader, and of the grammar.
-use Rattle.std.specs.Prelude.{◌≡◌, false}
+use Rattle.std.specs.Prelude.{◌≡◌, ℕ, List, Option, false}
 use Rattle.std.specs.Str.{chars}
 use Rattle.jsgen_tree.specs.declared.types.NodeType.TheVariants as types
 use Rattle.jsgen_tree.specs.Tree.{Tree, Trees, absent, no_trees, type_of}
@@ -10,7 +10,7 @@ use Rattle.jsgen_model.specs.Normal.{nothing_of}
 use Rattle.jsgen_model.specs.Spell.{printed, text_bytes}
 use Rattle.jsgen_model.specs.Valid.{IsValid}
 use Rattle.jsgen_model.specs.Plain.{IsPlain, IsQuiet}
-use Rattle.jsgen_model.specs.Grammar.{ReadsModule}
+use Rattle.jsgen_model.specs.Grammar.{ReadsModule, ReadsProgram}
 use Rattle.jsgen_model.specs.Reading.{IsReadOnlyAs}
 use Rattle.jsgen_one_reading.specs.States.{directives, a_body}
 use Rattle.jsgen_one_reading.specs.Reader.{run}
@@ -22,6 +22,10 @@ ModuleIsRead = (ts : Tokens) (ds ss : Trees) → ReadsModule ts (tree.program (n
 -- the grammar reads tokens as one program
 abbrev pub OneReading : Type 0
 OneReading = (ts : Tokens) (p q : Tree) → ReadsModule ts p → ReadsModule ts q → p ≡ q
+
+-- and so it does behind a hashbang
+abbrev pub OneProgram : Type 0
+OneProgram = (hashbang : Option (List ℕ)) (ts : Tokens) (p q : Tree) → ReadsProgram hashbang ts p → ReadsProgram hashbang ts q → p ≡ q
 
 -- the text of a valid, plain and quiet job is read as no program but those with the normal form of the job's, renamed by its tables
 abbrev pub OneMeaning : Type 0

@@ -451,8 +451,6 @@ pub data Exchange : Type 0 where
   exporting_async : Allowed → List Frame → Exchange
   -- behind `export default`
   before_default : Allowed → List Frame → Exchange
-  -- behind `async` there
-  default_async : Allowed → List Frame → Exchange
   -- behind a star
   all_exported : Allowed → List Frame → Exchange
   -- behind `as` there
@@ -541,7 +539,7 @@ pub data State : Type 0 where
   rest_name : Allowed → Trees → State
   -- before a statement
   start : Allowed → List Frame → State
-  -- behind `async` there, which begins a declaration or an expression
+  -- behind `async` there, or behind `export default`, which begins a declaration or an expression; what waits begins with the expression's frame
   async_start : Allowed → List Frame → State
   -- behind a statement, which `else` may follow
   ended : Allowed → List Frame → Tree → State

@@ -20,7 +20,7 @@ use Rattle.jsgen_model.specs.Tokens.{Special, Piece, Private, Word, Number, Quot
 use Rattle.jsgen_model.specs.Normal.{nothing_of, named, unnumbered, by_text, declared_as, property_values, joined}
 use Rattle.jsgen_model.specs.Grammar.{Allowed, with_in, in_arrow_body, has_suffix, computed_values, in_member, private_name}
 use Rattle.jsgen_one_reading.specs.Modules.{import_of, default_import, namespace_import, named_import, bound_alike, word_text, attribute_of, exported, default_exported, named_export, export_of, export_from, export_all}
-use Rattle.jsgen_one_reading.specs.States.{Exchange, import_start, import_named, import_others, import_star, import_space, before_from, before_source, behind_source, source_with, attributes, attribute_key, attribute_colon, attribute_done, specifiers, specifier_named, specifier_as, specifier_done, exporting, exporting_async, before_default, default_async, all_exported, all_exported_as, exports, exported_named, exported_as, exported_done, names_exported, exported_default, importing, import_dotted, exchange, kind, Kind, Binder, Holds, Frame, Settled, Kept, Manner, Owner, State, assigning, a_colon, a_comma, a_semicolon, an_in, an_of, in_a_body, in_case, a_parameter, rest_parameter, sole_parameter, an_element, rest_element, a_value, rest_property, a_declaration, in_array, rest_of_array, in_object, rest_of_object, names, targets, arrow_of, value_of, target_of, default_of, spread_of, properties_of, property_of, expression_of, throw_of, return_of, list_of, then_of, wrap_of, do_of, first_part, test_part, last_part, case_test, stuck, at, as_operand, as_statement, with_words, getting, setting, of_object, failed, operand, linked, async_word, yielded, settled, dotted, newly, targeting, supered, chaining, chained, chain_dotted, before_parameters, parameters_read, arrowed, closed, parameter, binding, bound, before_pattern, pattern_behind, target, pattern_elements, pattern_properties, pattern_word, pattern_key, rest_name, start, async_start, ended, ending, tested, thrown, while_head, for_head, switch_head, switch_body, do_behind, do_tested, jumping, returning, head, async_first, second_part, third_part, before_case, default_case, trying, tried, catching, caught, handled, finalizing, before_directives, string_first, function_word, function_named, function_headed, property, property_word, method_key, keyed, method_headed, property_done, extends_of, field_of, of_class, class_word, class_headed, static_word, takes_private, super_dotted, private_first}
+use Rattle.jsgen_one_reading.specs.States.{Exchange, import_start, import_named, import_others, import_star, import_space, before_from, before_source, behind_source, source_with, attributes, attribute_key, attribute_colon, attribute_done, specifiers, specifier_named, specifier_as, specifier_done, exporting, exporting_async, before_default, all_exported, all_exported_as, exports, exported_named, exported_as, exported_done, names_exported, exported_default, importing, import_dotted, exchange, kind, Kind, Binder, Holds, Frame, Settled, Kept, Manner, Owner, State, assigning, a_colon, a_comma, a_semicolon, an_in, an_of, in_a_body, in_case, a_parameter, rest_parameter, sole_parameter, an_element, rest_element, a_value, rest_property, a_declaration, in_array, rest_of_array, in_object, rest_of_object, names, targets, arrow_of, value_of, target_of, default_of, spread_of, properties_of, property_of, expression_of, throw_of, return_of, list_of, then_of, wrap_of, do_of, first_part, test_part, last_part, case_test, stuck, at, as_operand, as_statement, with_words, getting, setting, of_object, failed, operand, linked, async_word, yielded, settled, dotted, newly, targeting, supered, chaining, chained, chain_dotted, before_parameters, parameters_read, arrowed, closed, parameter, binding, bound, before_pattern, pattern_behind, target, pattern_elements, pattern_properties, pattern_word, pattern_key, rest_name, start, async_start, ended, ending, tested, thrown, while_head, for_head, switch_head, switch_body, do_behind, do_tested, jumping, returning, head, async_first, second_part, third_part, before_case, default_case, trying, tried, catching, caught, handled, finalizing, before_directives, string_first, function_word, function_named, function_headed, property, property_word, method_key, keyed, method_headed, property_done, extends_of, field_of, of_class, class_word, class_headed, static_word, takes_private, super_dotted, private_first}
 use Rattle.jsgen_one_reading.specs.ExpressionPieces.{when, by_word, word_operand, sign_operand, without_last, operand_piece, declarator_of, with_field, with_bound, next_bound, with_target, next_target, variables_bound, settled_piece, assigned, looping, looped, linked_piece, dotted_piece, newly_piece, targeting_piece, supered_piece, importing_piece, import_dotted_piece, super_dotted_piece, private_kind, chaining_piece, chained_piece, chain_dotted_piece, arrow_piece, async_reference, async_piece, closed_piece, yielded_piece, binding_of}
 
 -- ---- bindings and patterns
@@ -178,7 +178,7 @@ word_start c k w =
     else (if bytes_eq w (codes "throw") then thrown c k
     else (if bytes_eq w (codes "function") then when (is_list k) (function_word (as_statement c k) false false)
     else (if bytes_eq w (codes "class") then when (is_list k) (class_word (as_statement c k))
-    else (if bytes_eq w (codes "async") then async_start c k
+    else (if bytes_eq w (codes "async") then async_start c (expression_of ∷ k)
     else (if bytes_eq w (codes "var") then binding c (a_declaration Var no_trees) k
     else (if bytes_eq w (codes "let") then when (is_list k) (binding c (a_declaration Let no_trees) k)
     else (if bytes_eq w (codes "const") then when (is_list k) (binding c (a_declaration Const no_trees) k)
@@ -210,9 +210,15 @@ abbrev pub is_the : List ℕ → Piece → Bool
 is_the v (Word w) = bytes_eq w v
 is_the v p = false
 
--- `async` where a statement begins: with `function` on its line it declares one
+-- the function that `async` declares, by the frame that an expression there has: as a statement it stands in a list
+abbrev pub async_declared : Allowed → List Frame → State
+async_declared c (expression_of ∷ k) = when (is_list k) (function_word (as_statement c k) true false)
+async_declared c (exported_default ∷ k) = function_word (as_statement c (exported_default ∷ k)) true false
+async_declared c k = failed
+
+-- `async` where a statement begins, or behind `export default`: with `function` on its line it declares one
 abbrev pub async_start_piece : Allowed → List Frame → Bool → Piece → State
-async_start_piece c k mark p = if not mark && is_the (codes "function") p then when (is_list k) (function_word (as_statement c k) true false) else async_piece c (expression_of ∷ k) mark p
+async_start_piece c k mark p = if not mark && is_the (codes "function") p then async_declared c k else async_piece c k mark p
 
 abbrev pub started : State → Piece → State
 started (start c k) p = start_piece c k p
@@ -562,12 +568,9 @@ abbrev pub before_default_piece : Allowed → List Frame → Piece → State
 before_default_piece c k (Word w) =
     if bytes_eq w (codes "function") then function_word (as_statement c (exported_default ∷ k)) false false
     else (if bytes_eq w (codes "class") then class_word (as_statement c (exported_default ∷ k))
-    else (if bytes_eq w (codes "async") then exchange (default_async c k)
+    else (if bytes_eq w (codes "async") then async_start c (exported_default ∷ k)
     else word_operand c (exported_default ∷ k) w))
 before_default_piece c k p = operand_piece c (exported_default ∷ k) p
-
-abbrev pub default_async_piece : Allowed → List Frame → Bool → Piece → State
-default_async_piece c k mark p = if not mark && is_the (codes "function") p then function_word (as_statement c (exported_default ∷ k)) true false else async_piece c (exported_default ∷ k) mark p
 
 abbrev pub all_exported_piece : Allowed → List Frame → Piece → State
 all_exported_piece c k p = if is_the (codes "as") p then exchange (all_exported_as c k) else then_word (codes "from") p (exchange (before_source c k (export_all absent)))
@@ -609,7 +612,6 @@ exchange_piece (specifier_done ts) mark p = then_kind a_comma (kind true p) (exc
 exchange_piece (exporting c k) mark p = exporting_piece c k p
 exchange_piece (exporting_async c k) mark p = exporting_async_piece c k mark p
 exchange_piece (before_default c k) mark p = before_default_piece c k p
-exchange_piece (default_async c k) mark p = default_async_piece c k mark p
 exchange_piece (all_exported c k) mark p = all_exported_piece c k p
 exchange_piece (all_exported_as c k) mark p = module_name p (λ l. exchange (before_from c k (export_all (given l))))
 exchange_piece (exports r ts) mark p = exports_piece r ts p

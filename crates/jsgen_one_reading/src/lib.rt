@@ -1,7 +1,7 @@
 //! A reader of tokens, one after the other, and what follows from it: the grammar reads tokens as one program. Nothing here runs.
 #![tactic(auto)]
 
-ghost use Rattle.jsgen_one_reading.specs.Law.{BytesHaveOneMeaning, ModuleIsRead, OneMeaning, OneReading};
+ghost use Rattle.jsgen_one_reading.specs.Law.{BytesHaveOneMeaning, ModuleIsRead, OneMeaning, OneProgram, OneReading};
 
 /// What the grammar reads as a module, the reader answers.
 pub fn module_is_read()
@@ -11,6 +11,11 @@ pub fn module_is_read()
 /// The grammar reads tokens as one program.
 pub fn one_reading()
     ensures { OneReading }
+{}
+
+/// And so it does behind a hashbang.
+pub fn one_program()
+    ensures { OneProgram }
 {}
 
 /// A printed text has one meaning.

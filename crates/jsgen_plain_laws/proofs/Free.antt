@@ -1,4 +1,4 @@
--- Trees without private names, regular expressions and templates; a template of one piece without a tag is a string.
+-- Trees without private names, hashbangs, regular expressions and templates; a template of one piece without a tag is a string.
 use Rattle.std.proofs.Common.{◌≡◌, Bool, true, false, ◌&&◌, refl}
 use Rattle.std.proofs.lemmas.Bool.{both_ways, and_from, and_parts}
 use Rattle.jsgen_tree.specs.Tree.{Tree, node, Slots, no_slots, one, maybe, many, maybe_many, Maybe, absent, given, Trees, no_trees, more, hole, MaybeTrees, no_list, listed}
@@ -15,6 +15,7 @@ FreeTemplate qs es = ⊥
 abbrev mutual
   pub Free : Tree → Type 0
   Free (tree.private_identifier a) = ⊥
+  Free (tree.hashbang a) = ⊥
   Free (tree.reg_exp_literal a) = ⊥
   Free (tree.tagged_template a tag quasi) = ⊥
   Free (tree.template_literal a quasis expressions) = FreeTemplate quasis expressions
@@ -50,6 +51,7 @@ free_template qs es = false
 abbrev mutual
   pub free : Tree → Bool
   free (tree.private_identifier a) = false
+  free (tree.hashbang a) = false
   free (tree.reg_exp_literal a) = false
   free (tree.tagged_template a tag quasi) = false
   free (tree.template_literal a quasis expressions) = free_template quasis expressions
@@ -90,6 +92,7 @@ said_template (hole qs) es h = both_ways false refl h
 mutual
   pub said : (t : Tree) → free t ≡ true → Free t
   said (tree.private_identifier a) h = both_ways false refl h
+  said (tree.hashbang a) h = both_ways false refl h
   said (tree.reg_exp_literal a) h = both_ways false refl h
   said (tree.tagged_template a tag quasi) h = both_ways false refl h
   said (tree.template_literal a quasis expressions) h = said_template quasis expressions h
@@ -121,6 +124,7 @@ mutual
 mutual
   pub plain_free : (t : Tree) → Everywhere is_plain_row t → free t ≡ true
   plain_free (tree.private_identifier a) h = absurd (both_ways false refl h.0)
+  plain_free (tree.hashbang a) h = absurd (both_ways false refl h.0)
   plain_free (tree.reg_exp_literal a) h = absurd (both_ways false refl h.0)
   plain_free (tree.tagged_template a tag quasi) h = absurd (both_ways false refl h.0)
   plain_free (tree.template_literal a quasis expressions) h = absurd (both_ways false refl h.0)

@@ -97,6 +97,7 @@ mutual
   kept (tree.if_statement a test consequent alternate) = let e = kept test in let f = unbraced_free (normal consequent) ∙ kept consequent in let g = kept_maybe alternate in λ i. e i && (f i && (g i && true))
   kept (tree.sequence a expressions) = let e = flattened_free (normal_trees expressions) ∙ kept_trees expressions in λ i. e i && true
   kept (tree.private_identifier a) = refl
+  kept (tree.hashbang a) = refl
   kept (tree.reg_exp_literal a) = refl
   kept (tree.tagged_template a tag quasi) = refl
   kept (tree.template_literal a quasis expressions) = untagged_free quasis expressions
@@ -179,7 +180,6 @@ mutual
   kept (tree.static_block a body) = kept_slots (many body no_slots)
   kept (tree.method_definition a key value) = kept_slots (one key (one value no_slots))
   kept (tree.property_definition a key value) = kept_slots (one key (maybe value no_slots))
-  kept (tree.hashbang a) = kept_slots no_slots
   kept (tree.import_declaration a specifiers source with_clause_child) = kept_slots (maybe_many specifiers (one source (maybe with_clause_child no_slots)))
   kept (tree.import_default_specifier a local) = kept_slots (one local no_slots)
   kept (tree.import_namespace_specifier a local) = kept_slots (one local no_slots)

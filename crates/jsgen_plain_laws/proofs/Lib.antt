@@ -4,3 +4,4 @@ pub mod Named
 pub mod Pieces
 pub mod Productions
 pub mod Plainness
+pub mod Unresolved

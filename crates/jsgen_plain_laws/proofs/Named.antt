@@ -1,4 +1,4 @@
--- Other names keep whether a tree has private names, regular expressions and templates.
+-- Other names keep whether a tree has private names, hashbangs, regular expressions and templates.
 use Rattle.std.proofs.Common.{◌≡◌, ◌&&◌, true, refl, sym, ◌∙◌}
 use Rattle.jsgen_tree.specs.Tree.{Tree, node, Slots, no_slots, one, maybe, many, maybe_many, Maybe, absent, given, Trees, no_trees, more, hole, MaybeTrees, no_list, listed}
 use Rattle.jsgen_tree.specs.Job.{Tables}
@@ -21,6 +21,7 @@ mutual
   named_free names (tree.identifier_reference a) = refl
   named_free names (tree.binding_identifier a) = refl
   named_free names (tree.private_identifier a) = refl
+  named_free names (tree.hashbang a) = refl
   named_free names (tree.reg_exp_literal a) = refl
   named_free names (tree.tagged_template a tag quasi) = refl
   named_free names (tree.template_literal a quasis expressions) = named_template names quasis expressions

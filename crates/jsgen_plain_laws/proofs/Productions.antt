@@ -1,5 +1,5 @@
 -- Generated from crates/jsgen_model/specs/Grammar.antt; edit tools/laws and run tools/laws/plainness.
--- What is read as a tree without private names, regular expressions and templates has plain tokens, production by production.
+-- What is read as a tree without private names, hashbangs, regular expressions and templates has plain tokens, production by production.
 use Rattle.std.proofs.Common.{◌≡◌, ℕ, Bool, true, false, codes, List, refl, sym, subst}
 use Rattle.std.proofs.lemmas.Bool.{and_from}
 use Rattle.jsgen_tree.specs.declared.classes.ClassKind.{ClassKind}

@@ -1,11 +1,11 @@
 -- What a step adds stands behind the code before.
-use Rattle.std.proofs.Common.{ℕ, Bool, true, false, ◌&&◌, ◌||◌, List, if◌then◌else◌}
+use Rattle.std.proofs.Common.{ℕ, Bool, true, false, ◌&&◌, ◌||◌, List, if◌then◌else◌, not}
 use Rattle.jsgen_model.specs.Punctuator.{Round, opening, closing, punctuator_text}
 use Rattle.jsgen_model.specs.Items.{Items, ◌⊕◌, name, marked_word, marked_operator, marked_number, marked_indentation, template_part, indentation, deeper, brackets, wrapped, wrapped_at_start, parentheses_unless_minified, where_same, statement_end, in_class, unless_minified, comments, orphans, orphan_lines, empty_body, held, lined_case, caught, all_of_them, annotation, annotation_line, annotated, commented, member_line, member_space, in_lines, line_break}
 use Rattle.jsgen_model.specs.Comments.{are_any}
 use Rattle.jsgen_model.specs.Groups.{last_byte, ending_at, without_ending, has_orphans, case_begun, comments_at, group_at, are_lined, lines_opened}
 use Rattle.jsgen_model.specs.Lay.{lay, part_opening, case_mark, annotated_from, commented_from}
-use Rattle.jsgen_model.specs.Layout.{Pen, written, written_if, text_if, other_end, end_statement, deeper_level, entered, are_same, is_barred, not}
+use Rattle.jsgen_model.specs.Layout.{Pen, written, written_if, text_if, other_end, end_statement, deeper_level, entered, are_printed_alike, is_barred}
 use Rattle.jsgen_model.specs.Printing.{IsPrefix}
 use Rattle.jsgen_printer.proofs.Comments.{indentation_adds, comments_add, orphans_add, orphan_lines_add, empty_body_adds, ending_adds, closing_adds, case_adds, case_end_adds, block_adds, annotation_adds, annotation_line_adds, annotated_adds, commented_adds, member_line_adds, member_space_adds, opened_adds, closed_adds, break_adds}
 use Rattle.jsgen_printer.proofs.Prefixes.{whole_prefix, prefix_append, more_prefix, prefix_of_prefix}
@@ -30,12 +30,12 @@ layout_appends (wrapped test a) pen = wrapped_appends test a pen (λ at. layout_
 layout_appends (wrapped_at_start test opener a) pen = wrapped_appends (test || is_barred opener pen.start) a pen (λ at. layout_appends a at)
 layout_appends (parentheses_unless_minified a) pen = wrapped_appends (not pen.style.minified) a pen (λ at. layout_appends a at)
 layout_appends (unless_minified a) pen = either_appends pen.style.minified pen.code pen (lay a pen) (whole_prefix pen.code) (layout_appends a pen)
-layout_appends (where_same m n a b) pen = either_appends (are_same pen.style.tables m n) pen.code (lay a pen) (lay b pen) (layout_appends a pen) (layout_appends b pen)
+layout_appends (where_same m n a b) pen = either_appends (are_printed_alike pen.style.tables m n) pen.code (lay a pen) (lay b pen) (layout_appends a pen) (layout_appends b pen)
 layout_appends (name span n) pen = more_prefix _ (prefix_append pen.code _)
 layout_appends (marked_word span w) pen = more_prefix w (prefix_append pen.code _)
 layout_appends (marked_operator span p) pen = more_prefix (punctuator_text p) (prefix_append pen.code _)
 layout_appends (marked_number span dot_is_its_own w) pen = more_prefix w (prefix_append pen.code _)
-layout_appends (marked_indentation span) pen = (indentation_adds pen.style.minified pen).text
+layout_appends (marked_indentation always span) pen = (indentation_adds pen.style.minified pen).text
 layout_appends (template_part part tagged span raw) pen = more_prefix _ (prefix_append pen.code (part_opening part))
 layout_appends indentation pen = (indentation_adds pen.style.minified pen).text
 layout_appends statement_end pen = end_appends pen.style.minified pen

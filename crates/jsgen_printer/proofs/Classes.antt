@@ -1,5 +1,5 @@
 -- Classes by their numbers, and private names by their tables.
-use Rattle.std.proofs.Common.{◌≡◌, ℕ, Bool, true, false, ◌&&◌, ◌||◌, List, [], ◌∷◌, ◌++◌, length, map, take, reverse, Some, option_map, cond, if◌then◌else◌, String, string_bytes, bytes_eq, codes, refl, sym, ap, ◌∙◌, append_assoc}
+use Rattle.std.proofs.Common.{◌≡◌, ℕ, Bool, true, false, ◌&&◌, ◌||◌, List, [], ◌∷◌, ◌++◌, length, map, take, reverse, Some, option_map, cond, if◌then◌else◌, String, string_bytes, bytes_eq, codes, refl, sym, ap, ◌∙◌, append_assoc, not}
 use Rattle.std.specs.declared.alloc.Global.{Global}
 use Rattle.std.specs.BTreeMap.{is_at}
 use Rattle.std.specs.Cmp.Lexicographic.{slice_cmp}
@@ -18,7 +18,7 @@ use Rattle.jsgen_model.specs.Punctuator.{Round, opening}
 use Rattle.jsgen_model.specs.Comments.{are_any}
 use Rattle.jsgen_model.specs.Groups.{last_byte, ending_at, without_ending, has_orphans, case_begun, comments_at, group_at, are_lined, lines_opened}
 use Rattle.jsgen_model.specs.Lay.{lay, case_mark, annotated_from, commented_from}
-use Rattle.jsgen_model.specs.Layout.{Pen, nowhere, written, written_if, other_end, name_ending, with_private_name, entered, end_statement, deeper_level, are_same, is_barred, not}
+use Rattle.jsgen_model.specs.Layout.{Pen, nowhere, written, written_if, other_end, name_ending, with_private_name, entered, end_statement, deeper_level, are_printed_alike, is_barred}
 use Rattle.jsgen_model.specs.Private.{name_in, has_table}
 use Rattle.jsgen_printer.specs.Printer.{pen_of, name_written, within_outer}
 use Rattle.jsgen_printer.specs.Steps.{Goes, Lays}
@@ -63,10 +63,10 @@ keeps_classes (brackets b a) pen = keeps_classes a (written (opening b) other_en
 keeps_classes (wrapped test a) pen = keeps_classes a (written_if test (opening Round) pen)
 keeps_classes (wrapped_at_start test opener a) pen = keeps_classes a (written_if (test || is_barred opener pen.start) (opening Round) pen)
 keeps_classes (parentheses_unless_minified a) pen = keeps_classes a (written_if (not pen.style.minified) (opening Round) pen)
-keeps_classes (where_same m n a b) pen = either_keeps (are_same pen.style.tables m n) pen.classes (lay a pen) (lay b pen) (keeps_classes a pen) (keeps_classes b pen)
+keeps_classes (where_same m n a b) pen = either_keeps (are_printed_alike pen.style.tables m n) pen.classes (lay a pen) (lay b pen) (keeps_classes a pen) (keeps_classes b pen)
 keeps_classes (unless_minified a) pen = either_keeps pen.style.minified pen.classes pen (lay a pen) refl (keeps_classes a pen)
 keeps_classes indentation pen = (indentation_adds pen.style.minified pen).classes
-keeps_classes (marked_indentation span) pen = (indentation_adds pen.style.minified pen).classes
+keeps_classes (marked_indentation always span) pen = (indentation_adds pen.style.minified pen).classes
 keeps_classes statement_end pen = end_keeps pen.style.minified pen
 keeps_classes (comments manner o) pen = (comments_add manner o pen).classes
 keeps_classes (orphans o) pen = (orphans_add o pen).classes

@@ -1,16 +1,16 @@
 -- Comments: what their steps add stands behind the code before, and the classes round here stay as they are.
-use Rattle.std.proofs.Common.{◌≡◌, ℕ, Bool, true, false, ◌||◌, ◌&&◌, ◌==◌, if◌then◌else◌, List, [], ◌∷◌, Option, Some, None, drop, codes, refl, ◌∙◌}
+use Rattle.std.proofs.Common.{◌≡◌, ℕ, Bool, true, false, ◌||◌, ◌&&◌, ◌==◌, if◌then◌else◌, List, [], ◌∷◌, Option, Some, None, drop, codes, refl, ◌∙◌, not}
 use Rattle.std.specs.List.{list_all}
 use Rattle.std.specs.Str.{skip_leading_whitespace}
 use Rattle.jsgen_syntax.specs.Raw.{tag_free}
 use Rattle.jsgen_tree.specs.declared.statements.CommentKind.{CommentKind}
 use Rattle.jsgen_tree.specs.declared.statements.CommentKind.TheVariants as kinds
 use Rattle.jsgen_model.specs.Comments.{Comment, are_any, orphans_below, left_below}
-use Rattle.jsgen_model.specs.Groups.{line_ended, indented_here, softly_spaced, used_up_if, indented_if, opens_block, block_line, block_lines, lines_of, is_mid_line, html_close, text_written, comment_written, last_of, on_new_line, at_line_start, before_first, before_later, is_legal, behind_last, is_line, ends_line, behind, group, with_store, group_at, without_group, ends_in, before_group, behind_group, printed_if, is_printed, comments_at, orphans_before, has_orphans, one_deeper, at_level, soft_line_ended, orphan_lines_at, last_byte, ending_at, without_ending, closing_group, has_no_newlines, body_lines, body_of, empty_body_at, led_on_line, case_begun, case_ended, used_up, annotation_text, fitting_at, without_annotation, annotation_by, annotation_written, annotation_at, annotation_line_at, commented_if, member_line_at, member_space_at, each_on_line, broken_by, broken_at, on_a_line, unless_on_line, break_at, with_lines, lines_opened, indents, lines_closed}
+use Rattle.jsgen_model.specs.Groups.{line_ended, indented_here, softly_spaced, used_up_if, indented_if, opens_block, block_line, block_lines, lines_of, is_mid_line, html_close, text_written, comment_written, last_of, on_new_line, at_line_start, before_first, before_later, is_legal, behind_last, is_line, ends_its_line, behind_comment, group, with_store, group_at, without_group, code_ends_in, before_group, behind_group, printed_if, is_printed, comments_at, orphans_before, has_orphans, one_deeper, at_level, soft_line_ended, orphan_lines_at, last_byte, ending_at, without_ending, closing_group, has_no_newlines, body_lines, body_of, empty_body_at, led_on_line, case_begun, case_ended, used_up, annotation_text, fitting_at, without_annotation, annotation_by, annotation_written, annotation_at, annotation_line_at, commented_if, member_line_at, member_space_at, each_on_line, broken_by, broken_at, on_a_line, unless_on_line, break_at, with_lines, lines_opened, indents, lines_closed}
 use Rattle.jsgen_model.specs.Ends.{each_written}
 use Rattle.jsgen_model.specs.Items.{Annotation, is_pure, no_side_effects, Lines, Break, first_argument, other_argument, import_source, import_options, Manner, all_of_them, then_space, with_due_space, before_it, annotation_before_it, with_key_annotation, none_of_them, Lead, to_block, to_body, to_empty}
 use Rattle.jsgen_model.specs.Lay.{case_mark, stood, before_block, span_mark, lifts, annotated_if, annotated_from, is_enclosed, commented_from}
-use Rattle.jsgen_model.specs.Layout.{Pen, Start, Ending, other_end, written, written_if, text_if, not, indented, indent_or_space, at_indentation, led, white_if, begun_at}
+use Rattle.jsgen_model.specs.Layout.{Pen, Start, Ending, other_end, written, written_if, text_if, indented, indent_or_space, at_indentation, led, white_if, begun_at}
 use Rattle.jsgen_model.specs.Printing.{IsPrefix}
 use Rattle.jsgen_model.specs.Punctuator.{Round, opening}
 use Rattle.jsgen_syntax.specs.declared.span.Span.{Span}
@@ -124,8 +124,8 @@ behind_last_adds false pen = record { text = whole_prefix pen.code; classes = re
 pub later_adds : (on_new_line : Bool) (c : Comment) (pen : Pen) → Adds pen (comment_written c (before_later on_new_line (is_legal c.content) pen))
 later_adds on_new_line c pen = adds_then (before_later_adds on_new_line (is_legal c.content) pen) (comment_adds c (before_later on_new_line (is_legal c.content) pen))
 
-pub behind_adds : (ended : Bool) (c : Comment) (cs : List Comment) (pen : Pen) → Adds pen (behind ended c cs pen)
-behind_adds ended c [] pen = behind_last_adds (ended || ends_line c) pen
+pub behind_adds : (ended : Bool) (c : Comment) (cs : List Comment) (pen : Pen) → Adds pen (behind_comment ended c cs pen)
+behind_adds ended c [] pen = behind_last_adds (ended || ends_its_line c) pen
 behind_adds ended c (d ∷ cs) pen = adds_then (later_adds (d.newline_before || is_line c.kind) d pen) (behind_adds ended d cs _)
 
 pub first_adds : (c : Comment) (pen : Pen) → Adds pen (comment_written c (before_first c.newline_before pen))
@@ -145,7 +145,7 @@ group_adds ended (c ∷ cs) pen = let h = adds_then (first_adds c pen) (behind_a
 
 before_group_adds : (manner : Manner) (pen : Pen) → Adds pen (before_group manner pen)
 before_group_adds all_of_them pen = adds_nothing pen
-before_group_adds with_key_annotation pen = white_adds (ends_in 47 pen) (codes " ") pen
+before_group_adds with_key_annotation pen = white_adds (code_ends_in 47 pen) (codes " ") pen
 before_group_adds then_space pen = adds_nothing pen
 before_group_adds with_due_space pen = adds_nothing pen
 before_group_adds before_it pen = adds_nothing pen
@@ -153,8 +153,8 @@ before_group_adds annotation_before_it pen = adds_nothing pen
 before_group_adds none_of_them pen = adds_nothing pen
 
 -- what is due before an expression
-pub due_adds : (pen : Pen) → Adds pen (if ends_in 10 pen then indented_here pen else used_up pen)
-due_adds pen = adds_either (ends_in 10 pen) pen _ _ (here_adds pen) (used_up_adds pen.pending_space pen)
+pub due_adds : (pen : Pen) → Adds pen (if code_ends_in 10 pen then indented_here pen else used_up pen)
+due_adds pen = adds_either (code_ends_in 10 pen) pen _ _ (here_adds pen) (used_up_adds pen.pending_space pen)
 
 pub behind_group_adds : (manner : Manner) (pen : Pen) → Adds pen (behind_group manner pen)
 behind_group_adds all_of_them pen = adds_nothing pen
@@ -277,7 +277,7 @@ annotation_by_adds (c ∷ cs) kind o pen =
     adds_then left (comment_adds c at)
 
 pub annotation_text_adds : (ends : Bool) (kind : Annotation) (o : ℕ) (pen : Pen) → Adds pen (annotation_written ends kind o pen)
-annotation_text_adds ends kind o pen = adds_then (adds_text_if (ends_in 47 pen) (codes " ") pen) (annotation_by_adds (fitting_at ends kind o pen) kind o (written_if (ends_in 47 pen) (codes " ") pen))
+annotation_text_adds ends kind o pen = adds_then (adds_text_if (code_ends_in 47 pen) (codes " ") pen) (annotation_by_adds (fitting_at ends kind o pen) kind o (written_if (code_ends_in 47 pen) (codes " ") pen))
 
 pub annotation_adds : (start : Start) (kind : Annotation) (o : ℕ) (pen : Pen) → Adds pen (begun_at start (annotation_at kind o pen))
 annotation_adds start kind o pen =

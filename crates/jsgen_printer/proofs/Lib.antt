@@ -6,9 +6,11 @@ pub mod Classes
 pub mod Commented
 mod Comments
 pub mod Handed
+pub mod Innermost
 pub mod Marked
 pub mod Numbers
 pub mod Operators
+pub mod Owned
 mod Lines
 pub mod Onward
 mod Patterns

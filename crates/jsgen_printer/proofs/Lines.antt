@@ -1,5 +1,5 @@
 -- What a line of a comment begins and ends in, and what the line so far holds, by bytes.
-use Rattle.std.proofs.Common.{◌≡◌, ℕ, ◌+◌, ◌-◌, ◌/◌, ◌%◌, ◌≤◌, ◌<◌, ◌⊎◌, inl, inr, Bool, true, false, cond, nat_lt, ◌&&◌, ◌==◌, if◌then◌else◌, Option, Some, None, List, [], ◌∷◌, ◌++◌, length, codes, refl, sym, ap, ◌∙◌, arith}
+use Rattle.std.proofs.Common.{◌≡◌, ℕ, ◌+◌, ◌-◌, ◌/◌, ◌%◌, ◌≤◌, ◌<◌, ◌⊎◌, inl, inr, Bool, true, false, cond, nat_lt, ◌&&◌, ◌==◌, if◌then◌else◌, Option, Some, None, List, [], ◌∷◌, ◌++◌, length, codes, refl, sym, ap, ◌∙◌, arith, not}
 use Rattle.std.specs.Prelude as words
 use Rattle.std.specs.List.{slice_get, starts_with, ends_with, filter, last_or}
 use Rattle.std.specs.Option.{option_map, option_map_or}
@@ -11,7 +11,7 @@ use Rattle.std.proofs.lemmas.Str.{encodes-chars, chars_from_encodes}
 use Rattle.jsgen_syntax.proofs.Last.{last_passes}
 use Rattle.jsgen_comments.specs.Plain.{first_of}
 use Rattle.jsgen_model.specs.Groups.{opens_block, closes_block, is_dark, is_mid_line, on_new_line, at_line_start}
-use Rattle.jsgen_model.specs.Layout.{Pen, not}
+use Rattle.jsgen_model.specs.Layout.{Pen}
 use Rattle.jsgen_printer.proofs.Bangs.{ends_in_two, two_by_bytes, same_test, and_true, and_false, past, high}
 use Rattle.jsgen_printer.proofs.Patterns.{map_or, no_sign}
 

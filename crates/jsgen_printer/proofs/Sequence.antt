@@ -1,11 +1,11 @@
 -- Steps one after another.
-use Rattle.std.proofs.Common.{◌≡◌, ℕ, Bool, true, false, ◌||◌, if◌then◌else◌, List, ◌++◌, refl, ap, sym, subst, ◌∙◌, append_assoc}
+use Rattle.std.proofs.Common.{◌≡◌, ℕ, Bool, true, false, ◌||◌, if◌then◌else◌, List, ◌++◌, refl, ap, sym, subst, ◌∙◌, append_assoc, not}
 use Rattle.std.proofs.lemmas.Bool.{both_ways}
 use Rattle.jsgen_tree.specs.Named.{Named}
 use Rattle.jsgen_model.specs.Punctuator.{Bracket, Round, opening, closing}
 use Rattle.jsgen_model.specs.Items.{Items, nothing, ◌⊕◌, brackets, wrapped, wrapped_at_start, Opener, parentheses_unless_minified, unless_minified, where_same, deeper}
 use Rattle.jsgen_model.specs.Lay.{lay}
-use Rattle.jsgen_model.specs.Layout.{Style, Pen, Ending, Start, nowhere, begun_at, written, written_if, other_end, text_if, is_barred, not, are_same}
+use Rattle.jsgen_model.specs.Layout.{Style, Pen, Ending, Start, nowhere, begun_at, written, written_if, other_end, text_if, is_barred, are_printed_alike}
 use Rattle.jsgen_model.specs.Printing.{IsPrefix, Stops}
 use Rattle.jsgen_printer.specs.Printer.{pen_of, deepened, at_depth}
 use Rattle.jsgen_printer.specs.Steps.{has_failed, Ends, Goes, Lays}
@@ -109,7 +109,7 @@ same_there : (said : Bool) (i j : Items) (pen : Pen) → lay (if said then i els
 same_there true i j pen = refl
 same_there false i j pen = refl
 
-pub where_same_laid : {a b : Printer} (m n : Named) (i j : Items) (said : Bool) → said ≡ are_same (pen_of a).style.tables m n → Lays a b (if said then i else j) → Lays a b (where_same m n i j)
+pub where_same_laid : {a b : Printer} (m n : Named) (i j : Items) (said : Bool) → said ≡ are_printed_alike (pen_of a).style.tables m n → Lays a b (if said then i else j) → Lays a b (where_same m n i j)
 where_same_laid {a} m n i j said e h = laid_there (λ going. same_there said i j (pen_of a) ∙ ap (λ b. if b then lay i (pen_of a) else lay j (pen_of a)) e) h
 
 -- ---- where no step has failed

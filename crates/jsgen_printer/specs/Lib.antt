@@ -1,3 +1,4 @@
 pub mod Context
+pub mod Owners
 pub mod Printer
 pub mod Steps

@@ -132,14 +132,14 @@ case_behind (Some depth) end pen = case_ended true depth end pen
 -- the pen, whose code is the characters of the buffer's bytes
 unfoldable pub pen_of : Printer → Pen
 pen_of p = record {
-  style = record { minified = p.minify; ascii = p.ascii_only; quote = p.quote; indent = indent_byte p.code; width = indent_width p.code; tables = tables_plain p.tables; source = source_plain p.marks; annotated = p.annotated };
+  style = record { minified = p.minify; ascii = p.ascii_only; quote = p.quote; indent = indent_byte p.code; width = indent_width p.code; tables = tables_plain p.scope.tables; source = source_plain p.marks; annotated = p.annotated };
   code = chars (buffer_bytes p.code);
   depth = p.depth;
   pending_space = p.pending_space;
   pending_semicolon = p.pending_semicolon;
   ending = ending_of p.ending;
   start = start_of p.start;
-  classes = reverse p.classes.items;
+  classes = reverse p.scope.classes.items;
   next_class = p.next_class;
   marks = marks_plain p.marks;
   store = store_plain p.comments;

@@ -6,10 +6,14 @@ mod context;
 mod laws;
 mod marks;
 mod operator;
+mod owners;
 mod printer;
 mod same;
 
 pub use context::Context;
+pub use jsgen_comments::{AnnotationKind, CommentsMap};
+pub use jsgen_syntax::IndentChar;
+pub use jsgen_tree::{CodegenOptions, CommentOptions, LegalComment};
 pub use laws::a_flag_that_is_unset_leaves_the_others;
 pub use marks::Marks;
 pub use operator::Operator;

@@ -23,6 +23,7 @@ mod operators;
 mod patterns;
 mod templates;
 
+use classes::Scope;
 pub use comments::{CommentsBefore, Lead};
 use jsgen_comments::Comments;
 use jsgen_syntax::{CodeBuffer, JsStr, Quote, Span};
@@ -69,7 +70,7 @@ pub enum Bracket {
 #[derive(Drop)]
 pub struct Printer<'a> {
     code: CodeBuffer,
-    tables: Tables<'a>,
+    scope: Scope<'a>,
     width: usize,
     minify: bool,
     ascii_only: bool,
@@ -79,8 +80,6 @@ pub struct Printer<'a> {
     pending_semicolon: bool,
     ending: Ending,
     start: Start,
-    // the numbers of the classes round here that have a table of private names, the outermost first
-    classes: Vec<usize>,
     next_class: usize,
     // where a source map is wanted
     marks: Option<Marks<'a>>,
@@ -102,7 +101,7 @@ impl<'a> Printer<'a> {
     ghost use Rattle.jsgen_model.specs.Punctuator.{Round, opening, closing, ellipsis, comma, semicolon, equal, colon, question, question_dot, arrow, star};
     ghost use Rattle.jsgen_model.specs.Items.{word, string, first_string, directive, member_dot, punctuator, soft_space, soft_line, hard_space, indentation, body_space, statement_end, due_semicolon, drop_semicolon, statement_begins, arrow_body_begins, a_brace, a_declaration, marked_indentation};
     ghost use Rattle.jsgen_model.specs.Lay.{may_be_indented};
-    ghost use Rattle.jsgen_model.specs.Layout.{written, written_if, other_end, space_if, ends_in_word, ends_in_escapes, is_apart, name_ending, dot_joins, indented, white_if, begun_at, chosen_quote, empty_pen, style_of, is_barred};
+    ghost use Rattle.jsgen_model.specs.Layout.{written, written_if, other_end, space_if, ends_in_word, ends_in_escapes, is_apart, name_ending, dot_joins, indented, white_if, begun_at, chosen_quote, first_quote, empty_pen, style_of, is_barred};
     ghost use Rattle.jsgen_tree.specs.Options.{options_plain};
     ghost use Rattle.jsgen_tree.specs.Job.{no_tables};
     ghost use Rattle.jsgen_tree.specs.Scoping.{tables_plain};
@@ -120,7 +119,7 @@ impl<'a> Printer<'a> {
     {
         Printer {
             code: CodeBuffer::with_indent(alloc, options.indent_char, options.indent_width),
-            tables: Tables::none(),
+            scope: Scope::new(alloc),
             width: options.indent_width,
             minify: options.minify,
             ascii_only: options.ascii_only,
@@ -130,7 +129,6 @@ impl<'a> Printer<'a> {
             pending_semicolon: false,
             ending: Ending::Other,
             start: Start::Statement,
-            classes: Vec::new(alloc),
             next_class: 0,
             marks: None,
             comments: None,
@@ -147,7 +145,7 @@ impl<'a> Printer<'a> {
         ensures failed { has_failed result ≡ has_failed self.entry }
     {
         let mut printer = self;
-        printer.tables = tables;
+        printer.scope.set_tables(tables);
         printer
     }
 
@@ -318,24 +316,22 @@ impl<'a> Printer<'a> {
         self.print_quoted(value, quote);
     }
 
-    /// A string that is a whole first statement, without its end.
+    /// A string that is a whole first statement, without its parentheses and its end.
     pub fn print_first_string(&mut self, value: &JsStr)
         ensures { Lays self.old self.new (first_string (js_units value.now)) }
     {
-        if self.minify {
-            self.print_quoted(value, Quote::Backtick);
-        } else {
-            self.print_in_parentheses(value, self.quote);
-        }
+        let quote = self.first_quote();
+        self.print_quoted(value, quote);
     }
 
-    // A string in this quote, in parentheses.
-    fn print_in_parentheses(&mut self, value: &JsStr, quote: Quote)
-        ensures { Goes self.old self.new (λ pen. written (opening Round ++ (quoted quote pen.style.ascii (js_units value.now) ++ closing Round)) other_end pen) }
+    fn first_quote(&self) -> Quote
+        ensures { result ≡ first_quote (pen_of self.now).style }
     {
-        self.print_opening(Bracket::Round);
-        self.print_quoted(value, quote);
-        self.print_closing(Bracket::Round);
+        if self.minify {
+            Quote::Backtick
+        } else {
+            self.quote
+        }
     }
 
     /// A directive's raw text in its quotes, without its end.
@@ -528,21 +524,22 @@ impl<'a> Printer<'a> {
         }
     }
 
-    /// Indentation, and where there may be any the mark of a span behind it.
-    pub fn print_marked_indentation(&mut self, span: Span)
-        ensures { Lays self.old self.new (marked_indentation span) }
+    /// Indentation, and where the level is above 0 or a space is pending the mark of a span behind it; in minified text, which prints
+    /// neither, only if `always` is set.
+    pub fn print_marked_indentation(&mut self, always: bool, span: Span)
+        ensures { Lays self.old self.new (marked_indentation always span) }
     {
-        let may_be_indented = self.may_be_indented();
+        let may_be_indented = self.may_be_indented(always);
         self.print_indentation();
         if may_be_indented {
             self.print_mark(span);
         }
     }
 
-    fn may_be_indented(&self) -> bool
-        ensures { result ≡ may_be_indented (pen_of self.now) }
+    fn may_be_indented(&self, always: bool) -> bool
+        ensures { result ≡ may_be_indented always (pen_of self.now) }
     {
-        !self.minify && (self.pending_space || self.depth > 0)
+        (always || !self.minify) && (self.pending_space || self.depth > 0)
     }
 
     /// Indentation, where the test holds.

@@ -100,7 +100,7 @@ items_if_none true items h = h
 items_if_none false items h = tt
 
 unless_string_none : (line own : Span) (units : Option (List ℕ)) (items : Items) → Unannotated items → Unannotated (unless_string line own units items)
-unless_string_none line own (Some units) items h = (tt, (tt, (tt, (tt, tt))))
+unless_string_none line own (Some units) items h = (tt, (tt, ((tt, (tt, tt)), tt)))
 unless_string_none line own None items h = h
 
 pub first_statement_none : (t : Tree) (items : Items) → Unannotated items → Unannotated (first_statement t items)

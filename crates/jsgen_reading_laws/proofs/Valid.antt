@@ -12,12 +12,14 @@ use Rattle.jsgen_tree.specs.declared.types.NodeType.TheVariants as types
 use Rattle.jsgen_tree.specs.declared.types.NodeSet.TheVariants as sets
 use Rattle.jsgen_model.specs.declared.fault.TreeFault.{TreeFault}
 use Rattle.jsgen_model.specs.declared.fault.TreeFault.TheVariants as faults
-use Rattle.jsgen_model.specs.Plain.{IsCore, is_core_row, has_core_flags, has_no_hole}
+use Rattle.jsgen_model.specs.Plain.{has_core_flags, has_no_hole}
+use Rattle.jsgen_row_laws.proofs.CoreIn.{IsCoreIn, is_core_row}
 use Rattle.jsgen_tree.specs.declared.functions.FunctionKind.TheVariants as kinds
 use Rattle.jsgen_tree.specs.declared.classes.ClassKind.TheVariants as class_kinds
-use Rattle.jsgen_model.specs.Valid.{Surroundings, ChildPlace, within_nothing, within_function, within_arrow, within_braces, await_faults, yield_faults, breaches, in_maybe, in_trees, fits_kind, set_faults, span_faults, body_faults, name_faults, number_faults, declaration_faults, sequence_faults, super_faults, chain_faults, target_faults, is_one_name, any_lacks_value, lacks_value, left_faults, init_faults, defaults, switch_faults, try_faults, function_faults, return_faults, assigned_faults, assigns_alone, is_target_pattern, regular_expression_faults}
+use Rattle.jsgen_model.specs.Valid.{Surroundings, ChildPlace, within_nothing, within_function, within_arrow, within_braces, await_faults, yield_faults, breaches, in_maybe, in_trees, fits_kind, set_faults, span_faults, body_faults, name_faults, number_faults, declaration_faults, sequence_faults, super_faults, chain_faults, target_faults, is_one_name, any_lacks_value, lacking, lacks_value, left_faults, init_faults, defaults, switch_faults, try_faults, function_faults, return_faults, assigned_faults, assigns_alone, is_target_pattern, regular_expression_faults}
 use Rattle.jsgen_row_laws.proofs.Families.{allowed_in, IsExpression, AreParts, IsChain, AreProperties, IsKey, AreArguments, AreElements, IsParameters, AreParameters, IsParameter, IsValue, IsDeclarator, AreDeclarators, IsStatement, IsInit, IsLeft, AreCases, AreEndsOfTry, IsHandler, IsBlock, IsItem, AreStatements, IsBody, IsRest, IsBindingElement, AreBindingElements, IsBindingRest, AreBindingProperties, IsBindingProperty, IsTarget, IsTargetElement, AreTargetElements, IsTargetRest, AreTargetProperties, IsTargetProperty}
 use Rattle.jsgen_row_laws.proofs.Families as family
+use Rattle.jsgen_reading_laws.proofs.ValidPrivate.{private_member_valid, private_link_valid, private_test_valid}
 use Rattle.jsgen_reading_laws.proofs.ValidPatterns.{ValidItem, Below, BelowSlots, BelowIfGiven, EachBelow, BelowIfListed, ValidExpression, binding_valid, target_valid}
 use Rattle.jsgen_reading_laws.proofs.ValidClasses.{class_valid}
 use Rattle.jsgen_row_laws.proofs.Faultless.{awaited, yielded_alone, none_both, none_if, none_unless, parts, stands_at, standing, placed, placed_statement, is_own_statement, no_truth, no_truth_behind, unset, member_valid, arrow_parts, target_stands, target_fits, declared_alone, none_but_declarator, not_one_name, assignment_valid, left_as_element, left_since, link_valid, base_valid, big_valued, number_valued, link_kind, free_since, placed_if_given, bodiless, init_parts, label_valid, jump_valid, variables_are, body_valid, one_less, none_left_out, none_among_cases, ends_of_try, StandsAt, place_of, most, HandlerIfGiven, FinalizerIfGiven, function_parts, braces_parts, variables_parts, unset, function_fits, is_own_statement}
@@ -26,7 +28,7 @@ use Rattle.jsgen_reading_laws.proofs.ValidTemplates.{template_valid, tagged_temp
 use Rattle.jsgen_reading_laws.proofs.ValidLists.{sequence_valid, arguments_valid, properties_valid, elements_valid}
 
 mutual
-  pub expression_valid : (next : ℕ) (around : Surroundings) (t : Tree) → IsCore t → StandsAt sets.Expression t → breaches around next t ≡ [] → IsExpression around.tables (allowed_in around) t
+  pub expression_valid : (next : ℕ) (around : Surroundings) (t : Tree) → IsCoreIn around.tables t → StandsAt sets.Expression t → breaches around next t ≡ [] → IsExpression around.tables (allowed_in around) t
   expression_valid next around (tree.identifier_reference a) p s e = family.a_reference (free_since around a.span (reference_named a) (parts (span_faults around a.span) (name_faults around.tables a.span (reference_named a)) [] e).0)
   expression_valid next around (tree.this_expression a) p s e = family.a_this
   expression_valid next around (tree.null_literal a) p s e = family.a_null
@@ -138,15 +140,17 @@ mutual
   expression_valid next around (tree.function a id ps absent) p s e = absurd (bodiless a.span (parts (span_faults around a.span) (function_faults a.span absent) _ e).0)
   expression_valid next around (tree.template_literal a qs es) p s e = template_valid next around a qs es (expressions_in_trees es) p s.2 e
   expression_valid next around (tree.tagged_template a t u) p s e = tagged_template_valid next around a t u (λ n r q x y. expression_valid n r t q x y) (expressions_below u) p e
+  expression_valid next around (tree.private_member a o n) p s e = private_member_valid next around a o n (λ m r q x y. expression_valid m r o q x y) p s e
+  expression_valid next around (tree.private_in a n u) p s e = private_test_valid next around a n u (λ m r q x y. expression_valid m r u q x y) p e
   expression_valid next around t p s e = absurd (search (no_truth, no_truth_behind))
 
-  pub function_body_valid : (next : ℕ) (around : Surroundings) (t : Tree) → IsCore t → is_function_body (type_of t) ≡ true → breaches around next t ≡ [] → IsBody around.tables (allowed_in (within_braces around)) t
+  pub function_body_valid : (next : ℕ) (around : Surroundings) (t : Tree) → IsCoreIn around.tables t → is_function_body (type_of t) ≡ true → breaches around next t ≡ [] → IsBody around.tables (allowed_in (within_braces around)) t
   function_body_valid next around (tree.function_body a ds ss) p s e =
       let k = braces_parts _ around a ds ss p e in
       family.some_body k.0 (items_valid _ (within_braces around) ss k.1 k.2 k.3.1)
   function_body_valid next around t p s e = absurd (search no_truth)
 
-  pub parameters_valid : (next : ℕ) (around : Surroundings) (t : Tree) → IsCore t → is_formal_parameters (type_of t) ≡ true → breaches around next t ≡ [] → IsParameters around.tables (allowed_in around) t
+  pub parameters_valid : (next : ℕ) (around : Surroundings) (t : Tree) → IsCoreIn around.tables t → is_formal_parameters (type_of t) ≡ true → breaches around next t ≡ [] → IsParameters around.tables (allowed_in around) t
   parameters_valid next around (tree.formal_parameters a ps rest) p s e =
       let others : List ChildPlace = place_of sets.FormalParameterRest around ∷ [] in
       let k = none_both (in_trees around (place_of sets.FormalParameter around ∷ others) _ ps) _ (parts (span_faults around a.span) [] _ e).1 in
@@ -154,13 +158,13 @@ mutual
       family.all_parameters (each_parameter_valid _ around others ps p.0 p.1.0 k.0) (rest_valid _ around rest p.1.1.0 j.0)
   parameters_valid next around t p s e = absurd (search no_truth)
 
-  rest_parameter_valid : (next : ℕ) (around : Surroundings) (t : Tree) → IsCore t → is_formal_parameter_rest (type_of t) ≡ true → breaches around next t ≡ [] → IsRest around.tables (allowed_in around) (given t)
+  rest_parameter_valid : (next : ℕ) (around : Surroundings) (t : Tree) → IsCoreIn around.tables t → is_formal_parameter_rest (type_of t) ≡ true → breaches around next t ≡ [] → IsRest around.tables (allowed_in around) (given t)
   rest_parameter_valid next around (tree.formal_parameter_rest a b) p s e =
       let k = standing _ around sets.BindingPattern b [] (parts (span_faults around a.span) [] _ e).1 in
       family.a_rest (binding_valid _ around b (expressions_below b) p.1.0 k.0.0 k.1)
   rest_parameter_valid next around t p s e = absurd (search no_truth)
 
-  rest_valid : (next : ℕ) (around : Surroundings) (m : Maybe) → EverywhereIfGiven is_core_row m → in_maybe around (place_of sets.FormalParameterRest around ∷ []) next m ≡ [] → IsRest around.tables (allowed_in around) m
+  rest_valid : (next : ℕ) (around : Surroundings) (m : Maybe) → EverywhereIfGiven (is_core_row around.tables) m → in_maybe around (place_of sets.FormalParameterRest around ∷ []) next m ≡ [] → IsRest around.tables (allowed_in around) m
   rest_valid next around absent p e = family.no_rest
   rest_valid next around (given t) p e = let h = placed_if_given next around sets.FormalParameterRest t e in rest_parameter_valid next around t p h.0 h.1
 
@@ -217,12 +221,12 @@ mutual
   -- ---- parameters and their values
 
   -- behind their field stand others
-  each_parameter_valid : (next : ℕ) (around : Surroundings) (others : List ChildPlace) (ps : Trees) → has_no_hole ps ≡ true → EverywhereInTrees is_core_row ps → in_trees around (place_of sets.FormalParameter around ∷ others) next ps ≡ [] → AreParameters around.tables (allowed_in around) ps
+  each_parameter_valid : (next : ℕ) (around : Surroundings) (others : List ChildPlace) (ps : Trees) → has_no_hole ps ≡ true → EverywhereInTrees (is_core_row around.tables) ps → in_trees around (place_of sets.FormalParameter around ∷ others) next ps ≡ [] → AreParameters around.tables (allowed_in around) ps
   each_parameter_valid next around others no_trees n p e = family.no_parameter
   each_parameter_valid next around others (more t ts) n p e = let k = placed _ around sets.FormalParameter t _ e in family.first_parameter (parameter_valid _ around t p.0 k.0 k.1) (each_parameter_valid _ around others ts n p.1 k.2)
   each_parameter_valid next around others (hole ts) n p e = absurd (no_truth n)
 
-  parameter_valid : (next : ℕ) (around : Surroundings) (t : Tree) → IsCore t → is_formal_parameter (type_of t) ≡ true → breaches around next t ≡ [] → IsParameter around.tables (allowed_in around) t
+  parameter_valid : (next : ℕ) (around : Surroundings) (t : Tree) → IsCoreIn around.tables t → is_formal_parameter (type_of t) ≡ true → breaches around next t ≡ [] → IsParameter around.tables (allowed_in around) t
   parameter_valid next around (tree.formal_parameter a b m) p s e =
       let k = standing _ around sets.BindingPattern b _ (parts (span_faults around a.span) [] _ e).1 in
       let j = none_both (in_maybe around (place_of sets.Expression around ∷ []) _ m) [] k.2 in
@@ -232,13 +236,13 @@ mutual
   parameter_valid next around t p s e = absurd (search (no_truth, no_truth_behind))
 
   -- behind its field others may stand
-  value_valid : (next : ℕ) (around : Surroundings) (others : List ChildPlace) (m : Maybe) → EverywhereIfGiven is_core_row m → in_maybe around (place_of sets.Expression around ∷ others) next m ≡ [] → IsValue around.tables (allowed_in around) m
+  value_valid : (next : ℕ) (around : Surroundings) (others : List ChildPlace) (m : Maybe) → EverywhereIfGiven (is_core_row around.tables) m → in_maybe around (place_of sets.Expression around ∷ others) next m ≡ [] → IsValue around.tables (allowed_in around) m
   value_valid next around others absent p e = family.no_value
   value_valid next around others (given t) p e =
       let h = none_both (set_faults sets.Expression t) (breaches around _ t) e in
       family.a_value (expression_valid _ around t p (stands_at sets.Expression t h.0) h.1)
 
-  chain_valid : (next : ℕ) (around : Surroundings) (t : Tree) → IsCore t → breaches around next t ≡ [] → has_optional_link t ≡ true → IsChain around.tables (allowed_in around) t
+  chain_valid : (next : ℕ) (around : Surroundings) (t : Tree) → IsCoreIn around.tables t → breaches around next t ≡ [] → has_optional_link t ≡ true → IsChain around.tables (allowed_in around) t
   chain_valid next around (tree.static_member a o n) p e i =
       let h = parts (span_faults around a.span) (super_faults (static_member_expression_optional a) o) _ e in
       let k = standing _ around sets.Link o _ h.1 in
@@ -263,12 +267,12 @@ mutual
       let g : StandsAt sets.Expression o → IsExpression around.tables (allowed_in around) o = λ y. expression_valid _ around o p.1.0 y k.1 in
       let v : AreArguments around.tables (allowed_in around) es = arguments_valid _ around es (expressions_in_trees es) p.0 p.1.1.0 j.0 in
       link_kind (call_expression_optional a) o i h.0 (λ q r. family.an_optional_call q (base_valid (allowed_in around) o k.0 r f g) v) (λ q r. family.a_further_call q (f r) v)
-  chain_valid next around (tree.private_member a o n) p e i = absurd (no_truth p.0)
+  chain_valid next around (tree.private_member a o n) p e i = private_link_valid next around a o n (λ m r q x y. chain_valid m r o q x y) (λ m r q x y. expression_valid m r o q x y) p e i
   chain_valid next around t p e i = absurd (no_truth i)
 
   -- ---- declarations, and heads of loops
 
-  declarator_valid : (next : ℕ) (around : Surroundings) (t : Tree) → IsCore t → is_variable_declarator (type_of t) ≡ true → lacks_value t ≡ false → breaches around next t ≡ [] → IsDeclarator around.tables (allowed_in around) t
+  declarator_valid : (next : ℕ) (around : Surroundings) (t : Tree) → IsCoreIn around.tables t → is_variable_declarator (type_of t) ≡ true → lacks_value t ≡ false → breaches around next t ≡ [] → IsDeclarator around.tables (allowed_in around) t
   declarator_valid next around (tree.variable_declarator a b absent) p s n e =
       let k = standing _ around sets.BindingPattern b _ (parts (span_faults around a.span) [] _ e).1 in
       declared_alone (unset (variable_declarator_definite a) p.0) (binding_valid _ around b (expressions_below b) p.1.0 k.0.0 k.1) n
@@ -276,10 +280,10 @@ mutual
       let k = standing _ around sets.BindingPattern b _ (parts (span_faults around a.span) [] _ e).1 in
       let j = standing _ around sets.Expression v [] k.2 in
       family.a_declared_with_value (unset (variable_declarator_definite a) p.0) (binding_valid _ around b (expressions_below b) p.1.0 k.0.0 k.1) (expression_valid _ around v p.1.1.0 j.0 j.1)
-  declarator_valid next around t p s n e = absurd (none_but_declarator t p.0 s refl)
+  declarator_valid next around t p s n e = absurd (none_but_declarator around.tables t p.0 s refl)
 
   -- a declaration has a declarator, and each pattern a value
-  pub declarators_valid : (next : ℕ) (around : Surroundings) (a : Atoms) (ds : Trees) → has_no_hole ds ≡ true → any_lacks_value ds ≡ false → EverywhereInTrees is_core_row ds → declaration_faults a.span ds ≡ [] → in_trees around (place_of sets.VariableDeclarator around ∷ []) next ds ≡ [] → AreDeclarators around.tables (allowed_in around) ds
+  pub declarators_valid : (next : ℕ) (around : Surroundings) (a : Atoms) (ds : Trees) → has_no_hole ds ≡ true → any_lacks_value ds ≡ false → EverywhereInTrees (is_core_row around.tables) ds → declaration_faults a.span ds ≡ [] → in_trees around (place_of sets.VariableDeclarator around ∷ []) next ds ≡ [] → AreDeclarators around.tables (allowed_in around) ds
   declarators_valid next around a no_trees n w p f e = absurd (cc)
   declarators_valid next around a (more d no_trees) n w p f e =
       let k = placed _ around sets.VariableDeclarator d [] e in
@@ -291,28 +295,28 @@ mutual
   declarators_valid next around a (more d (hole xs)) n w p f e = absurd (no_truth n)
   declarators_valid next around a (hole ds) n w p f e = absurd (no_truth n)
 
-  init_valid : (next : ℕ) (around : Surroundings) (others : List ChildPlace) (m : Maybe) → EverywhereIfGiven is_core_row m → init_faults m ≡ [] → in_maybe around (place_of sets.ForStatementInit around ∷ others) next m ≡ [] → IsInit around.tables (allowed_in around) m
+  init_valid : (next : ℕ) (around : Surroundings) (others : List ChildPlace) (m : Maybe) → EverywhereIfGiven (is_core_row around.tables) m → init_faults m ≡ [] → in_maybe around (place_of sets.ForStatementInit around ∷ others) next m ≡ [] → IsInit around.tables (allowed_in around) m
   init_valid next around others absent p f e = family.no_init
   init_valid next around others (given (tree.variable_declaration a ds)) p f e =
       let k = variables_parts _ around a ds p (none_both (set_faults sets.ForStatementInit (tree.variable_declaration a ds)) (breaches around _ (tree.variable_declaration a ds)) e).1 in
-      family.first_variables k.0 (declarators_valid _ around a ds k.1 (none_if (any_lacks_value ds) (faults.Place a.span.start) f) k.2 k.3 k.4)
+      family.first_variables k.0 (declarators_valid _ around a ds k.1 (none_if (any_lacks_value ds) (faults.Place (lacking a.span ds).start) f) k.2 k.3 k.4)
   init_valid next around others (given t) p f e = let k = init_parts next around others t p.0 refl e in family.first_expression (expression_valid next around t p k.0 k.1)
 
   -- one declarator without a value
-  one_name_valid : (next : ℕ) (around : Surroundings) (a : Atoms) (ds : Trees) → is_one_name ds ≡ true → variable_declaration_declare a ≡ false → EverywhereInTrees is_core_row ds → in_trees around (place_of sets.VariableDeclarator around ∷ []) next ds ≡ [] → IsLeft around.tables (allowed_in around) (tree.variable_declaration a ds)
+  one_name_valid : (next : ℕ) (around : Surroundings) (a : Atoms) (ds : Trees) → is_one_name ds ≡ true → variable_declaration_declare a ≡ false → EverywhereInTrees (is_core_row around.tables) ds → in_trees around (place_of sets.VariableDeclarator around ∷ []) next ds ≡ [] → IsLeft around.tables (allowed_in around) (tree.variable_declaration a ds)
   one_name_valid next around a (more (tree.variable_declarator b t absent) no_trees) n m p e =
       let h = placed _ around sets.VariableDeclarator (tree.variable_declarator b t absent) [] e in
       let k = standing _ around sets.BindingPattern t _ (parts (span_faults around b.span) [] _ h.1).1 in
       family.a_declared_name m (unset (variable_declarator_definite b) p.0.0) (binding_valid _ around t (expressions_below t) p.0.1.0 k.0.0 k.1)
   one_name_valid next around a ds n m p e = absurd (not_one_name ds n refl)
 
-  left_valid : (next : ℕ) (around : Surroundings) (t : Tree) → IsCore t → is_for_statement_left (type_of t) ≡ true → left_faults t ≡ [] → breaches around next t ≡ [] → (is_assignment_target (type_of t) ≡ true → has_optional_link t ≡ false → IsTarget around.tables (allowed_in around) t) → IsLeft around.tables (allowed_in around) t
+  left_valid : (next : ℕ) (around : Surroundings) (t : Tree) → IsCoreIn around.tables t → is_for_statement_left (type_of t) ≡ true → left_faults t ≡ [] → breaches around next t ≡ [] → (is_assignment_target (type_of t) ≡ true → has_optional_link t ≡ false → IsTarget around.tables (allowed_in around) t) → IsLeft around.tables (allowed_in around) t
   left_valid next around (tree.variable_declaration a ds) p s f e g = let k = variables_parts _ around a ds p e in one_name_valid _ around a ds (none_unless (is_one_name ds) (faults.Place a.span.start) f) k.0 k.2 k.4
-  left_valid next around t p s f e g = left_since (g (left_as_element t p.0 s refl) (none_if (has_optional_link t) (faults.Place (span_of t).start) f))
+  left_valid next around t p s f e g = left_since (g (left_as_element around.tables t p.0 s refl) (none_if (has_optional_link t) (faults.Place (span_of t).start) f))
 
   -- ---- statements
 
-  pub item_valid : (next : ℕ) (around : Surroundings) (t : Tree) → IsCore t → is_own_statement (type_of t) ≡ true → fits_kind sets.Statement t ≡ true → breaches around next t ≡ [] → IsItem around.tables (allowed_in around) t
+  pub item_valid : (next : ℕ) (around : Surroundings) (t : Tree) → IsCoreIn around.tables t → is_own_statement (type_of t) ≡ true → fits_kind sets.Statement t ≡ true → breaches around next t ≡ [] → IsItem around.tables (allowed_in around) t
   item_valid next around (tree.variable_declaration a ds) p s fits e = let k = variables_parts _ around a ds p e in variables_are a ds k.0 (declarators_valid _ around a ds k.1 (not-true (any_lacks_value ds) fits) k.2 k.3 k.4)
   item_valid next around (tree.expression_statement a t) p s fits e =
       let k = standing _ around sets.Expression t [] (parts (span_faults around a.span) [] _ e).1 in
@@ -413,18 +417,18 @@ mutual
   item_valid next around (tree.function a id ps absent) p s fits e = absurd (bodiless a.span (parts (span_faults around a.span) (function_faults a.span absent) _ e).0)
   item_valid next around t p s fits e = absurd (search (no_truth, no_truth_behind))
 
-  items_valid : (next : ℕ) (around : Surroundings) (ss : Trees) → has_no_hole ss ≡ true → EverywhereInTrees is_core_row ss → in_trees around (place_of sets.Statement around ∷ []) next ss ≡ [] → AreStatements around.tables (allowed_in around) ss
+  items_valid : (next : ℕ) (around : Surroundings) (ss : Trees) → has_no_hole ss ≡ true → EverywhereInTrees (is_core_row around.tables) ss → in_trees around (place_of sets.Statement around ∷ []) next ss ≡ [] → AreStatements around.tables (allowed_in around) ss
   items_valid next around no_trees n p e = family.no_statement
   items_valid next around (more s ss) n p e = let k = placed_statement _ around s _ e in family.first_statement (item_valid _ around s p.0 k.0.0 k.0.1 k.1) (items_valid _ around ss n p.1 k.2)
   items_valid next around (hole ss) n p e = absurd (no_truth n)
 
-  block_valid : (next : ℕ) (around : Surroundings) (t : Tree) → IsCore t → is_block_statement (type_of t) ≡ true → breaches around next t ≡ [] → IsBlock around.tables (allowed_in around) t
+  block_valid : (next : ℕ) (around : Surroundings) (t : Tree) → IsCoreIn around.tables t → is_block_statement (type_of t) ≡ true → breaches around next t ≡ [] → IsBlock around.tables (allowed_in around) t
   block_valid next around (tree.block a ss) p s e =
       let k = none_both (in_trees around (place_of sets.Statement around ∷ []) _ ss) [] (parts (span_faults around a.span) [] _ e).1 in
       family.some_block (items_valid _ around ss p.0 p.1.0 k.0)
   block_valid next around t p s e = absurd (search no_truth)
 
-  cases_valid : (next : ℕ) (around : Surroundings) (default : Bool) (ts : Trees) → has_no_hole ts ≡ true → EverywhereInTrees is_core_row ts → nat_lt (most default) (defaults ts) ≡ false → in_trees around (place_of sets.SwitchCase around ∷ []) next ts ≡ [] → AreCases around.tables (allowed_in around) default ts
+  cases_valid : (next : ℕ) (around : Surroundings) (default : Bool) (ts : Trees) → has_no_hole ts ≡ true → EverywhereInTrees (is_core_row around.tables) ts → nat_lt (most default) (defaults ts) ≡ false → in_trees around (place_of sets.SwitchCase around ∷ []) next ts ≡ [] → AreCases around.tables (allowed_in around) default ts
   cases_valid next around default no_trees n p f e = family.no_case
   cases_valid next around true (more (tree.switch_case a absent ss) ts) n p f e =
       let k = placed _ around sets.SwitchCase (tree.switch_case a absent ss) _ e in
@@ -440,15 +444,15 @@ mutual
   cases_valid next around default (hole ts) n p f e = absurd (no_truth n)
 
   -- behind its field others stand
-  given_handler_valid : (next : ℕ) (around : Surroundings) (others : List ChildPlace) (m : Maybe) → EverywhereIfGiven is_core_row m → in_maybe around (place_of sets.CatchClause around ∷ others) next m ≡ [] → HandlerIfGiven around.tables (allowed_in around) m
+  given_handler_valid : (next : ℕ) (around : Surroundings) (others : List ChildPlace) (m : Maybe) → EverywhereIfGiven (is_core_row around.tables) m → in_maybe around (place_of sets.CatchClause around ∷ others) next m ≡ [] → HandlerIfGiven around.tables (allowed_in around) m
   given_handler_valid next around others absent p e = tt
   given_handler_valid next around others (given t) p e = let k = placed_if_given _ around sets.CatchClause t e in handler_valid _ around t p k.0 k.1
 
-  given_finalizer_valid : (next : ℕ) (around : Surroundings) (m : Maybe) → EverywhereIfGiven is_core_row m → in_maybe around (place_of sets.BlockStatement around ∷ []) next m ≡ [] → FinalizerIfGiven around.tables (allowed_in around) m
+  given_finalizer_valid : (next : ℕ) (around : Surroundings) (m : Maybe) → EverywhereIfGiven (is_core_row around.tables) m → in_maybe around (place_of sets.BlockStatement around ∷ []) next m ≡ [] → FinalizerIfGiven around.tables (allowed_in around) m
   given_finalizer_valid next around absent p e = tt
   given_finalizer_valid next around (given t) p e = let k = placed_if_given _ around sets.BlockStatement t e in block_valid _ around t p k.0 k.1
 
-  handler_valid : (next : ℕ) (around : Surroundings) (t : Tree) → IsCore t → is_catch_clause (type_of t) ≡ true → breaches around next t ≡ [] → IsHandler around.tables (allowed_in around) t
+  handler_valid : (next : ℕ) (around : Surroundings) (t : Tree) → IsCoreIn around.tables t → is_catch_clause (type_of t) ≡ true → breaches around next t ≡ [] → IsHandler around.tables (allowed_in around) t
   handler_valid next around (tree.catch_clause a absent t) p s e =
       let k = placed _ around sets.BlockStatement t [] (parts (span_faults around a.span) [] _ e).1 in
       family.a_catch (block_valid _ around t p.1.1.0 k.0 k.1)

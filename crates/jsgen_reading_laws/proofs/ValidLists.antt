@@ -7,19 +7,20 @@ use Rattle.jsgen_tree.specs.Inside.{is_method}
 use Rattle.jsgen_tree.specs.Everywhere.{EverywhereInTrees}
 use Rattle.jsgen_tree.specs.declared.types.NodeSet.TheVariants as sets
 use Rattle.jsgen_model.specs.Resolved.{after}
-use Rattle.jsgen_model.specs.Plain.{is_core_row, has_no_hole}
+use Rattle.jsgen_model.specs.Plain.{has_no_hole}
+use Rattle.jsgen_row_laws.proofs.CoreIn.{is_core_row}
 use Rattle.jsgen_model.specs.Valid.{Surroundings, in_trees, span_faults, key_faults, sequence_faults}
 use Rattle.jsgen_row_laws.proofs.Families.{allowed_in, IsExpression, AreParts, AreProperties, IsKey, AreArguments, AreElements}
 use Rattle.jsgen_row_laws.proofs.Families as family
 use Rattle.jsgen_reading_laws.proofs.ValidPatterns.{EachBelow, ValidExpression}
 use Rattle.jsgen_row_laws.proofs.Faultless.{none_both, parts, standing, placed, no_truth, argument_parts, element_parts, none_among_properties, key_stands, key_valid, place_of, rest_of_property, property_faults, property_since}
 
-pub parts_valid : (next : ℕ) (around : Surroundings) (ts : Trees) → EachBelow ValidExpression ts → has_no_hole ts ≡ true → EverywhereInTrees is_core_row ts → in_trees around (place_of sets.Expression around ∷ []) next ts ≡ [] → AreParts around.tables (allowed_in around) ts
+pub parts_valid : (next : ℕ) (around : Surroundings) (ts : Trees) → EachBelow ValidExpression ts → has_no_hole ts ≡ true → EverywhereInTrees (is_core_row around.tables) ts → in_trees around (place_of sets.Expression around ∷ []) next ts ≡ [] → AreParts around.tables (allowed_in around) ts
 parts_valid next around no_trees q n p e = family.no_part
 parts_valid next around (more t ts) q n p e = let k = standing _ around sets.Expression t _ e in family.first_part (q.0.0 _ around p.0 k.0 k.1) (parts_valid _ around ts q.1 n p.1 k.2)
 parts_valid next around (hole ts) q n p e = absurd (no_truth n)
 
-pub sequence_valid : (next : ℕ) (around : Surroundings) (a : Atoms) (ts : Trees) → EachBelow ValidExpression ts → has_no_hole ts ≡ true → EverywhereInTrees is_core_row ts → sequence_faults a.span ts ≡ [] → in_trees around (place_of sets.Expression around ∷ []) next ts ≡ [] → IsExpression around.tables (allowed_in around) (tree.sequence a ts)
+pub sequence_valid : (next : ℕ) (around : Surroundings) (a : Atoms) (ts : Trees) → EachBelow ValidExpression ts → has_no_hole ts ≡ true → EverywhereInTrees (is_core_row around.tables) ts → sequence_faults a.span ts ≡ [] → in_trees around (place_of sets.Expression around ∷ []) next ts ≡ [] → IsExpression around.tables (allowed_in around) (tree.sequence a ts)
 sequence_valid next around a (more t (more u ts)) q n p f e =
     let k = standing _ around sets.Expression t _ e in
     let j = standing _ around sets.Expression u _ k.2 in
@@ -29,7 +30,7 @@ sequence_valid next around a (more t no_trees) q n p f e = absurd (cc)
 sequence_valid next around a (more t (hole ts)) q n p f e = absurd (no_truth n)
 sequence_valid next around a (hole ts) q n p f e = absurd (no_truth n)
 
-pub arguments_valid : (next : ℕ) (around : Surroundings) (es : Trees) → EachBelow ValidExpression es → has_no_hole es ≡ true → EverywhereInTrees is_core_row es → in_trees around (place_of sets.Argument around ∷ []) next es ≡ [] → AreArguments around.tables (allowed_in around) es
+pub arguments_valid : (next : ℕ) (around : Surroundings) (es : Trees) → EachBelow ValidExpression es → has_no_hole es ≡ true → EverywhereInTrees (is_core_row around.tables) es → in_trees around (place_of sets.Argument around ∷ []) next es ≡ [] → AreArguments around.tables (allowed_in around) es
 arguments_valid next around no_trees q n p e = family.no_argument
 arguments_valid next around (more (tree.spread a t) ts) q n p e =
     let k = standing _ around sets.Argument (tree.spread a t) _ e in
@@ -38,7 +39,7 @@ arguments_valid next around (more (tree.spread a t) ts) q n p e =
 arguments_valid next around (more t ts) q n p e = let k = argument_parts next around t ts p.0.0 refl e in family.first_argument (family.an_element (q.0.0 next around p.0 k.0 k.1)) (arguments_valid (after t next) around ts q.1 n p.1 k.2)
 arguments_valid next around (hole ts) q n p e = absurd (no_truth n)
 
-pub properties_valid : (next : ℕ) (around : Surroundings) (ps : Trees) → EachBelow ValidExpression ps → has_no_hole ps ≡ true → EverywhereInTrees is_core_row ps → in_trees around (place_of sets.ObjectPropertyKind around ∷ []) next ps ≡ [] → AreProperties around.tables (allowed_in around) ps
+pub properties_valid : (next : ℕ) (around : Surroundings) (ps : Trees) → EachBelow ValidExpression ps → has_no_hole ps ≡ true → EverywhereInTrees (is_core_row around.tables) ps → in_trees around (place_of sets.ObjectPropertyKind around ∷ []) next ps ≡ [] → AreProperties around.tables (allowed_in around) ps
 properties_valid next around no_trees q n p e = family.no_property
 properties_valid next around (more (tree.spread a t) ts) q n p e =
     let k = standing _ around sets.ObjectPropertyKind (tree.spread a t) _ e in
@@ -57,7 +58,7 @@ properties_valid next around (more (tree.object_property a x v) ts) q n p e =
 properties_valid next around (more t ts) q n p e = absurd (none_among_properties next around t ts p.0.0 refl e)
 properties_valid next around (hole ts) q n p e = absurd (no_truth n)
 
-pub elements_valid : (next : ℕ) (around : Surroundings) (es : Trees) → EachBelow ValidExpression es → EverywhereInTrees is_core_row es → in_trees around (place_of sets.ArrayExpressionElement around ∷ []) next es ≡ [] → AreElements around.tables (allowed_in around) es
+pub elements_valid : (next : ℕ) (around : Surroundings) (es : Trees) → EachBelow ValidExpression es → EverywhereInTrees (is_core_row around.tables) es → in_trees around (place_of sets.ArrayExpressionElement around ∷ []) next es ≡ [] → AreElements around.tables (allowed_in around) es
 elements_valid next around no_trees q p e = family.no_element
 elements_valid next around (more (tree.spread a t) ts) q p e =
     let k = standing _ around sets.ArrayExpressionElement (tree.spread a t) _ e in

@@ -14,7 +14,8 @@ use Rattle.jsgen_tree.specs.Values.{template_element_raw, template_element_cooke
 use Rattle.jsgen_tree.specs.declared.types.NodeSet.TheVariants as sets
 use Rattle.jsgen_model.specs.declared.fault.TreeFault.TheVariants as faults
 use Rattle.jsgen_model.specs.Grammar.{Allowed}
-use Rattle.jsgen_model.specs.Plain.{IsCore, is_core_row, has_no_hole, keep_raw_texts}
+use Rattle.jsgen_model.specs.Plain.{has_no_hole, keep_raw_texts}
+use Rattle.jsgen_row_laws.proofs.CoreIn.{IsCoreIn, is_core_row}
 use Rattle.jsgen_model.specs.Resolved.{after}
 use Rattle.jsgen_model.specs.Templates.{is_raw, is_cooked, are_same}
 use Rattle.jsgen_model.specs.Valid.{Surroundings, ChildPlace, breaches, in_trees, span_faults, piece_faults, template_faults, is_one_more, any_uncooked}
@@ -36,9 +37,9 @@ same_units None us h = absurd (no_truth h)
 same_units (Some vs) us h = ap (λ ws. Some ws) ((bytes_eq-Decides vs us).0 h)
 
 -- without a tag it stands for something
-cooked_piece : (a : Atoms) (o : Option (List ℕ)) → template_element_cooked a ≡ o → IsCore (tree.template_element a) → is_raw (template_element_raw a) ≡ true → is_cooked (template_element_raw a) o ≡ true → not (is_some o) ≡ false → IsPiece false (tree.template_element a)
-cooked_piece a None e p r c n = absurd (no_falsehood n)
-cooked_piece a (Some us) e p r c n = family.a_piece p.0 r (same_units (string_value Backtick (template_element_raw a)) us c) e
+cooked_piece : (names : Tables) (a : Atoms) (o : Option (List ℕ)) → template_element_cooked a ≡ o → IsCoreIn names (tree.template_element a) → is_raw (template_element_raw a) ≡ true → is_cooked (template_element_raw a) o ≡ true → not (is_some o) ≡ false → IsPiece false (tree.template_element a)
+cooked_piece names a None e p r c n = absurd (no_falsehood n)
+cooked_piece names a (Some us) e p r c n = family.a_piece p.0 r (same_units (string_value Backtick (template_element_raw a)) us c) e
 
 -- what is asked of pieces, behind a tag or without one, and of one alone
 abbrev pub fits_tag : Bool → Trees → Bool
@@ -53,9 +54,9 @@ first_fits : (tagged : Bool) (a : Atoms) (qs : Trees) → fits_tag tagged (more 
 first_fits true a qs h = let k = and_parts (not (holds_close_tag (template_element_raw a))) (keep_raw_texts qs) h in (not-true (holds_close_tag (template_element_raw a)) k.0, k.1)
 first_fits false a qs h = let k = or_parts (not (is_some (template_element_cooked a))) (any_uncooked qs) (not-true (not (is_some (template_element_cooked a)) || any_uncooked qs) h) in (k.0, ap not k.1)
 
-piece_of : (tagged : Bool) (a : Atoms) → IsCore (tree.template_element a) → FitsTag tagged a → is_raw (template_element_raw a) ≡ true → is_cooked (template_element_raw a) (template_element_cooked a) ≡ true → IsPiece tagged (tree.template_element a)
-piece_of true a p f r c = family.a_tagged_piece p.0 r f
-piece_of false a p f r c = cooked_piece a (template_element_cooked a) refl p r c f
+piece_of : (names : Tables) (tagged : Bool) (a : Atoms) → IsCoreIn names (tree.template_element a) → FitsTag tagged a → is_raw (template_element_raw a) ≡ true → is_cooked (template_element_raw a) (template_element_cooked a) ≡ true → IsPiece tagged (tree.template_element a)
+piece_of names true a p f r c = family.a_tagged_piece p.0 r f
+piece_of names false a p f r c = cooked_piece names a (template_element_cooked a) refl p r c f
 
 -- ---- the pieces of a list
 
@@ -63,19 +64,19 @@ abbrev is_piece : Tree → Bool
 is_piece (tree.template_element a) = true
 is_piece t = false
 
-none_but_piece : (t : Tree) → is_core_row t ≡ true → is_template_element (type_of t) ≡ true → is_piece t ≡ false → ⊥
-none_but_piece (tree.template_element a) p s n = no_falsehood n
-none_but_piece t p s n = search (no_truth, no_truth_behind)
+none_but_piece : (names : Tables) (t : Tree) → is_core_row names t ≡ true → is_template_element (type_of t) ≡ true → is_piece t ≡ false → ⊥
+none_but_piece names (tree.template_element a) p s n = no_falsehood n
+none_but_piece names t p s n = search (no_truth, no_truth_behind)
 
-pieces_valid : (next : ℕ) (around : Surroundings) (others : List ChildPlace) (tagged : Bool) (qs : Trees) → has_no_hole qs ≡ true → EverywhereInTrees is_core_row qs → in_trees around (place_of sets.TemplateElement around ∷ others) next qs ≡ [] → fits_tag tagged qs ≡ true → EachPiece tagged qs
+pieces_valid : (next : ℕ) (around : Surroundings) (others : List ChildPlace) (tagged : Bool) (qs : Trees) → has_no_hole qs ≡ true → EverywhereInTrees (is_core_row around.tables) qs → in_trees around (place_of sets.TemplateElement around ∷ others) next qs ≡ [] → fits_tag tagged qs ≡ true → EachPiece tagged qs
 pieces_valid next around others tagged no_trees n p e f = no_piece
 pieces_valid next around others tagged (more (tree.template_element a) qs) n p e f =
     let k = placed next around sets.TemplateElement (tree.template_element a) _ e in
     let h = parts (span_faults around a.span) (piece_faults a.span (template_element_raw a) (template_element_cooked a)) [] k.1 in
     let r = and_parts (is_raw (template_element_raw a)) (is_cooked (template_element_raw a) (template_element_cooked a)) (none_unless (is_raw (template_element_raw a) && is_cooked (template_element_raw a) (template_element_cooked a)) (faults.Template a.span.start) h.0) in
     let g = first_fits tagged a qs f in
-    one_piece (piece_of tagged a p.0 g.0 r.0 r.1) (pieces_valid _ around others tagged qs n p.1 k.2 g.1)
-pieces_valid next around others tagged (more t qs) n p e f = absurd (none_but_piece t p.0.0 (placed next around sets.TemplateElement t _ e).0 refl)
+    one_piece (piece_of around.tables tagged a p.0 g.0 r.0 r.1) (pieces_valid _ around others tagged qs n p.1 k.2 g.1)
+pieces_valid next around others tagged (more t qs) n p e f = absurd (none_but_piece around.tables t p.0.0 (placed next around sets.TemplateElement t _ e).0 refl)
 pieces_valid next around others tagged (hole qs) n p e f = absurd (no_truth n)
 
 -- ---- the whole
@@ -113,16 +114,16 @@ tagged_pieces a no_piece v h = absurd (no_truth h)
 tagged_pieces a (one_piece {q} k ks) v h = tagged_since a k (behind q h ks v)
 
 -- its pieces and expressions, behind a tag or without one
-both_valid : (next : ℕ) (around : Surroundings) (tagged : Bool) (a : Atoms) (qs es : Trees) → EachBelow ValidExpression es → IsCore (tree.template_literal a qs es) → fits_tag tagged qs ≡ true → breaches around next (tree.template_literal a qs es) ≡ [] → EachPiece tagged qs × AreParts around.tables (allowed_in around) es × (is_one_more qs es ≡ true)
+both_valid : (next : ℕ) (around : Surroundings) (tagged : Bool) (a : Atoms) (qs es : Trees) → EachBelow ValidExpression es → IsCoreIn around.tables (tree.template_literal a qs es) → fits_tag tagged qs ≡ true → breaches around next (tree.template_literal a qs es) ≡ [] → EachPiece tagged qs × AreParts around.tables (allowed_in around) es × (is_one_more qs es ≡ true)
 both_valid next around tagged a qs es q p f e =
     let others : List ChildPlace = place_of sets.Expression around ∷ [] in
     let h = parts (span_faults around a.span) (template_faults a.span qs es) _ e in
     let k = none_both (in_trees around (place_of sets.TemplateElement around ∷ others) next qs) _ h.1 in
     let j = none_both (in_trees around others _ es) [] k.1 in
-    let n = and_parts (has_no_hole qs) (has_no_hole es) p.0 in
-    (pieces_valid next around others tagged qs n.0 p.1.0 k.0 f, parts_valid _ around es q n.1 p.1.1.0 j.0, none_unless (is_one_more qs es) (faults.Template a.span.start) h.0)
+    let n = and_parts (has_no_hole es) (has_no_hole qs) p.0 in
+    (pieces_valid next around others tagged qs n.1 p.1.0 k.0 f, parts_valid _ around es q n.0 p.1.1.0 j.0, none_unless (is_one_more qs es) (faults.Template a.span.start) h.0)
 
-pub template_valid : (next : ℕ) (around : Surroundings) (a : Atoms) (qs es : Trees) → EachBelow ValidExpression es → IsCore (tree.template_literal a qs es) → fits_there sets.Expression (tree.template_literal a qs es) ≡ true → breaches around next (tree.template_literal a qs es) ≡ [] → IsExpression around.tables (allowed_in around) (tree.template_literal a qs es)
+pub template_valid : (next : ℕ) (around : Surroundings) (a : Atoms) (qs es : Trees) → EachBelow ValidExpression es → IsCoreIn around.tables (tree.template_literal a qs es) → fits_there sets.Expression (tree.template_literal a qs es) ≡ true → breaches around next (tree.template_literal a qs es) ≡ [] → IsExpression around.tables (allowed_in around) (tree.template_literal a qs es)
 template_valid next around a qs es q p f e =
     let k = both_valid next around false a qs es q p (and_parts (not (any_uncooked qs)) true f).0 e in
     of_pieces a k.0 k.1 k.2
@@ -132,11 +133,11 @@ abbrev is_template : Tree → Bool
 is_template (tree.template_literal a qs es) = true
 is_template t = false
 
-none_but_template : (t : Tree) → is_core_row t ≡ true → is_template_literal (type_of t) ≡ true → is_template t ≡ false → ⊥
-none_but_template (tree.template_literal a qs es) p s n = no_falsehood n
-none_but_template t p s n = search (no_truth, no_truth_behind)
+none_but_template : (names : Tables) (t : Tree) → is_core_row names t ≡ true → is_template_literal (type_of t) ≡ true → is_template t ≡ false → ⊥
+none_but_template names (tree.template_literal a qs es) p s n = no_falsehood n
+none_but_template names t p s n = search (no_truth, no_truth_behind)
 
-pub tagged_template_valid : (next : ℕ) (around : Surroundings) (a : Atoms) (t u : Tree) → ValidExpression t → Below ValidExpression u → IsCore (tree.tagged_template a t u) → breaches around next (tree.tagged_template a t u) ≡ [] → IsExpression around.tables (allowed_in around) (tree.tagged_template a t u)
+pub tagged_template_valid : (next : ℕ) (around : Surroundings) (a : Atoms) (t u : Tree) → ValidExpression t → Below ValidExpression u → IsCoreIn around.tables (tree.tagged_template a t u) → breaches around next (tree.tagged_template a t u) ≡ [] → IsExpression around.tables (allowed_in around) (tree.tagged_template a t u)
 tagged_template_valid next around a t (tree.template_literal b qs es) v q p e =
     let i = standing _ around sets.Expression t _ (parts (span_faults around a.span) [] _ e).1 in
     let u = placed (after t next) around sets.TemplateLiteral (tree.template_literal b qs es) [] i.2 in
@@ -145,4 +146,4 @@ tagged_template_valid next around a t (tree.template_literal b qs es) v q p e =
     family.a_tagged_template (v _ around p.1.0 i.0 i.1) (tagged_pieces b k.0 k.1 k.2)
 tagged_template_valid next around a t u v q p e =
     let i = standing _ around sets.Expression t _ (parts (span_faults around a.span) [] _ e).1 in
-    absurd (none_but_template u p.1.1.0.0 (placed (after t next) around sets.TemplateLiteral u [] i.2).0 refl)
+    absurd (none_but_template around.tables u p.1.1.0.0 (placed (after t next) around sets.TemplateLiteral u [] i.2).0 refl)

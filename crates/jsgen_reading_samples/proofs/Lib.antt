@@ -8,3 +8,4 @@ pub mod Refused
 pub mod RefusedFunctions
 pub mod RefusedTexts
 pub mod RefusedVectors
+pub mod Hashbangs

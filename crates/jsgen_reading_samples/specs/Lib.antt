@@ -6,3 +6,4 @@ pub mod RefusedPatterns
 pub mod RefusedFunctions
 pub mod RefusedTexts
 pub mod RefusedVectors
+pub mod Hashbangs

@@ -6,6 +6,7 @@ ghost use Rattle.jsgen_reading_samples.specs.ReadPatterns.{ReadPatterns};
 ghost use Rattle.jsgen_reading_samples.specs.TargetPatterns.{TargetPatterns};
 ghost use Rattle.jsgen_reading_samples.specs.HeadPatterns.{HeadPatterns};
 ghost use Rattle.jsgen_reading_samples.specs.ReadFunctions.{ReadFunctions};
+ghost use Rattle.jsgen_reading_samples.specs.Hashbangs.{Hashbangs};
 ghost use Rattle.jsgen_reading_samples.specs.RefusedPatterns.{RefusedPatterns};
 ghost use Rattle.jsgen_reading_samples.specs.RefusedFunctions.{RefusedFunctions};
 ghost use Rattle.jsgen_reading_samples.specs.RefusedTexts.{RefusedTexts};
@@ -29,6 +30,11 @@ pub fn head_patterns()
 /// And async functions, generators, `await`, `yield` and loops that wait.
 pub fn read_functions()
     ensures { ReadFunctions }
+{}
+
+/// And a hashbang at the front of a text; one that stands elsewhere isn't read.
+pub fn first_lines()
+    ensures { Hashbangs }
 {}
 
 /// It doesn't read a few texts with patterns that ECMA-262 doesn't read.

@@ -1,5 +1,5 @@
 -- The first statement of a body is read as no directive.
-use Rattle.std.proofs.Common.{◌≡◌, ◌⊎◌, inl, inr, ℕ, Bool, true, false, cond, Option, Some, None, is_some, List, [], ◌∷◌, ◌++◌, refl, sym, ap, ◌∙◌, subst, append_assoc}
+use Rattle.std.proofs.Common.{◌≡◌, ◌⊎◌, inl, inr, ℕ, Bool, true, false, if◌then◌else◌, Option, Some, None, is_some, List, [], ◌∷◌, ◌++◌, refl, sym, ap, ◌∙◌, subst, append-nil, not}
 use Rattle.std.proofs.lemmas.Bool.{both_ways}
 use Rattle.jsgen_syntax.specs.Strings.{quoted, escaped, is_backtick, string_value}
 use Rattle.jsgen_syntax.specs.Wtf8.{are_units}
@@ -17,8 +17,8 @@ use Rattle.jsgen_tree.specs.declared.functions.FunctionKind.{FunctionKind}
 use Rattle.jsgen_tree.specs.declared.classes.ClassKind.{ClassKind}
 use Rattle.jsgen_model.specs.Punctuator.{semicolon, Round, opening, closing}
 use Rattle.jsgen_model.specs.Tokens.{Tokens, done, piece, group, ◌⧺◌, Quoted, Sign}
-use Rattle.jsgen_model.specs.Items.{Items, first_string, due_semicolon, ◌⊕◌, statement_begins}
-use Rattle.jsgen_model.specs.Layout.{Pen, layout, written, other_end, statement}
+use Rattle.jsgen_model.specs.Items.{Items, first_string, parentheses_unless_minified, due_semicolon, ◌⊕◌, statement_begins}
+use Rattle.jsgen_model.specs.Layout.{Pen, layout, written, written_if, other_end, statement}
 use Rattle.jsgen_model.specs.Grammar.{Allowed, EndsBy, ReadsFunction, ReadsClass, ReadsStatement, ReadsItem, ReadsBody, starts_with_directive, ReadsStatements, starts_statement}
 use Rattle.jsgen_model.specs.Grammar as grammar
 use Rattle.jsgen_model.specs.Normal.{normal, nothing_of}
@@ -26,8 +26,8 @@ use Rattle.jsgen_model.specs.Renamed.{renamed, renamed_trees}
 use Rattle.jsgen_place.specs.Place.{among_statements, in_brackets}
 use Rattle.jsgen_model.specs.Spell.{spell, spell_body, spell_statements, string_in, unless_string, first_statement}
 use Rattle.jsgen_token_laws.proofs.Last.{Last, Open, After, line_of}
-use Rattle.jsgen_token_laws.proofs.Writes.{wrote_none, wrote_both, wrote_brackets, then_assoc, then_done}
-use Rattle.jsgen_token_laws.proofs.Steps.{gap, begins_written, none_due, wrote_quoted, within_brackets}
+use Rattle.jsgen_token_laws.proofs.Writes.{wrote_none, wrote_both, then_assoc, then_done}
+use Rattle.jsgen_token_laws.proofs.Steps.{gap, begins_written, none_due, wrote_quoted, opened, parentheses_written}
 use Rattle.jsgen_row_laws.proofs.Levels.{from_primary}
 use Rattle.jsgen_row_laws.proofs.Families.{IsInBackticks, IsItem}
 use Rattle.jsgen_row_laws.proofs.Families as family
@@ -113,7 +113,7 @@ no_string_first t f n p l z y k = stands_since (λ e ts u s r. (r, item_apart r 
 -- ---- a string alone
 
 -- its tokens: a string in parentheses, or one in backticks
-string_written : {names : Tables} (c : Allowed) (a : Atoms) (e : Tree) (us : List ℕ) → are_units us ≡ true → normal (renamed names e) ≡ tree.string_literal (bare (units us ∷ [])) → UnendedAt names (First c) (SameTree names (tree.expression_statement a e)) (first_string us)
+string_written : {names : Tables} (c : Allowed) (a : Atoms) (e : Tree) (us : List ℕ) → are_units us ≡ true → normal (renamed names e) ≡ tree.string_literal (bare (units us ∷ [])) → UnendedAt names (First c) (SameTree names (tree.expression_statement a e)) (parentheses_unless_minified (first_string us))
 string_written {names} c a e us h s p l z y k = go p.style.minified
   where
     text_of : Quote → List ℕ
@@ -125,11 +125,11 @@ string_written {names} c a e us h s p l z y k = go p.style.minified
     of_text : Quote → List ℕ
     of_text q = quoted q p.style.ascii us
 
-    go : (b : Bool) → Unended names (First c) (SameTree names (tree.expression_statement a e)) p l (written (cond b (of_text Backtick) (opening Round ++ (of_text p.style.quote ++ closing Round))) other_end p)
+    go : (b : Bool) → Unended names (First c) (SameTree names (tree.expression_statement a e)) p l (written_if (not b) (closing Round) (written (of_text (if b then Backtick else p.style.quote)) other_end (written_if (not b) (opening Round) p)))
     go true = record {
       last = After (Quoted Backtick (text_of Backtick));
       tokens = piece (line_of l) (Quoted Backtick (text_of Backtick)) done;
-      writes = wrote_quoted Backtick (text_of Backtick) us p (written (of_text Backtick) other_end p) l (valued Backtick) refl refl k;
+      writes = wrote_quoted Backtick (text_of Backtick) us p (written_if false (closing Round) (written (of_text Backtick) other_end (written_if false (opening Round) p))) l (valued Backtick) (append-nil _ ∙ ap (λ code. code ++ of_text Backtick) (append-nil p.code)) refl k;
       ready = tt;
       semicolon = z;
       reading = tree.expression_statement (nothing_of 0) (tree.string_literal (bare (units us ∷ [])));
@@ -143,23 +143,19 @@ string_written {names} c a e us h s p l z y k = go p.style.minified
         in_backticks r = refl
     go false =
         let q : Quote = p.style.quote in
-        let p1 : Pen = written (opening Round) other_end p in
+        let p1 : Pen = written_if true (opening Round) p in
         let p2 : Pen = written (of_text q) other_end p1 in
-        let r : Pen = written (opening Round ++ (of_text q ++ closing Round)) other_end p in
-        let w = wrote_quoted q (text_of q) us p1 p2 (Open false) (valued q) refl refl (within_brackets Round p l k) in
+        let w = wrote_quoted q (text_of q) us p1 p2 (Open false) (valued q) refl refl (opened p l k) in
         record {
           last = Open false;
           tokens = group (line_of l) Round (piece false (Quoted q (text_of q)) done) done;
-          writes = wrote_brackets Round p p1 p2 r l (After (Quoted q (text_of q))) (piece false (Quoted q (text_of q)) done) refl (in_order p.code (opening Round) (of_text q) (closing Round)) (record { indent = k.indent; tables = k.tables; ending = tt }) w;
+          writes = parentheses_written p p2 l (After (Quoted q (text_of q))) (piece false (Quoted q (text_of q)) done) w;
           ready = tt;
           semicolon = z;
           reading = tree.expression_statement (nothing_of 0) (tree.parenthesized (nothing_of 0) (tree.string_literal (bare (units us ∷ []))));
           reads = record { read = λ e ts x. (grammar.a_statement (grammar.an_expression_statement x refl (from_primary (in_brackets levels.Lowest) (grammar.in_parentheses (from_primary (in_brackets levels.Lowest) (grammar.a_string (valued q)))))), end_apart x (λ d. refl)) };
           same = ap (λ x. tree.expression_statement (nothing_of 0) x) (sym s);
         }
-      where
-        in_order : (a b d e : List ℕ) → a ++ (b ++ (d ++ e)) ≡ ((a ++ b) ++ d) ++ e
-        in_order a b d e = sym (append_assoc (a ++ b) d e ∙ append_assoc a b (d ++ e))
 
 -- ---- a template of one piece
 
@@ -188,7 +184,7 @@ pub first_stated : {names : Tables} {c : Allowed} {t : Tree} → IsItem names c 
 first_stated {names} {c} (family.a_statement (family.an_expression_statement {a} {e} v)) f = go (string_in (without_parentheses e)) refl
   where
     go : (o : Option (List ℕ)) → string_in (without_parentheses e) ≡ o → StandsAt names (First c) (SameTree names (tree.expression_statement a e)) (unless_string a.span (span_of (without_parentheses e)) o (spell (tree.expression_statement a e) among_statements))
-    go (Some us) s = let k = (asked v).inside us s in whole_line (first_string us) (string_written c a e us k.0 k.1)
+    go (Some us) s = let k = (asked v).inside us s in whole_line (parentheses_unless_minified (first_string us)) (string_written c a e us k.0 k.1)
     go None s = unless_template (asked v).string
       where
         unless_template : IsInBackticks e ⊎ (is_string (normal (renamed names e)) ≡ is_some (string_in (without_parentheses e))) → StandsAt names (First c) (SameTree names (tree.expression_statement a e)) (spell (tree.expression_statement a e) among_statements)

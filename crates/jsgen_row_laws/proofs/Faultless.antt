@@ -25,12 +25,13 @@ use Rattle.jsgen_model.specs.declared.fault.TreeFault.{TreeFault}
 use Rattle.jsgen_model.specs.declared.fault.TreeFault.TheVariants as faults
 use Rattle.jsgen_model.specs.Numbers.{is_raw_number, is_big_integer}
 use Rattle.jsgen_model.specs.Grammar.{Allowed}
-use Rattle.jsgen_model.specs.Plain.{IsCore, is_core_row, is_number, is_raw, has_no_hole}
+use Rattle.jsgen_model.specs.Plain.{is_number, is_raw_text, has_no_hole}
+use Rattle.jsgen_row_laws.proofs.CoreIn.{IsCoreIn, is_core_row}
 use Rattle.jsgen_model.specs.Normal.{or_none, directive_units}
 use Rattle.jsgen_tree.specs.declared.functions.FunctionKind.{FunctionKind}
 use Rattle.jsgen_tree.specs.declared.functions.FunctionKind.TheVariants as kinds
 use Rattle.jsgen_model.specs.Resolved.{after}
-use Rattle.jsgen_model.specs.Valid.{Surroundings, ChildPlace, shorthand_name_faults, object_rest_faults, assigns_alone, is_target_pattern, is_super, is_default, has_place, may_stand, breaches, in_maybe, in_trees, fault_if, fits_kind, set_faults, span_faults, body_faults, is_in_tables, name_faults, directive_faults, written_name_faults, number_faults, big_integer_faults, is_literal_key, may_be_key, key_faults, method_faults, fits_accessor, fits_words, within_nothing, within_function, within_arrow, within_braces, shorthand_faults, await_faults, yield_faults, takes_optional_link, link_faults, super_faults, is_one_name, is_lexical_word, label_faults, try_faults, stands_among, same_kind, function_faults, fits_method, declaration_faults, as_function_kind, uncooked_faults, is_module_item, is_default_export, fits_place, may_be_pattern_key, pattern_key_faults, rest_faults, is_binding_name, has_uncooked, takes_uncooked}
+use Rattle.jsgen_model.specs.Valid.{Surroundings, ChildPlace, shorthand_name_faults, object_rest_faults, assigns_alone, is_target_pattern, is_super, is_default, has_place, may_stand, breaches, in_maybe, in_trees, fault_if, fits_kind, misfit, set_faults, span_faults, body_faults, is_in_tables, name_faults, directive_faults, written_name_faults, number_faults, big_integer_faults, is_literal_key, may_be_key, key_faults, method_faults, fits_accessor, fits_words, within_nothing, within_function, within_arrow, within_braces, shorthand_faults, await_faults, yield_faults, takes_optional_link, link_faults, super_faults, is_one_name, is_lexical_word, label_faults, try_faults, stands_among, same_kind, function_faults, fits_method, declaration_faults, as_function_kind, uncooked_faults, is_module_item, is_default_export, fits_place, may_be_pattern_key, pattern_key_faults, rest_faults, is_binding_name, has_uncooked, takes_uncooked}
 use Rattle.jsgen_row_laws.proofs.Families.{has_value, IsLink, IsExpression, IsChain, IsChainBase, IsKey, IsBinding, IsBindingElement, IsNameOfRest, IsTarget, IsTargetElement, IsTargetRest, IsSimpleRest, IsPattern, IsDeclarator, AreDeclarators, IsStatement, IsLeft, IsLabel, AreEndsOfTry, IsHandler, IsBlock, IsItem, AreDirectives, HasName, IsProperty, allowed_in}
 use Rattle.jsgen_row_laws.proofs.Families as family
 
@@ -65,9 +66,9 @@ StandsAt s t = (may_stand s (type_of t) ≡ true) × ((not (takes_optional_link 
 
 pub stands_at : (s : NodeSet) (t : Tree) → set_faults s t ≡ [] → StandsAt s t
 stands_at s t e =
-    let h = none_both (fault_if (not (may_stand s (type_of t) && fits_kind s t)) (faults.Place (span_of t).start)) (link_faults s t ++ uncooked_faults s t) e in
+    let h = none_both (fault_if (not (may_stand s (type_of t) && fits_kind s t)) (faults.Place (misfit s t).start)) (link_faults s t ++ uncooked_faults s t) e in
     let l = none_both (link_faults s t) (uncooked_faults s t) h.1 in
-    let k = and_parts (may_stand s (type_of t)) (fits_kind s t) (none_unless (may_stand s (type_of t) && fits_kind s t) (faults.Place (span_of t).start) h.0) in
+    let k = and_parts (may_stand s (type_of t)) (fits_kind s t) (none_unless (may_stand s (type_of t) && fits_kind s t) (faults.Place (misfit s t).start) h.0) in
     (k.0, none_if (not (takes_optional_link s) && has_optional_link t) (faults.Place (span_of t).start) l.0, and_from (not (not (takes_uncooked s) && has_uncooked t)) (fits_kind s t) (ap not (none_if (not (takes_uncooked s) && has_uncooked t) (faults.Template (span_of t).start) l.1)) k.1)
 
 fits_as_expression : (s : NodeSet) (kind : FunctionKind) (named : Bool) → stands_among s ≡ kinds.Expression → is_default_export s ≡ false → fits_place s kind named ≡ true → fits_place sets.Expression kind named ≡ true
@@ -135,7 +136,7 @@ unset false e = refl
 -- ---- the rows of expressions
 
 -- the name of a member
-pub member_valid : (next : ℕ) (around : Surroundings) (n : Tree) (P : Tree → Type 0) → IsCore n → is_identifier_name (type_of n) ≡ true → breaches around next n ≡ [] → ((b : Atoms) → spells_name (identifier_name_name b) ≡ true → P (tree.identifier_name b)) → P n
+pub member_valid : (next : ℕ) (around : Surroundings) (n : Tree) (P : Tree → Type 0) → IsCoreIn around.tables n → is_identifier_name (type_of n) ≡ true → breaches around next n ≡ [] → ((b : Atoms) → spells_name (identifier_name_name b) ≡ true → P (tree.identifier_name b)) → P n
 member_valid next around (tree.identifier_name b) P p s e f = f b (none_unless (spells_name (identifier_name_name b)) (faults.Name b.span.start) (parts (span_faults around b.span) (written_name_faults b.span (identifier_name_name b)) [] e).0)
 member_valid next around n P p s e f = absurd (search no_truth)
 
@@ -144,24 +145,24 @@ abbrev pub is_spread : Tree → Bool
 is_spread (tree.spread a t) = true
 is_spread t = false
 
-pub none_other : (t : Tree) → is_core_row t ≡ true → is_argument (type_of t) ≡ true → is_spread t ≡ false → is_expression (type_of t) ≡ false → ⊥
-none_other (tree.spread a t) p s n e = no_falsehood n
-none_other t p s n e = search (no_truth, no_falsehood)
+pub none_other : (names : Tables) (t : Tree) → is_core_row names t ≡ true → is_argument (type_of t) ≡ true → is_spread t ≡ false → is_expression (type_of t) ≡ false → ⊥
+none_other names (tree.spread a t) p s n e = no_falsehood n
+none_other names t p s n e = search (no_truth, no_falsehood)
 
-pub expression_type : (t : Tree) → is_core_row t ≡ true → is_argument (type_of t) ≡ true → is_spread t ≡ false → is_expression (type_of t) ≡ true
-expression_type t p s n = by (is_expression (type_of t)) refl
+pub expression_type : (names : Tables) (t : Tree) → is_core_row names t ≡ true → is_argument (type_of t) ≡ true → is_spread t ≡ false → is_expression (type_of t) ≡ true
+expression_type names t p s n = by (is_expression (type_of t)) refl
   where
     by : (b : Bool) → is_expression (type_of t) ≡ b → b ≡ true
     by true e = refl
-    by false e = absurd (none_other t p s n e)
+    by false e = absurd (none_other names t p s n e)
 
 -- and so it is no `super`, which no argument is
-pub argument_stands : (t : Tree) → is_core_row t ≡ true → StandsAt sets.Argument t → is_spread t ≡ false → StandsAt sets.Expression t
-argument_stands t p s n = let h = and_parts (is_argument (type_of t)) (has_place sets.Expression (type_of t)) s.0 in (and_from (is_expression (type_of t)) (has_place sets.Expression (type_of t)) (expression_type t p h.0 n) h.1, s.1, fits_expression sets.Argument t refl refl refl s.2)
+pub argument_stands : (names : Tables) (t : Tree) → is_core_row names t ≡ true → StandsAt sets.Argument t → is_spread t ≡ false → StandsAt sets.Expression t
+argument_stands names t p s n = let h = and_parts (is_argument (type_of t)) (has_place sets.Expression (type_of t)) s.0 in (and_from (is_expression (type_of t)) (has_place sets.Expression (type_of t)) (expression_type names t p h.0 n) h.1, s.1, fits_expression sets.Argument t refl refl refl s.2)
 
 -- of arguments, and of an array's elements, the first that isn't spread, and the others
-pub argument_parts : (next : ℕ) (around : Surroundings) (t : Tree) (ts : Trees) → is_core_row t ≡ true → is_spread t ≡ false → in_trees around (place_of sets.Argument around ∷ []) next (more t ts) ≡ [] → StandsAt sets.Expression t × (breaches around next t ≡ []) × (in_trees around (place_of sets.Argument around ∷ []) (after t next) ts ≡ [])
-argument_parts next around t ts p s e = let k = standing next around sets.Argument t (in_trees around (place_of sets.Argument around ∷ []) (after t next) ts) e in (argument_stands t p k.0 s, k.1, k.2)
+pub argument_parts : (next : ℕ) (around : Surroundings) (t : Tree) (ts : Trees) → is_core_row around.tables t ≡ true → is_spread t ≡ false → in_trees around (place_of sets.Argument around ∷ []) next (more t ts) ≡ [] → StandsAt sets.Expression t × (breaches around next t ≡ []) × (in_trees around (place_of sets.Argument around ∷ []) (after t next) ts ≡ [])
+argument_parts next around t ts p s e = let k = standing next around sets.Argument t (in_trees around (place_of sets.Argument around ∷ []) (after t next) ts) e in (argument_stands around.tables t p k.0 s, k.1, k.2)
 
 element_type : (type : NodeType) → in_set sets.ArrayExpressionElement type ≡ true → is_argument type ≡ true
 element_type types.SpreadElement h = refl
@@ -172,8 +173,8 @@ element_stands t s =
     let h = and_parts (in_set sets.ArrayExpressionElement (type_of t)) (has_place sets.Expression (type_of t)) s.0 in
     (and_from (is_argument (type_of t)) (has_place sets.Expression (type_of t)) (element_type (type_of t) h.0) h.1, s.1, fits_expression sets.ArrayExpressionElement t refl refl refl s.2)
 
-pub element_parts : (next : ℕ) (around : Surroundings) (t : Tree) (ts : Trees) → is_core_row t ≡ true → is_spread t ≡ false → in_trees around (place_of sets.ArrayExpressionElement around ∷ []) next (more t ts) ≡ [] → StandsAt sets.Expression t × (breaches around next t ≡ []) × (in_trees around (place_of sets.ArrayExpressionElement around ∷ []) (after t next) ts ≡ [])
-element_parts next around t ts p s e = let k = standing next around sets.ArrayExpressionElement t (in_trees around (place_of sets.ArrayExpressionElement around ∷ []) (after t next) ts) e in (argument_stands t p (element_stands t k.0) s, k.1, k.2)
+pub element_parts : (next : ℕ) (around : Surroundings) (t : Tree) (ts : Trees) → is_core_row around.tables t ≡ true → is_spread t ≡ false → in_trees around (place_of sets.ArrayExpressionElement around ∷ []) next (more t ts) ≡ [] → StandsAt sets.Expression t × (breaches around next t ≡ []) × (in_trees around (place_of sets.ArrayExpressionElement around ∷ []) (after t next) ts ≡ [])
+element_parts next around t ts p s e = let k = standing next around sets.ArrayExpressionElement t (in_trees around (place_of sets.ArrayExpressionElement around ∷ []) (after t next) ts) e in (argument_stands around.tables t p (element_stands t k.0) s, k.1, k.2)
 
 -- what stands behind an arrow is an expression, or a body in braces
 pub arrow_body_stands : (t : Tree) → is_function_body (type_of t) ≡ false → StandsAt sets.ArrowFunctionBody t → StandsAt sets.Expression t
@@ -182,14 +183,14 @@ arrow_body_stands t n s = (s.0, s.1, fits_expression sets.ArrowFunctionBody t re
 
 -- the parameters and the expression of an arrow function, where nothing is at fault
 pub record ArrowParts (around : Surroundings) (a : Atoms) (ps t : Tree) : Type 0 where
-  pub core_parameters : IsCore ps
+  pub core_parameters : IsCoreIn around.tables ps
   pub are_parameters : is_formal_parameters (type_of ps) ≡ true
   pub parameters : (next : ℕ) × (breaches (within_nothing around) next ps ≡ [])
-  pub core_body : IsCore t
+  pub core_body : IsCoreIn around.tables t
   pub stands : StandsAt sets.Expression t
   pub body : (next : ℕ) × (breaches (within_arrow (arrow_function_expression_is_async a) around) next t ≡ [])
 
-pub arrow_parts : (next : ℕ) (around : Surroundings) (a : Atoms) (ps t : Tree) → IsCore (tree.arrow_function a ps t) → is_function_body (type_of t) ≡ false → breaches around next (tree.arrow_function a ps t) ≡ [] → ArrowParts around a ps t
+pub arrow_parts : (next : ℕ) (around : Surroundings) (a : Atoms) (ps t : Tree) → IsCoreIn around.tables (tree.arrow_function a ps t) → is_function_body (type_of t) ≡ false → breaches around next (tree.arrow_function a ps t) ≡ [] → ArrowParts around a ps t
 arrow_parts next around a ps t p n e =
     let outside : Surroundings = within_nothing around in
     let within : Surroundings = within_arrow (arrow_function_expression_is_async a) around in
@@ -233,22 +234,22 @@ is_pattern_or_default (tree.object_target a properties rest) = true
 is_pattern_or_default (tree.target_with_default a binding init) = true
 is_pattern_or_default t = false
 
-none_other_target : (t : Tree) → is_core_row t ≡ true → is_assignment_target_maybe_default (type_of t) ≡ true → is_pattern_or_default t ≡ false → is_simple_assignment_target (type_of t) ≡ false → ⊥
-none_other_target (tree.array_target a elements rest) p s n e = no_falsehood n
-none_other_target (tree.object_target a properties rest) p s n e = no_falsehood n
-none_other_target (tree.target_with_default a binding init) p s n e = no_falsehood n
-none_other_target t p s n e = search (no_truth, no_falsehood, no_truth_behind)
+none_other_target : (names : Tables) (t : Tree) → is_core_row names t ≡ true → is_assignment_target_maybe_default (type_of t) ≡ true → is_pattern_or_default t ≡ false → is_simple_assignment_target (type_of t) ≡ false → ⊥
+none_other_target names (tree.array_target a elements rest) p s n e = no_falsehood n
+none_other_target names (tree.object_target a properties rest) p s n e = no_falsehood n
+none_other_target names (tree.target_with_default a binding init) p s n e = no_falsehood n
+none_other_target names t p s n e = search (no_truth, no_falsehood, no_truth_behind)
 
 -- what is no pattern and has no default is a name or a member
-simple_otherwise : (t : Tree) → is_core_row t ≡ true → is_assignment_target_maybe_default (type_of t) ≡ true → is_pattern_or_default t ≡ false → is_simple_assignment_target (type_of t) ≡ true
-simple_otherwise t p s n = by (is_simple_assignment_target (type_of t)) refl
+simple_otherwise : (names : Tables) (t : Tree) → is_core_row names t ≡ true → is_assignment_target_maybe_default (type_of t) ≡ true → is_pattern_or_default t ≡ false → is_simple_assignment_target (type_of t) ≡ true
+simple_otherwise names t p s n = by (is_simple_assignment_target (type_of t)) refl
   where
     by : (b : Bool) → is_simple_assignment_target (type_of t) ≡ b → b ≡ true
     by true e = refl
-    by false e = absurd (none_other_target t p s n e)
+    by false e = absurd (none_other_target names t p s n e)
 
-pub other_element : {names : Tables} {c : Allowed} (t : Tree) → is_core_row t ≡ true → is_assignment_target_maybe_default (type_of t) ≡ true → is_pattern_or_default t ≡ false → has_optional_link t ≡ false → (StandsAt sets.Expression t → IsExpression names c t) → IsTargetElement names c t
-other_element t p s o n g = let i = simple_otherwise t p s o in family.a_target_alone (family.a_simple_target i (g (target_stands (type_of t) i, n, target_fits t i)))
+pub other_element : {names : Tables} {c : Allowed} (t : Tree) → is_core_row names t ≡ true → is_assignment_target_maybe_default (type_of t) ≡ true → is_pattern_or_default t ≡ false → has_optional_link t ≡ false → (StandsAt sets.Expression t → IsExpression names c t) → IsTargetElement names c t
+other_element {names} t p s o n g = let i = simple_otherwise names t p s o in family.a_target_alone (family.a_simple_target i (g (target_stands (type_of t) i, n, target_fits t i)))
 
 -- a target is one that may have a default
 pub target_as_element : (type : NodeType) → is_assignment_target type ≡ true → is_assignment_target_maybe_default type ≡ true
@@ -285,7 +286,7 @@ assignment_valid {a = a} {t} (family.a_target_pattern v) n w = family.an_assignm
     alone true false e f = absurd (no_truth f)
 
 -- the reference of a property of its name
-pub own_name_valid : (next : ℕ) (around : Surroundings) (n : Tree) (P : Tree → Type 0) → IsCore n → is_identifier_reference (type_of n) ≡ true → shorthand_name_faults n ≡ [] → breaches around next n ≡ [] → ((b : Atoms) → spells_name (identifier_reference_name b) ≡ true → is_free_name (printed_name around.tables (reference_named b)) ≡ true → P (tree.identifier_reference b)) → P n
+pub own_name_valid : (next : ℕ) (around : Surroundings) (n : Tree) (P : Tree → Type 0) → IsCoreIn around.tables n → is_identifier_reference (type_of n) ≡ true → shorthand_name_faults n ≡ [] → breaches around next n ≡ [] → ((b : Atoms) → spells_name (identifier_reference_name b) ≡ true → is_free_name (printed_name around.tables (reference_named b)) ≡ true → P (tree.identifier_reference b)) → P n
 own_name_valid next around (tree.identifier_reference b) P p s w e f = f b (none_unless (spells_name (identifier_reference_name b)) (faults.Name b.span.start) w) (free_since around b.span (reference_named b) (parts (span_faults around b.span) (name_faults around.tables b.span (reference_named b)) [] e).0)
 own_name_valid next around n P p s w e f = absurd (search no_truth)
 
@@ -294,9 +295,9 @@ abbrev pub is_target_rest : Tree → Bool
 is_target_rest (tree.target_rest a target) = true
 is_target_rest t = false
 
-pub none_but_rest : (t : Tree) → is_core_row t ≡ true → is_assignment_target_rest (type_of t) ≡ true → is_target_rest t ≡ false → ⊥
-none_but_rest (tree.target_rest a target) p s n = no_falsehood n
-none_but_rest t p s n = search (no_truth, no_truth_behind)
+pub none_but_rest : (names : Tables) (t : Tree) → is_core_row names t ≡ true → is_assignment_target_rest (type_of t) ≡ true → is_target_rest t ≡ false → ⊥
+none_but_rest names (tree.target_rest a target) p s n = no_falsehood n
+none_but_rest names t p s n = search (no_truth, no_truth_behind)
 
 -- so is each property of a target
 abbrev pub is_target_property : Tree → Bool
@@ -304,17 +305,17 @@ is_target_property (tree.target_property_identifier a binding init) = true
 is_target_property (tree.target_property a key binding) = true
 is_target_property t = false
 
-pub none_but_property : (t : Tree) → is_core_row t ≡ true → is_assignment_target_property (type_of t) ≡ true → is_target_property t ≡ false → ⊥
-none_but_property (tree.target_property_identifier a binding init) p s n = no_falsehood n
-none_but_property (tree.target_property a key binding) p s n = no_falsehood n
-none_but_property t p s n = search (no_truth, no_truth_behind)
+pub none_but_property : (names : Tables) (t : Tree) → is_core_row names t ≡ true → is_assignment_target_property (type_of t) ≡ true → is_target_property t ≡ false → ⊥
+none_but_property names (tree.target_property_identifier a binding init) p s n = no_falsehood n
+none_but_property names (tree.target_property a key binding) p s n = no_falsehood n
+none_but_property names t p s n = search (no_truth, no_truth_behind)
 
 pub left_since : {names : Tables} {c : Allowed} {t : Tree} → IsTarget names c t → IsLeft names c t
 left_since (family.a_simple_target i v) = family.a_target i v
 left_since (family.a_target_pattern v) = family.a_left_pattern v
 
 -- what a link goes on from is `super`, or may stand anywhere
-pub link_valid : {names : Tables} (c : Allowed) (t : Tree) → IsCore t → StandsAt sets.Link t → has_optional_link t ≡ false → (StandsAt sets.Expression t → IsExpression names c t) → IsLink names c t
+pub link_valid : {names : Tables} (c : Allowed) (t : Tree) → IsCoreIn names t → StandsAt sets.Link t → has_optional_link t ≡ false → (StandsAt sets.Expression t → IsExpression names c t) → IsLink names c t
 link_valid c (tree.super a) p s n f = family.a_super
 link_valid c (node types.Super a slots) p s n f = absurd (no_truth p.0)
 link_valid c t p s n f = family.an_operand (f (s.0, n, fits_expression sets.Link t refl refl refl s.2))
@@ -338,13 +339,13 @@ is_in_object (tree.spread a t) = true
 is_in_object (tree.object_property a k v) = true
 is_in_object t = false
 
-pub none_in_object : (t : Tree) → is_core_row t ≡ true → is_object_property_kind (type_of t) ≡ true → is_in_object t ≡ false → ⊥
-none_in_object (tree.spread a t) p s n = no_falsehood n
-none_in_object (tree.object_property a k v) p s n = no_falsehood n
-none_in_object t p s n = search no_truth
+pub none_in_object : (names : Tables) (t : Tree) → is_core_row names t ≡ true → is_object_property_kind (type_of t) ≡ true → is_in_object t ≡ false → ⊥
+none_in_object names (tree.spread a t) p s n = no_falsehood n
+none_in_object names (tree.object_property a k v) p s n = no_falsehood n
+none_in_object names t p s n = search no_truth
 
-pub none_among_properties : (next : ℕ) (around : Surroundings) (t : Tree) (ts : Trees) → is_core_row t ≡ true → is_in_object t ≡ false → in_trees around (place_of sets.ObjectPropertyKind around ∷ []) next (more t ts) ≡ [] → ⊥
-none_among_properties next around t ts p n e = none_in_object t p (placed next around sets.ObjectPropertyKind t (in_trees around (place_of sets.ObjectPropertyKind around ∷ []) (after t next) ts) e).0 n
+pub none_among_properties : (next : ℕ) (around : Surroundings) (t : Tree) (ts : Trees) → is_core_row around.tables t ≡ true → is_in_object t ≡ false → in_trees around (place_of sets.ObjectPropertyKind around ∷ []) next (more t ts) ≡ [] → ⊥
+none_among_properties next around t ts p n e = none_in_object around.tables t p (placed next around sets.ObjectPropertyKind t (in_trees around (place_of sets.ObjectPropertyKind around ∷ []) (after t next) ts) e).0 n
 
 -- of a property that is a method or an accessor, or of another
 abbrev pub rest_of_property : Tables → Atoms → Tree → Tree → Bool → List TreeFault
@@ -365,14 +366,14 @@ pub number_valued : (kind : NumericKind) (a : Atoms) → is_number kind a ≡ tr
 number_valued Whole a p e = p
 number_valued Raw a p e = none_unless (is_raw_number (numeric_literal_text a)) (faults.Literal a.span.start) e
 
-pub literal_key_valid : (next : ℕ) (c : Allowed) (around : Surroundings) (k : Tree) → IsCore k → is_literal_key (type_of k) ≡ true → is_negative_big_integer k ≡ false → breaches around next k ≡ [] → IsKey around.tables c false k
+pub literal_key_valid : (next : ℕ) (c : Allowed) (around : Surroundings) (k : Tree) → IsCoreIn around.tables k → is_literal_key (type_of k) ≡ true → is_negative_big_integer k ≡ false → breaches around next k ≡ [] → IsKey around.tables c false k
 literal_key_valid next c around (tree.identifier_name a) p s m e = family.a_name_key (none_unless (spells_name (identifier_name_name a)) (faults.Name a.span.start) (parts (span_faults around a.span) (written_name_faults a.span (identifier_name_name a)) [] e).0)
 literal_key_valid next c around (tree.string_literal a) p s m e = family.a_string_key p.0
 literal_key_valid next c around (tree.numeric_literal a) p s m e = family.a_number_key (number_valued (numeric_literal_kind a) a p.0 (parts (span_faults around a.span) (number_faults a.span (numeric_literal_kind a) (numeric_literal_text a)) [] e).0)
 literal_key_valid next c around (tree.big_int_literal a) p s m e = family.a_big_integer_key (big_valued next around a e) m
 literal_key_valid next c around k p s m e = absurd (search no_truth)
 
-pub key_valid : (next : ℕ) (c : Allowed) (around : Surroundings) (computed : Bool) (k : Tree) → IsCore k → key_faults computed k ≡ [] → breaches around next k ≡ [] → (is_expression (type_of k) ≡ true → IsExpression around.tables c k) → IsKey around.tables c computed k
+pub key_valid : (next : ℕ) (c : Allowed) (around : Surroundings) (computed : Bool) (k : Tree) → IsCoreIn around.tables k → key_faults computed k ≡ [] → breaches around next k ≡ [] → (is_expression (type_of k) ≡ true → IsExpression around.tables c k) → IsKey around.tables c computed k
 key_valid next c around true k p f e h = family.a_computed_key (h (none_unless (is_expression (type_of k)) (faults.Place (span_of k).start) f))
 key_valid next c around false k p f e h =
     let m = and_parts (is_literal_key (type_of k)) (not (is_negative_big_integer k)) (none_unless (may_be_key false k) (faults.Place (span_of k).start) f) in
@@ -409,24 +410,24 @@ pattern_key false k f =
     (ap (λ b. fault_if (not b) (faults.Place (span_of k).start)) h.0, not-true (is_negative_number k) h.1)
 
 -- what takes the rest of an object is a name
-bound_name_valid : (next : ℕ) (around : Surroundings) (a : Atoms) (t : Tree) → IsCore t → is_binding_name (type_of t) ≡ true → breaches around next t ≡ [] → IsNameOfRest around.tables (given (tree.binding_rest_element a t))
+bound_name_valid : (next : ℕ) (around : Surroundings) (a : Atoms) (t : Tree) → IsCoreIn around.tables t → is_binding_name (type_of t) ≡ true → breaches around next t ≡ [] → IsNameOfRest around.tables (given (tree.binding_rest_element a t))
 bound_name_valid next around a (tree.binding_identifier d) p s e = family.a_name_of_rest (free_since around d.span (binding_named d) (parts (span_faults around d.span) (name_faults around.tables d.span (binding_named d)) [] e).0)
 bound_name_valid next around a t p s e = absurd (search no_truth)
 
-some_name_of_rest : (next : ℕ) (around : Surroundings) (t : Tree) → IsCore t → is_binding_rest_element (type_of t) ≡ true → rest_faults (given t) ≡ [] → breaches around next t ≡ [] → IsNameOfRest around.tables (given t)
+some_name_of_rest : (next : ℕ) (around : Surroundings) (t : Tree) → IsCoreIn around.tables t → is_binding_rest_element (type_of t) ≡ true → rest_faults (given t) ≡ [] → breaches around next t ≡ [] → IsNameOfRest around.tables (given t)
 some_name_of_rest next around (tree.binding_rest_element a b) p s f e =
     let k = placed _ around sets.BindingPattern b [] (parts (span_faults around a.span) [] _ e).1 in
     bound_name_valid _ around a b p.1.0 (none_unless (is_binding_name (type_of b)) (faults.Place (span_of b).start) f) k.1
 some_name_of_rest next around t p s f e = absurd (search no_truth)
 
-pub name_of_rest_valid : (next : ℕ) (around : Surroundings) (m : Maybe) → EverywhereIfGiven is_core_row m → rest_faults m ≡ [] → in_maybe around (place_of sets.BindingRestElement around ∷ []) next m ≡ [] → IsNameOfRest around.tables m
+pub name_of_rest_valid : (next : ℕ) (around : Surroundings) (m : Maybe) → EverywhereIfGiven (is_core_row around.tables) m → rest_faults m ≡ [] → in_maybe around (place_of sets.BindingRestElement around ∷ []) next m ≡ [] → IsNameOfRest around.tables m
 name_of_rest_valid next around absent p f e = family.no_name_of_rest
 name_of_rest_valid next around (given t) p f e = let h = placed_if_given next around sets.BindingRestElement t e in some_name_of_rest next around t p h.0 f h.1
 
 -- ---- directives
 
 -- a directive stands for what its raw text spells
-pub raw_directive : (v : Atom) → is_raw v ≡ true → is_some (directive_value (as_text v)) ≡ true → (us : List ℕ) × (directive_value (as_text v) ≡ Some us) × (directive_units v ≡ us)
+pub raw_directive : (v : Atom) → is_raw_text v ≡ true → is_some (directive_value (as_text v)) ≡ true → (us : List ℕ) × (directive_value (as_text v) ≡ Some us) × (directive_units v ≡ us)
 raw_directive (text raw) p h = by (directive_value raw) refl h
   where
     by : (o : Option (List ℕ)) → directive_value raw ≡ o → is_some o ≡ true → (us : List ℕ) × (directive_value raw ≡ Some us) × (or_none (directive_value raw) ≡ us)
@@ -434,7 +435,7 @@ raw_directive (text raw) p h = by (directive_value raw) refl h
     by None e k = absurd (no_truth k)
 raw_directive v p h = absurd (no_truth p)
 
-pub directive_valid : (next : ℕ) (around : Surroundings) (t : Tree) (ds : Trees) → IsCore t → is_directive (type_of t) ≡ true → breaches around next t ≡ [] → AreDirectives ds → AreDirectives (more t ds)
+pub directive_valid : (next : ℕ) (around : Surroundings) (t : Tree) (ds : Trees) → IsCoreIn around.tables t → is_directive (type_of t) ≡ true → breaches around next t ≡ [] → AreDirectives ds → AreDirectives (more t ds)
 directive_valid next around (tree.directive a) ds p s e v =
     let raw : List ℕ = as_text (directive_directive a) in
     let k = raw_directive (directive_directive a) p.0 (none_unless (is_some (directive_value raw)) (faults.Literal a.span.start) (parts (span_faults around a.span) (directive_faults a.span raw) [] e).0) in
@@ -442,7 +443,7 @@ directive_valid next around (tree.directive a) ds p s e v =
 directive_valid next around t ds p s e v = absurd (search no_truth)
 
 -- behind their field stand others
-pub directives_valid : (next : ℕ) (around : Surroundings) (others : List ChildPlace) (ds : Trees) → has_no_hole ds ≡ true → EverywhereInTrees is_core_row ds → in_trees around (place_of sets.Directive around ∷ others) next ds ≡ [] → AreDirectives ds
+pub directives_valid : (next : ℕ) (around : Surroundings) (others : List ChildPlace) (ds : Trees) → has_no_hole ds ≡ true → EverywhereInTrees (is_core_row around.tables) ds → in_trees around (place_of sets.Directive around ∷ others) next ds ≡ [] → AreDirectives ds
 directives_valid next around others no_trees n p e = family.no_directive
 directives_valid next around others (more t ts) n p e = let k = placed _ around sets.Directive t _ e in directive_valid _ around t ts p.0 k.0 k.1 (directives_valid _ around others ts n p.1 k.2)
 directives_valid next around others (hole ts) n p e = absurd (no_truth n)
@@ -476,12 +477,12 @@ function_fits kind a id f =
     let k = kind_is kind a h.0 in
     (k, subst (λ x. (has_name id || same_kind x kinds.Expression) ≡ true) k h.1)
 
-pub function_name_valid : (next : ℕ) (around : Surroundings) (nameless : Bool) (t : Tree) → IsCore t → is_binding_identifier (type_of t) ≡ true → breaches around next t ≡ [] → HasName around.tables nameless (given t)
+pub function_name_valid : (next : ℕ) (around : Surroundings) (nameless : Bool) (t : Tree) → IsCoreIn around.tables t → is_binding_identifier (type_of t) ≡ true → breaches around next t ≡ [] → HasName around.tables nameless (given t)
 function_name_valid next around nameless (tree.binding_identifier a) p s e = family.a_name (free_since around a.span (binding_named a) (parts (span_faults around a.span) (name_faults around.tables a.span (binding_named a)) [] e).0)
 function_name_valid next around nameless t p s e = absurd (search no_truth)
 
 -- behind its field stand others
-pub named_validly : (next : ℕ) (around : Surroundings) (nameless : Bool) (others : List ChildPlace) (id : Maybe) → (has_name id || nameless) ≡ true → EverywhereIfGiven is_core_row id → in_maybe around (place_of sets.BindingIdentifier around ∷ others) next id ≡ [] → HasName around.tables nameless id
+pub named_validly : (next : ℕ) (around : Surroundings) (nameless : Bool) (others : List ChildPlace) (id : Maybe) → (has_name id || nameless) ≡ true → EverywhereIfGiven (is_core_row around.tables) id → in_maybe around (place_of sets.BindingIdentifier around ∷ others) next id ≡ [] → HasName around.tables nameless id
 named_validly next around nameless others (given t) f p e = let k = placed_if_given _ around sets.BindingIdentifier t e in function_name_valid _ around nameless t p k.0 k.1
 named_validly next around true others absent f p e = family.no_name
 named_validly next around false others absent f p e = absurd (no_truth f)
@@ -490,14 +491,14 @@ named_validly next around false others absent f p e = absurd (no_truth f)
 pub record FunctionParts (around : Surroundings) (nameless : Bool) (a : Atoms) (id : Maybe) (ps u : Tree) : Type 0 where
   pub undeclared : function_declare a ≡ false
   pub name : HasName around.tables nameless id
-  pub core_parameters : IsCore ps
+  pub core_parameters : IsCoreIn around.tables ps
   pub are_parameters : is_formal_parameters (type_of ps) ≡ true
   pub parameters : (next : ℕ) × (breaches (within_nothing around) next ps ≡ [])
-  pub core_body : IsCore u
+  pub core_body : IsCoreIn around.tables u
   pub is_body : is_function_body (type_of u) ≡ true
   pub body : (next : ℕ) × (breaches (within_function (function_is_async a) (function_generator a) around) next u ≡ [])
 
-pub function_parts : (next : ℕ) (around : Surroundings) (nameless : Bool) (a : Atoms) (id : Maybe) (ps u : Tree) → (has_name id || nameless) ≡ true → IsCore (tree.function a id ps (given u)) → breaches around next (tree.function a id ps (given u)) ≡ [] → FunctionParts around nameless a id ps u
+pub function_parts : (next : ℕ) (around : Surroundings) (nameless : Bool) (a : Atoms) (id : Maybe) (ps u : Tree) → (has_name id || nameless) ≡ true → IsCoreIn around.tables (tree.function a id ps (given u)) → breaches around next (tree.function a id ps (given u)) ≡ [] → FunctionParts around nameless a id ps u
 function_parts next around nameless a id ps u h p e =
     let outside : Surroundings = within_nothing around in
     let within : Surroundings = within_function (function_is_async a) (function_generator a) around in
@@ -517,14 +518,14 @@ function_parts next around nameless a id ps u h p e =
       body = (_, j.1);
     }
 
-pub braces_parts : (next : ℕ) (around : Surroundings) (a : Atoms) (ds ss : Trees) → IsCore (tree.function_body a ds ss) → breaches around next (tree.function_body a ds ss) ≡ [] → AreDirectives ds × (has_no_hole ss ≡ true) × EverywhereInTrees is_core_row ss × ((last : ℕ) × (in_trees (within_braces around) (place_of sets.Statement (within_braces around) ∷ []) last ss ≡ []))
+pub braces_parts : (next : ℕ) (around : Surroundings) (a : Atoms) (ds ss : Trees) → IsCoreIn around.tables (tree.function_body a ds ss) → breaches around next (tree.function_body a ds ss) ≡ [] → AreDirectives ds × (has_no_hole ss ≡ true) × EverywhereInTrees (is_core_row around.tables) ss × ((last : ℕ) × (in_trees (within_braces around) (place_of sets.Statement (within_braces around) ∷ []) last ss ≡ []))
 braces_parts next around a ds ss p e =
     let within : Surroundings = within_braces around in
     let last : List ChildPlace = place_of sets.Statement within ∷ [] in
     let d = none_both (in_trees around (place_of sets.Directive within ∷ last) _ ds) _ (parts (span_faults around a.span) [] _ e).1 in
     let k = none_both (in_trees around last _ ss) [] d.1 in
-    let n = and_parts (has_no_hole ds) (has_no_hole ss) p.0 in
-    (directives_valid _ within last ds n.0 p.1.0 (same_trees _ within around (place_of sets.Directive within) last ds ∙ d.0), n.1, p.1.1.0, (_, same_trees _ within around (place_of sets.Statement within) [] ss ∙ k.0))
+    let n = and_parts (has_no_hole ss) (has_no_hole ds) p.0 in
+    (directives_valid _ within last ds n.1 p.1.0 (same_trees _ within around (place_of sets.Directive within) last ds ∙ d.0), n.0, p.1.1.0, (_, same_trees _ within around (place_of sets.Statement within) [] ss ∙ k.0))
 
 -- ---- properties with their value
 
@@ -556,7 +557,7 @@ yielded_alone around a e =
 -- ---- declarations
 
 -- the declarators, and no word of TypeScript before them
-pub variables_parts : (next : ℕ) (around : Surroundings) (a : Atoms) (ds : Trees) → IsCore (tree.variable_declaration a ds) → breaches around next (tree.variable_declaration a ds) ≡ [] → (variable_declaration_declare a ≡ false) × (has_no_hole ds ≡ true) × EverywhereInTrees is_core_row ds × (declaration_faults a.span ds ≡ []) × (in_trees around (place_of sets.VariableDeclarator around ∷ []) next ds ≡ [])
+pub variables_parts : (next : ℕ) (around : Surroundings) (a : Atoms) (ds : Trees) → IsCoreIn around.tables (tree.variable_declaration a ds) → breaches around next (tree.variable_declaration a ds) ≡ [] → (variable_declaration_declare a ≡ false) × (has_no_hole ds ≡ true) × EverywhereInTrees (is_core_row around.tables) ds × (declaration_faults a.span ds ≡ []) × (in_trees around (place_of sets.VariableDeclarator around ∷ []) next ds ≡ [])
 variables_parts next around a ds p e =
     let h = parts (span_faults around a.span) (declaration_faults a.span ds) _ e in
     let k = none_both (in_trees around (place_of sets.VariableDeclarator around ∷ []) _ ds) [] h.1 in
@@ -570,44 +571,44 @@ abbrev pub is_declaration : Tree → Bool
 is_declaration (tree.variable_declaration a ds) = true
 is_declaration t = false
 
-pub none_first : (t : Tree) → is_core_row t ≡ true → is_for_statement_init (type_of t) ≡ true → is_declaration t ≡ false → is_expression (type_of t) ≡ false → ⊥
-none_first (tree.variable_declaration a ds) p s n e = no_falsehood n
-none_first t p s n e = search (no_truth, no_falsehood, no_truth_behind)
+pub none_first : (names : Tables) (t : Tree) → is_core_row names t ≡ true → is_for_statement_init (type_of t) ≡ true → is_declaration t ≡ false → is_expression (type_of t) ≡ false → ⊥
+none_first names (tree.variable_declaration a ds) p s n e = no_falsehood n
+none_first names t p s n e = search (no_truth, no_falsehood, no_truth_behind)
 
-pub init_stands : (t : Tree) → is_core_row t ≡ true → StandsAt sets.ForStatementInit t → is_declaration t ≡ false → StandsAt sets.Expression t
-init_stands t p s n =
+pub init_stands : (names : Tables) (t : Tree) → is_core_row names t ≡ true → StandsAt sets.ForStatementInit t → is_declaration t ≡ false → StandsAt sets.Expression t
+init_stands names t p s n =
     let h = and_parts (is_for_statement_init (type_of t)) (has_place sets.Expression (type_of t)) s.0 in
     (and_from (is_expression (type_of t)) (has_place sets.Expression (type_of t)) (by (is_expression (type_of t)) refl) h.1, s.1, fits_expression sets.ForStatementInit t refl refl refl s.2)
   where
     by : (b : Bool) → is_expression (type_of t) ≡ b → b ≡ true
     by true e = refl
-    by false e = absurd (none_first t p (and_parts (is_for_statement_init (type_of t)) (has_place sets.Expression (type_of t)) s.0).0 n e)
+    by false e = absurd (none_first names t p (and_parts (is_for_statement_init (type_of t)) (has_place sets.Expression (type_of t)) s.0).0 n e)
 
 -- behind its field stand others
-pub init_parts : (next : ℕ) (around : Surroundings) (others : List ChildPlace) (t : Tree) → is_core_row t ≡ true → is_declaration t ≡ false → in_maybe around (place_of sets.ForStatementInit around ∷ others) next (given t) ≡ [] → StandsAt sets.Expression t × (breaches around next t ≡ [])
+pub init_parts : (next : ℕ) (around : Surroundings) (others : List ChildPlace) (t : Tree) → is_core_row around.tables t ≡ true → is_declaration t ≡ false → in_maybe around (place_of sets.ForStatementInit around ∷ others) next (given t) ≡ [] → StandsAt sets.Expression t × (breaches around next t ≡ [])
 init_parts next around others t p n e =
     let h = none_both (set_faults sets.ForStatementInit t) (breaches around next t) e in
-    (init_stands t p (stands_at sets.ForStatementInit t h.0) n, h.1)
+    (init_stands around.tables t p (stands_at sets.ForStatementInit t h.0) n, h.1)
 
 -- and what a loop gives its values is a target
-pub left_as_element : (t : Tree) → is_core_row t ≡ true → is_for_statement_left (type_of t) ≡ true → is_declaration t ≡ false → is_assignment_target (type_of t) ≡ true
-left_as_element t p s n = by (is_assignment_target (type_of t)) refl
+pub left_as_element : (names : Tables) (t : Tree) → is_core_row names t ≡ true → is_for_statement_left (type_of t) ≡ true → is_declaration t ≡ false → is_assignment_target (type_of t) ≡ true
+left_as_element names t p s n = by (is_assignment_target (type_of t)) refl
   where
-    none : (u : Tree) → is_core_row u ≡ true → is_for_statement_left (type_of u) ≡ true → is_declaration u ≡ false → is_assignment_target (type_of u) ≡ false → ⊥
-    none (tree.variable_declaration a ds) p s n e = no_falsehood n
-    none u p s n e = search (no_truth, no_falsehood, no_truth_behind)
+    none : (names : Tables) (u : Tree) → is_core_row names u ≡ true → is_for_statement_left (type_of u) ≡ true → is_declaration u ≡ false → is_assignment_target (type_of u) ≡ false → ⊥
+    none names (tree.variable_declaration a ds) p s n e = no_falsehood n
+    none names u p s n e = search (no_truth, no_falsehood, no_truth_behind)
 
     by : (b : Bool) → is_assignment_target (type_of t) ≡ b → b ≡ true
     by true e = refl
-    by false e = absurd (none t p s n e)
+    by false e = absurd (none names t p s n e)
 
 -- ---- the rows of statements
 
-pub label_valid : (next : ℕ) (around : Surroundings) (n : Tree) (P : Tree → Type 0) → IsCore n → is_label_identifier (type_of n) ≡ true → breaches around next n ≡ [] → ((b : Atoms) → is_free_name (label_identifier_name b) ≡ true → P (tree.label_identifier b)) → P n
+pub label_valid : (next : ℕ) (around : Surroundings) (n : Tree) (P : Tree → Type 0) → IsCoreIn around.tables n → is_label_identifier (type_of n) ≡ true → breaches around next n ≡ [] → ((b : Atoms) → is_free_name (label_identifier_name b) ≡ true → P (tree.label_identifier b)) → P n
 label_valid next around (tree.label_identifier b) P p s e f = f b (none_unless (is_free_name (label_identifier_name b)) (faults.Name b.span.start) (parts (span_faults around b.span) (label_faults b.span (label_identifier_name b)) [] e).0)
 label_valid next around n P p s e f = absurd (search no_truth)
 
-pub jump_valid : (next : ℕ) (around : Surroundings) (m : Maybe) → EverywhereIfGiven is_core_row m → in_maybe around (place_of sets.LabelIdentifier around ∷ []) next m ≡ [] → IsLabel m
+pub jump_valid : (next : ℕ) (around : Surroundings) (m : Maybe) → EverywhereIfGiven (is_core_row around.tables) m → in_maybe around (place_of sets.LabelIdentifier around ∷ []) next m ≡ [] → IsLabel m
 jump_valid next around absent p e = family.no_label
 jump_valid next around (given t) p e = let k = placed_if_given _ around sets.LabelIdentifier t e in label_valid _ around t (λ x. IsLabel (given x)) p k.0 k.1 (λ b h. family.a_label h)
 
@@ -616,25 +617,25 @@ abbrev pub is_declarator : Tree → Bool
 is_declarator (tree.variable_declarator a id init) = true
 is_declarator t = false
 
-pub none_but_declarator : (t : Tree) → is_core_row t ≡ true → is_variable_declarator (type_of t) ≡ true → is_declarator t ≡ false → ⊥
-none_but_declarator (tree.variable_declarator a id init) p s n = no_falsehood n
-none_but_declarator t p s n = search (no_truth, no_truth_behind)
+pub none_but_declarator : (names : Tables) (t : Tree) → is_core_row names t ≡ true → is_variable_declarator (type_of t) ≡ true → is_declarator t ≡ false → ⊥
+none_but_declarator names (tree.variable_declarator a id init) p s n = no_falsehood n
+none_but_declarator names t p s n = search (no_truth, no_truth_behind)
 
 abbrev pub is_bound_property : Tree → Bool
 is_bound_property (tree.binding_property a key value) = true
 is_bound_property t = false
 
-pub none_but_bound_property : (t : Tree) → is_core_row t ≡ true → is_binding_property (type_of t) ≡ true → is_bound_property t ≡ false → ⊥
-none_but_bound_property (tree.binding_property a key value) p s n = no_falsehood n
-none_but_bound_property t p s n = search (no_truth, no_truth_behind)
+pub none_but_bound_property : (names : Tables) (t : Tree) → is_core_row names t ≡ true → is_binding_property (type_of t) ≡ true → is_bound_property t ≡ false → ⊥
+none_but_bound_property names (tree.binding_property a key value) p s n = no_falsehood n
+none_but_bound_property names t p s n = search (no_truth, no_truth_behind)
 
 abbrev pub is_bound_rest : Tree → Bool
 is_bound_rest (tree.binding_rest_element a argument) = true
 is_bound_rest t = false
 
-pub none_but_bound_rest : (t : Tree) → is_core_row t ≡ true → is_binding_rest_element (type_of t) ≡ true → is_bound_rest t ≡ false → ⊥
-none_but_bound_rest (tree.binding_rest_element a argument) p s n = no_falsehood n
-none_but_bound_rest t p s n = search (no_truth, no_truth_behind)
+pub none_but_bound_rest : (names : Tables) (t : Tree) → is_core_row names t ≡ true → is_binding_rest_element (type_of t) ≡ true → is_bound_rest t ≡ false → ⊥
+none_but_bound_rest names (tree.binding_rest_element a argument) p s n = no_falsehood n
+none_but_bound_rest names t p s n = search (no_truth, no_truth_behind)
 
 -- one declarator without a value
 abbrev pub is_one_declared : Trees → Bool
@@ -681,12 +682,12 @@ abbrev pub is_case : Tree → Bool
 is_case (tree.switch_case a test ss) = true
 is_case t = false
 
-pub none_case : (t : Tree) → is_core_row t ≡ true → is_switch_case (type_of t) ≡ true → is_case t ≡ false → ⊥
-none_case (tree.switch_case a test ss) p s n = no_falsehood n
-none_case t p s n = search no_truth
+pub none_case : (names : Tables) (t : Tree) → is_core_row names t ≡ true → is_switch_case (type_of t) ≡ true → is_case t ≡ false → ⊥
+none_case names (tree.switch_case a test ss) p s n = no_falsehood n
+none_case names t p s n = search no_truth
 
-pub none_among_cases : (next : ℕ) (around : Surroundings) (t : Tree) (ts : Trees) → is_core_row t ≡ true → is_case t ≡ false → in_trees around (place_of sets.SwitchCase around ∷ []) next (more t ts) ≡ [] → ⊥
-none_among_cases next around t ts p n e = none_case t p (placed next around sets.SwitchCase t (in_trees around (place_of sets.SwitchCase around ∷ []) (after t next) ts) e).0 n
+pub none_among_cases : (next : ℕ) (around : Surroundings) (t : Tree) (ts : Trees) → is_core_row around.tables t ≡ true → is_case t ≡ false → in_trees around (place_of sets.SwitchCase around ∷ []) next (more t ts) ≡ [] → ⊥
+none_among_cases next around t ts p n e = none_case around.tables t p (placed next around sets.SwitchCase t (in_trees around (place_of sets.SwitchCase around ∷ []) (after t next) ts) e).0 n
 
 -- a handler and a finalizer, where they are given
 abbrev pub HandlerIfGiven : Tables → Allowed → Maybe → Type 0

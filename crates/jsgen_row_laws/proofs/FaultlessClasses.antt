@@ -12,7 +12,8 @@ use Rattle.jsgen_tree.specs.declared.types.NodeType.TheVariants as types
 use Rattle.jsgen_tree.specs.declared.types.NodeSet.TheVariants as sets
 use Rattle.jsgen_model.specs.declared.fault.TreeFault.TheVariants as faults
 use Rattle.jsgen_model.specs.Grammar.{Allowed}
-use Rattle.jsgen_model.specs.Plain.{IsCore, has_core_flags}
+use Rattle.jsgen_model.specs.Plain.{has_core_flags}
+use Rattle.jsgen_row_laws.proofs.CoreIn.{IsCoreIn}
 use Rattle.jsgen_tree.specs.declared.functions.FunctionKind.TheVariants as kinds
 use Rattle.jsgen_tree.specs.declared.classes.ClassKind.{ClassKind}
 use Rattle.jsgen_tree.specs.declared.classes.ClassKind.TheVariants as class_kinds
@@ -45,10 +46,10 @@ abbrev pub is_class_body_node : Tree → Bool
 is_class_body_node (tree.class_body a members) = true
 is_class_body_node t = false
 
-pub no_class_body : (t : Tree) → IsCore t → is_class_body (type_of t) ≡ true → is_class_body_node t ≡ false → ⊥
-no_class_body (tree.class_body a members) p s n = no_falsehood n
-no_class_body (node types.ClassBody a slots) p s n = no_truth p.0
-no_class_body t p s n = no_truth s
+pub no_class_body : (names : Tables) (t : Tree) → IsCoreIn names t → is_class_body (type_of t) ≡ true → is_class_body_node t ≡ false → ⊥
+no_class_body names (tree.class_body a members) p s n = no_falsehood n
+no_class_body names (node types.ClassBody a slots) p s n = no_truth p.0
+no_class_body names t p s n = no_truth s
 
 pub class_body_placed : (next : ℕ) (around : Surroundings) (a : Atoms) (id heritage : Maybe) (u : Tree) → breaches around next (tree.class a id heritage u) ≡ [] → is_class_body (type_of u) ≡ true
 class_body_placed next around a id heritage u e =
@@ -65,25 +66,20 @@ is_member (tree.method_definition a key value) = true
 is_member (tree.property_definition a key value) = true
 is_member t = false
 
-pub none_but_member : (t : Tree) → IsCore t → is_class_element (type_of t) ≡ true → is_member t ≡ false → ⊥
-none_but_member (tree.static_block a body) p s n = no_falsehood n
-none_but_member (tree.method_definition a key value) p s n = no_falsehood n
-none_but_member (tree.property_definition a key value) p s n = no_falsehood n
-none_but_member (node types.StaticBlock a slots) p s n = no_truth p.0
-none_but_member (node types.MethodDefinition a slots) p s n = no_truth_behind (has_core_flags types.MethodDefinition a) p.0
-none_but_member (node types.PropertyDefinition a slots) p s n = no_truth_behind (has_core_flags types.PropertyDefinition a) p.0
-none_but_member t p s n = no_truth s
+pub none_but_member : (names : Tables) (t : Tree) → IsCoreIn names t → is_class_element (type_of t) ≡ true → is_member t ≡ false → ⊥
+none_but_member names (tree.static_block a body) p s n = no_falsehood n
+none_but_member names (tree.method_definition a key value) p s n = no_falsehood n
+none_but_member names (tree.property_definition a key value) p s n = no_falsehood n
+none_but_member names (node types.StaticBlock a slots) p s n = no_truth p.0
+none_but_member names (node types.MethodDefinition a slots) p s n = no_truth_behind (has_core_flags types.MethodDefinition a) p.0
+none_but_member names (node types.PropertyDefinition a slots) p s n = no_truth_behind (has_core_flags types.PropertyDefinition a) p.0
+none_but_member names t p s n = no_truth s
 
--- of no private name a reading is promised
-public : (t : Tree) → IsCore t → is_private (type_of t) ≡ false
-public (node types.PrivateIdentifier a slots) p = absurd (no_truth p.0)
-public t p = refl
-
--- a key of a member is one of a property, and no negative number
-pub member_key : (computed : Bool) (k : Tree) → IsCore k → member_key_faults computed k ≡ [] → (key_faults computed k ≡ []) × ((computed || is_negative_number k) ≡ computed)
+-- a key of a member that isn't a private name is one of a property, and no negative number
+pub member_key : (computed : Bool) (k : Tree) → (computed ≡ false → is_private (type_of k) ≡ false) → member_key_faults computed k ≡ [] → (key_faults computed k ≡ []) × ((computed || is_negative_number k) ≡ computed)
 member_key true k p f = (f, refl)
 member_key false k p f =
-    let h : may_be_pattern_key false k ≡ true = subst (λ b. (b || may_be_pattern_key false k) ≡ true) (public k p) (none_unless (may_be_member_key false k) (faults.Place (span_of k).start) f) in
+    let h : may_be_pattern_key false k ≡ true = subst (λ b. (b || may_be_pattern_key false k) ≡ true) (p refl) (none_unless (may_be_member_key false k) (faults.Place (span_of k).start) f) in
     pattern_key false k (ap (λ b. fault_if (not b) (faults.Place (span_of k).start)) h)
 
 function_type : (type : NodeType) → in_set sets.Function type ≡ true → is_expression type ≡ true

@@ -4,10 +4,10 @@ use Rattle.jsgen_syntax.specs.declared.operator.BinaryOperator.{BinaryOperator}
 use Rattle.jsgen_syntax.specs.declared.operator.BinaryOperator.TheVariants as operators
 use Rattle.jsgen_tree.specs.Tree.{Tree, Maybe, Trees}
 use Rattle.jsgen_model.specs.Tokens.{Tokens}
-use Rattle.jsgen_model.specs.Grammar.{Allowed, Level, ReadsExpression, ReadsArrow, ReadsBinding, ReadsParameters, ReadsParameter, ReadsParts, ReadsChain, ReadsChainBase, with_in, may_stand}
+use Rattle.jsgen_model.specs.Grammar.{Allowed, Level, ReadsExpression, ReadsArrow, ReadsBinding, ReadsParameters, ReadsParameter, ReadsParts, ReadsChain, ReadsChainBase, with_in, may_operate}
 use Rattle.jsgen_model.specs.Grammar as grammar
 
-all_stand : (c : Allowed) (o : BinaryOperator) → may_stand (with_in c) o ≡ true
+all_stand : (c : Allowed) (o : BinaryOperator) → may_operate (with_in c) o ≡ true
 all_stand c operators.In = refl
 all_stand c o = refl
 

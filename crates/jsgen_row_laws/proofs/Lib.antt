@@ -34,6 +34,7 @@ pub mod OptionalChains
 pub mod Properties
 pub mod Collections
 pub mod Constructions
+pub mod CoreIn
 pub mod ImportCalls
 pub mod Updates
 pub mod Choices

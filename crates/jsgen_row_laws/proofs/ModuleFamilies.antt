@@ -1,5 +1,6 @@
 -- The items of a module over which the induction goes: its statements, its imports and its exports.
 use Rattle.std.proofs.Common.{◌≡◌, Bool, true, false}
+use Rattle.std.specs.Str.{all_scalars}
 use Rattle.jsgen_syntax.specs.Name.{spells_name, is_free_name}
 use Rattle.jsgen_syntax.specs.Wtf8.{are_units}
 use Rattle.jsgen_tree.specs.declared.functions.FunctionKind.TheVariants as kinds
@@ -9,9 +10,10 @@ use Rattle.jsgen_tree.specs.Job.{Tables}
 use Rattle.jsgen_tree.specs.Named.{printed_name}
 use Rattle.jsgen_tree.specs.Nodes as tree
 use Rattle.jsgen_tree.specs.Tree.{Tree, Maybe, absent, given, Trees, no_trees, more, MaybeTrees, no_list, listed, Atoms}
-use Rattle.jsgen_tree.specs.Values.{identifier_name_name, string_literal_value, variable_declaration_declare}
+use Rattle.jsgen_tree.specs.Values.{identifier_name_name, string_literal_value, variable_declaration_declare, hashbang_value}
 use Rattle.jsgen_model.specs.Grammar.{in_module}
 use Rattle.jsgen_model.specs.Spell.{is_declared}
+use Rattle.jsgen_model.specs.Tokens.{has_line_end}
 use Rattle.jsgen_row_laws.proofs.Families.{IsExpression, IsFunction, IsClass, AreDeclarators, IsItem, AreDirectives}
 
 -- ---- names, sources and attributes
@@ -100,5 +102,10 @@ pub data AreModuleItems : Tables → Trees → Type 0 where
   no_module_item : {names : Tables} → AreModuleItems names no_trees
   first_module_item : {names : Tables} {t : Tree} {ts : Trees} → IsModuleItem names t → AreModuleItems names ts → AreModuleItems names (more t ts)
 
+-- the first line, where there is one: it is one line, of characters
+pub data IsFirstLine : Maybe → Type 0 where
+  no_first_line : IsFirstLine absent
+  a_first_line : {a : Atoms} → has_line_end (hashbang_value a) ≡ false → all_scalars (hashbang_value a) ≡ true → IsFirstLine (given (tree.hashbang a))
+
 pub data IsModule : Tables → Tree → Type 0 where
-  a_module : {names : Tables} {a : Atoms} {comments directives body : Trees} → AreDirectives directives → AreModuleItems names body → IsModule names (tree.program a comments absent directives body)
+  a_module : {names : Tables} {a : Atoms} {hashbang : Maybe} {comments directives body : Trees} → IsFirstLine hashbang → AreDirectives directives → AreModuleItems names body → IsModule names (tree.program a comments hashbang directives body)

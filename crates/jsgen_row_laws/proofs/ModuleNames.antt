@@ -28,7 +28,7 @@ use Rattle.jsgen_tree.specs.declared.modules.WithKeyword.TheVariants as with_key
 use Rattle.jsgen_model.specs.Punctuator.{colon, Brace}
 use Rattle.jsgen_model.specs.Tokens.{Tokens, done, piece, Word, Quoted, Sign}
 use Rattle.jsgen_model.specs.Items.{Items, nothing, ◌⊕◌, name, word, punctuator, string, soft_space}
-use Rattle.jsgen_model.specs.Layout.{Pen, layout, chosen_quote, are_same}
+use Rattle.jsgen_model.specs.Layout.{Pen, layout, chosen_quote, are_printed_alike}
 use Rattle.jsgen_model.specs.Grammar.{ReadsModuleName, ReadsAttribute, ReadsAttributes, ReadsSource, text_of, units_of}
 use Rattle.jsgen_model.specs.Grammar as grammar
 use Rattle.jsgen_model.specs.Normal.{normal, nothing_of, named, by_its_text}
@@ -106,7 +106,7 @@ module_name {names} (family.a_string_name {a = a} h) = read (λ ts r. string_nam
 -- ---- names that are printed the same
 
 abbrev alike : Tables → Option Named → Option Named → Bool
-alike names (Some m) (Some n) = are_same names m n
+alike names (Some m) (Some n) = are_printed_alike names m n
 alike names m n = false
 
 abbrev pub printed_alike : Tables → Tree → Tree → Bool
@@ -122,7 +122,7 @@ unless_laid true items p = refl
 unless_laid false items p = refl
 
 named_laid : {names : Tables} (m n : Option Named) (items : Items) (p : Pen) → p.style.tables ≡ names → layout (unless_named m n items) p ≡ layout (if alike names m n then nothing else items) p
-named_laid {names} (Some m) (Some n) items p e = ap (λ tables. if are_same tables m n then p else layout items p) e ∙ either_laid (are_same names m n) items p
+named_laid {names} (Some m) (Some n) items p e = ap (λ tables. if are_printed_alike tables m n then p else layout items p) e ∙ either_laid (are_printed_alike names m n) items p
 named_laid (Some m) None items p e = refl
 named_laid None n items p e = refl
 
@@ -130,7 +130,7 @@ pub same_laid : {names : Tables} (t u : Tree) (items : Items) (p : Pen) → p.st
 same_laid (tree.string_literal a) (tree.string_literal b) items p e = unless_laid (bytes_eq (string_literal_value a) (string_literal_value b)) items p
 same_laid t u items p e = named_laid (export_named t) (export_named u) items p e
 
-alike_text : (names : Tables) (m n : Named) → are_same names m n ≡ true → text_of (units_of (printed_name names m)) ≡ text_of (units_of (printed_name names n))
+alike_text : (names : Tables) (m n : Named) → are_printed_alike names m n ≡ true → text_of (units_of (printed_name names m)) ≡ text_of (units_of (printed_name names n))
 alike_text names m n e = ap (λ v. text_of (units_of v)) ((bytes_eq-Decides (printed_name names m) (printed_name names n)).0 e)
 
 -- the characters of a string have its units

@@ -17,7 +17,7 @@ use Rattle.jsgen_model.specs.Punctuator.{Punctuator}
 use Rattle.jsgen_model.specs.Tokens.{Tokens, piece, ◌⧺◌, Word, Sign}
 use Rattle.jsgen_model.specs.Items.{◌⊕◌, soft_space, word, operator}
 use Rattle.jsgen_model.specs.Layout.{layout}
-use Rattle.jsgen_model.specs.Grammar.{Allowed, Level, ReadsExpression, operation_level, next_level, operator_piece, may_stand}
+use Rattle.jsgen_model.specs.Grammar.{Allowed, Level, ReadsExpression, operation_level, next_level, operator_piece, may_operate}
 use Rattle.jsgen_model.specs.Grammar as grammar
 use Rattle.jsgen_model.specs.Normal.{normal}
 use Rattle.jsgen_model.specs.Renamed.{renamed}
@@ -57,12 +57,12 @@ own_level : {c : Allowed} {ts : Tokens} {u : Tree} (no_call : Bool) (o : BinaryO
 own_level no_call operators.Equality r = r
 own_level no_call o r = r
 
-operation_reads : {c : Allowed} {a b : Tokens} {u v : Tree} (o : BinaryOperator) (line : Bool) → may_stand c o ≡ true → ReadsExpression c (left_goal o) a u → ReadsExpression c (next_level (operation_level o)) b v → ReadsExpression c (operation_level o) (a ⧺ piece line (operator_piece o) b) (tree.binary (bare (binary_operator o ∷ [])) u v)
+operation_reads : {c : Allowed} {a b : Tokens} {u v : Tree} (o : BinaryOperator) (line : Bool) → may_operate c o ≡ true → ReadsExpression c (left_goal o) a u → ReadsExpression c (next_level (operation_level o)) b v → ReadsExpression c (operation_level o) (a ⧺ piece line (operator_piece o) b) (tree.binary (bare (binary_operator o ∷ [])) u v)
 operation_reads operators.Exponential line m r s = grammar.a_power line refl r s
 operation_reads o line m r s = grammar.an_operation o line refl m refl r s
 
 -- without parentheses `in` stands where it is allowed, and within them it is
-pub stands_there : (o : BinaryOperator) (c : Allowed) (place : Place) (w : Bool) → binary_wraps o place ≡ w → may_stand (under (within w place) c) o ≡ true
+pub stands_there : (o : BinaryOperator) (c : Allowed) (place : Place) (w : Bool) → binary_wraps o place ≡ w → may_operate (under (within w place) c) o ≡ true
 stands_there operators.In c place true e = refl
 stands_there operators.In c place false e = ap not (or_parts (wraps levels.Compare place) place.context.forbids_in e).1
 stands_there o c place w e = refl

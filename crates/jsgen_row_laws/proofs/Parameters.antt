@@ -15,7 +15,7 @@ use Rattle.jsgen_tree.specs.Nodes as tree
 use Rattle.jsgen_model.specs.Punctuator.{ellipsis, comma, Round, opening, closing}
 use Rattle.jsgen_model.specs.Tokens.{Tokens, done, piece, group, Word, Sign}
 use Rattle.jsgen_model.specs.Items.{Items, ◌⊕◌, punctuator, soft_space, brackets}
-use Rattle.jsgen_model.specs.Layout.{Pen, other_end, layout, written, written_if, with_name}
+use Rattle.jsgen_model.specs.Layout.{Pen, other_end, layout, written, written_if, with_name_written}
 use Rattle.jsgen_model.specs.Grammar.{Allowed, in_parameters, ReadsArrowParameters, ReadsParameters, ReadsParameter}
 use Rattle.jsgen_model.specs.Grammar as grammar
 use Rattle.jsgen_model.specs.Normal.{normal, normal_maybe, nothing_of, unnumbered, if_set}
@@ -167,7 +167,7 @@ ArrowParametersOf names t = (place : Place) (p : Pen) (l : Last) → p.pending_s
 -- one parameter, which is a name alone
 pub record NameAlone (names : Tables) (t : Tree) : Type 0 where
   pub value : Named
-  pub spelled : (place : Place) (p : Pen) → layout (spell t place) p ≡ with_name (printed_name p.style.tables value) p
+  pub spelled : (place : Place) (p : Pen) → layout (spell t place) p ≡ with_name_written (printed_name p.style.tables value) p
   pub free : is_free_name (printed_name names value) ≡ true
   pub form : normal (renamed names t) ≡ tree.formal_parameters (nothing_of 0) (more (tree.formal_parameter (nothing_of 3) (tree.binding_identifier (unnumbered (printed_name names value))) absent) no_trees) absent
 

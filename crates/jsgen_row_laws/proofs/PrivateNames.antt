@@ -11,7 +11,7 @@ use Rattle.jsgen_tree.specs.Job.{Tables}
 use Rattle.jsgen_tree.specs.Nodes as tree
 use Rattle.jsgen_tree.specs.Tree.{Tree, Atoms}
 use Rattle.jsgen_tree.specs.Values.{private_identifier_name, private_field_expression_optional}
-use Rattle.jsgen_model.specs.Private.{printed_private, name_by}
+use Rattle.jsgen_model.specs.Private.{printed_private, private_name_by}
 use Rattle.jsgen_model.specs.Punctuator.{dot, question_dot}
 use Rattle.jsgen_model.specs.Tokens.{Tokens, done, piece, ◌⧺◌, Word, Sign, Beyond, Private}
 use Rattle.jsgen_model.specs.Items.{Items, ◌⊕◌, member_dot, private_name, punctuator, word, hard_space}
@@ -41,7 +41,7 @@ use Rattle.jsgen_row_laws.proofs.Parts.{Reads, expression, operand_ends}
 
 -- without tables of private names each is printed as it is
 pub unrenamed_private : (names : Tables) (classes w : List ℕ) → names.private ≡ None → printed_private names classes w ≡ w
-unrenamed_private names classes w e = ap (λ o. unwrap_or (option_and_then (λ all. name_by all classes w) o) w) e
+unrenamed_private names classes w e = ap (λ o. unwrap_or (option_and_then (λ all. private_name_by all classes w) o) w) e
 
 abbrev Wrote : Tables → Span → List ℕ → Pen → Last → List ℕ → Type 0
 Wrote names s v p l w = Writes names p l (layout (private_name s v) p) (After (Beyond (Private (name_text p.style.ascii w)))) (piece (line_of l) (Beyond (Private (name_text p.style.ascii w))) done)

@@ -29,7 +29,7 @@ use Rattle.jsgen_model.specs.Punctuator.{colon, Square, opening}
 use Rattle.jsgen_model.specs.Numbers.{takes_no_dot, is_big_integer}
 use Rattle.jsgen_model.specs.Tokens.{Tokens, done, piece, group, Word, Number, Quoted, Sign}
 use Rattle.jsgen_model.specs.Items.{Items, ◌⊕◌, where_same, number, string, punctuator, soft_space, nothing, before_it}
-use Rattle.jsgen_model.specs.Layout.{Pen, Style, other_end, are_same, layout, written, chosen_quote, but_backticks, with_name}
+use Rattle.jsgen_model.specs.Layout.{Pen, Style, other_end, are_printed_alike, layout, written, chosen_quote, but_backticks, with_name_written}
 use Rattle.jsgen_model.specs.Grammar.{Allowed, ReadsExpression, ReadsKey, ReadsMemberKey, ReadsProperty, with_in, on_same_line}
 use Rattle.jsgen_model.specs.Grammar as grammar
 use Rattle.jsgen_model.specs.Normal.{normal, named, unnumbered, by_text, number_text, minus_before, big_integer, property_values, is_written_as_method, is_computed, is_proto_shorthand}
@@ -246,8 +246,8 @@ is_short names shorthand key value = option_map_or (λ w. says_name shorthand w 
 pub same_laid : {names : Tables} (p : Pen) (w : List ℕ) (value : Named) (alone whole : Items) → p.style.tables ≡ names → layout (where_same value (as_written w) alone whole) p ≡ layout (if bytes_eq (printed_name names value) w then alone else whole) p
 same_laid {names} p w value alone whole t = ap (λ b. if b then layout alone p else layout whole p) told ∙ go (bytes_eq (printed_name names value) w)
   where
-    told : are_same p.style.tables value (as_written w) ≡ bytes_eq (printed_name names value) w
-    told = ap (λ tables. are_same tables value (as_written w)) t ∙ ap (λ x. bytes_eq (printed_name names value) x) (printed_as_written names w)
+    told : are_printed_alike p.style.tables value (as_written w) ≡ bytes_eq (printed_name names value) w
+    told = ap (λ tables. are_printed_alike tables value (as_written w)) t ∙ ap (λ x. bytes_eq (printed_name names value) x) (printed_as_written names w)
 
     go : (b : Bool) → (if b then layout alone p else layout whole p) ≡ layout (if b then alone else whole) p
     go true = refl
@@ -291,7 +291,7 @@ property_laid p a x v short m t s =
 
 -- an expression that is a reference of this name, in parentheses or not
 record Refers (names : Tables) (t : Tree) (n : Named) : Type 0 where
-  laid : (place : Place) (p : Pen) → layout (spell t place) p ≡ with_name (printed_name p.style.tables n) p
+  laid : (place : Place) (p : Pen) → layout (spell t place) p ≡ with_name_written (printed_name p.style.tables n) p
   free : is_free_name (printed_name names n) ≡ true
   form : normal (renamed names t) ≡ tree.identifier_reference (unnumbered (printed_name names n))
 
@@ -301,7 +301,7 @@ none_is_some v e = both_ways false refl (ap is_some e)
 referred : {names : Tables} {c : Allowed} {t : Tree} → IsExpression names c t → (n : Named) → looked_up_in (without_parentheses t) ≡ Some n → Refers names t n
 referred {names} (family.a_reference {a} h) n s =
     let e = same_Some (reference_named a) n s in
-    record { laid = λ place p. ap (λ m. with_name (printed_name p.style.tables m) p) e; free = subst (λ m. is_free_name (printed_name names m) ≡ true) e h; form = ap (λ m. tree.identifier_reference (unnumbered (printed_name names m))) e }
+    record { laid = λ place p. ap (λ m. with_name_written (printed_name p.style.tables m) p) e; free = subst (λ m. is_free_name (printed_name names m) ≡ true) e h; form = ap (λ m. tree.identifier_reference (unnumbered (printed_name names m))) e }
 referred (family.in_parentheses {a} {t} w) n s =
     let r = referred w n (sym ((asked w).parenthesized a).3 ∙ s) in
     record { laid = r.laid; free = r.free; form = r.form }
@@ -364,7 +364,7 @@ good_short_property {names} c a b v m d f h value p l z y k =
     let r = referred value says.named says.reference in
     let free : is_free_name w ≡ true = subst (λ x. is_free_name x ≡ true) says.printed r.free in
     let form : normal (renamed names v) ≡ tree.identifier_reference (unnumbered w) = r.form ∙ ap (λ x. tree.identifier_reference (unnumbered x)) says.printed in
-    let q : Pen = with_name (printed_name p.style.tables says.named) p in
+    let q : Pen = with_name_written (printed_name p.style.tables says.named) p in
     subst (λ q. Element names (ReadsProperty (with_in c)) p l q (tree.object_property a (tree.identifier_name b) v)) (sym (property_laid p a (tree.identifier_name b) v true m k.tables h ∙ r.laid (in_brackets levels.Comma) p)) (record {
       last = _;
       tokens = piece (line_of l) (Word (name_text p.style.ascii w)) done;

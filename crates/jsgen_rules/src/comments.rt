@@ -4,7 +4,7 @@ ghost use Rattle.std.specs.Option.{option_map_or};
 ghost use Rattle.std.specs.Str.{chars, encode_utf8_all};
 ghost use Rattle.jsgen_model.specs.Tokens.{has_line_end};
 ghost use Rattle.jsgen_tree.specs.Options.{linked, legal_plain};
-ghost use Rattle.jsgen_model.specs.Valid.{begins_with, ends_at_close, is_comment, names_a_file, spans_characters, text_at, comment_faults, licence_faults};
+ghost use Rattle.jsgen_model.specs.Valid.{begins_with_mark, ends_at_close, is_comment, names_a_file, spans_characters, text_at, comment_faults, licence_faults};
 ghost use Rattle.jsgen_rules.specs.declared.comments.Close.TheVariants as closes;
 ghost use Rattle.jsgen_rules.specs.Close.{step, run, is_closed};
 ghost use Rattle.jsgen_rules.specs.Verdict.{verdict};
@@ -73,14 +73,14 @@ pub fn has_line_end(text: &str) -> bool
 
 /// What follows the mark, where the text begins with it.
 fn behind<'a>(mark: &str, text: &'a str) -> Option<&'a str>
-    ensures { (holds : List ℕ → Bool) → begins_with (chars mark.now) holds (chars text.now) ≡ option_map_or (λ rest. holds (chars rest.now)) result false }
+    ensures { (holds : List ℕ → Bool) → begins_with_mark (chars mark.now) holds (chars text.now) ≡ option_map_or (λ rest. holds (chars rest.now)) result false }
 {
     text.strip_prefix(mark)
 }
 
 /// The mark and nothing behind its line.
 fn is_one_line(mark: &str, text: &str) -> bool
-    ensures { result ≡ begins_with (chars mark.now) (λ rest. not (has_line_end rest)) (chars text.now) }
+    ensures { result ≡ begins_with_mark (chars mark.now) (λ rest. not (has_line_end rest)) (chars text.now) }
 {
     match behind(mark, text) {
         Some(rest) => !has_line_end(rest),
@@ -96,7 +96,7 @@ fn ends_block(is_multiline: bool, rest: &str) -> bool
 }
 
 fn is_block(is_multiline: bool, text: &str) -> bool
-    ensures { result ≡ begins_with (codes "/*") (λ rest. (if is_multiline then has_line_end rest else not (has_line_end rest)) && ends_at_close rest) (chars text.now) }
+    ensures { result ≡ begins_with_mark (codes "/*") (λ rest. (if is_multiline then has_line_end rest else not (has_line_end rest)) && ends_at_close rest) (chars text.now) }
 {
     match behind("/*", text) {
         Some(rest) => ends_block(is_multiline, rest),

@@ -124,7 +124,8 @@ fn has_place(node_type: NodeType, set: NodeSet) -> bool
             && (takes_module_items(set) || !is_module_item(node_type)))
 }
 
-fn may_stand(node_type: NodeType, set: NodeSet) -> bool
+/// Whether a node of this type may stand at a place that asks for this set, whatever else is asked of it there.
+pub fn may_stand(node_type: NodeType, set: NodeSet) -> bool
     ensures { result ≡ may_stand set node_type }
 {
     node_type.is_in(set) && has_place(node_type, set)

@@ -3,7 +3,7 @@ ghost use Rattle.std.specs.Prelude.{◌≡◌, ◌∷◌, suc, min, map, option_
 ghost use Rattle.std.specs.Str.{chars};
 ghost use Rattle.jsgen_tree.specs.Characters.{characters};
 ghost use Rattle.jsgen_tree.specs.Scoping.{private_plain, tables_plain};
-ghost use Rattle.jsgen_model.specs.Private.{name_in, name_by, printed_private, has_table};
+ghost use Rattle.jsgen_model.specs.Private.{name_in, private_name_by, printed_private, has_table};
 ghost use Rattle.jsgen_model.specs.Valid.{private_name_faults};
 ghost use Rattle.jsgen_rules.specs.Classes.{class_numbers, numbers, counted};
 ghost use Rattle.jsgen_rules.specs.Verdict.{verdict};
@@ -91,7 +91,7 @@ fn new_name<'a>(
     classes: Option<&Classes<'_>>,
     name: &str,
 ) -> Option<&'a str>
-    ensures { option_map (λ s. chars s.now) result ≡ name_by (private_plain mappings.now) (numbers classes.entry) (chars name.now) }
+    ensures { option_map (λ s. chars s.now) result ≡ private_name_by (private_plain mappings.now) (numbers classes.entry) (chars name.now) }
 {
     let mut rest = classes;
     'classes: while let Some(class) = rest {

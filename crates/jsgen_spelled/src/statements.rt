@@ -47,7 +47,7 @@ pub fn print_expression_statement<N, L: PrintInside<N>>(
 {
     let _ = place;
     p.print_comments(node.span.start);
-    p.print_marked_indentation(node.span);
+    p.print_marked_indentation(false, node.span);
     p.begin_statement();
     L::print(
         node.expression.get(),

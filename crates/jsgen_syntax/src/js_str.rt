@@ -46,17 +46,6 @@ impl JsStr {
         Ok(JsStr { bytes, lone })
     }
 
-    /// The same units once more.
-    pub fn try_clone(&self) -> Result<JsStr, Memory>
-        ensures { IfOk result (λ r. js_units r ≡ js_units self.now) }
-    {
-        let bytes = self.bytes.clone()?;
-        Ok(JsStr {
-            bytes,
-            lone: self.lone,
-        })
-    }
-
     /// Whether some surrogate is in no pair.
     pub fn has_lone_surrogate(&self) -> bool
         ensures { result ≡ has_lone (js_units self.now) }

@@ -16,7 +16,7 @@ use Rattle.jsgen_model.proofs.NumberRuns.{ascii_number}
 use Rattle.jsgen_model.proofs.NumberStates.{start}
 use Rattle.jsgen_model.proofs.NumberMachine.{number_runs}
 use Rattle.jsgen_model.specs.Punctuator.{Punctuator, punctuator_text, dot, Bracket, Round, opening, closing}
-use Rattle.jsgen_model.specs.Tokens.{Tokens, done, piece, group, Piece, Word, Number, Quoted, Sign, Beyond, Special, Private, Pattern, Whole, Head, Middle, Tail, special_text, is_special, is_part, piece_text, is_spelled, is_blank, is_line_terminator, AreTokensAfter, AreTokensOf}
+use Rattle.jsgen_model.specs.Tokens.{Tokens, done, piece, group, Piece, Word, Number, Quoted, Sign, Beyond, Special, Private, Pattern, Whole, Head, Middle, Tail, special_text, is_special, is_part, piece_text, is_spelled, is_blank, is_line_terminator, AreTokensAfter, AreTokensOf, AreTokensBehind}
 use Rattle.jsgen_model.specs.RegularExpressions.{is_body}
 use Rattle.jsgen_model.specs.Templates.{is_raw}
 use Rattle.jsgen_token_laws.proofs.Characters.{ranged}
@@ -161,3 +161,8 @@ scalars_after (group m b gs ts) line text h =
 
 pub tokens_scalars : (text : List ℕ) (ts : Tokens) → AreTokensOf text ts → all_scalars text ≡ true
 tokens_scalars text ts h = scalars_after ts false text h
+
+-- behind a hashbang or without one
+pub program_scalars : (hashbang : Option (List ℕ)) (text : List ℕ) (ts : Tokens) → AreTokensBehind hashbang text ts → all_scalars text ≡ true
+program_scalars None text ts h = tokens_scalars text ts h
+program_scalars (Some value) text ts h = subst (λ x. all_scalars x ≡ true) (sym h.1.text_is) (scalars_append (codes "#!") (value ++ h.0) refl (scalars_append value h.0 h.1.scalars (tokens_scalars h.0 ts h.2)))

@@ -19,7 +19,7 @@ use Rattle.jsgen_model.specs.Punctuator.{Punctuator, Bracket, punctuator_text, p
 use Rattle.jsgen_model.specs.Tokens.{longer_stands, Tokens, done, piece, group, Word, Number, Quoted, Sign, is_spelled, is_blank, is_line_terminator, has_line_end, Beyond}
 use Rattle.jsgen_model.specs.Numbers.{spells_number, spells_whole, takes_no_dot, ends_in, is_raw_number}
 use Rattle.jsgen_model.specs.Items.{member_dot, word, number, punctuator, operator, soft_space, soft_line, hard_space, body_space, indentation, due_semicolon, statement_begins, apart}
-use Rattle.jsgen_model.specs.Layout.{Pen, Ending, other_end, operator_end, layout, with_name, written, written_if, white_if, text_if, ending_unless, is_apart, ends_in_escapes, name_ending, space_if, joins, dot_joins, indented, indent_or_space, at_indentation, end_statement, number_ending}
+use Rattle.jsgen_model.specs.Layout.{Pen, Ending, other_end, operator_end, layout, with_name_written, written, written_if, white_if, text_if, ending_unless, is_apart, ends_in_escapes, name_ending, space_if, joins, dot_joins, indented, indent_or_space, at_indentation, end_statement, number_ending}
 use Rattle.jsgen_token_laws.proofs.Characters.{goes_on_in_sign, ends_in_word_behind, all_goes, all_follow, last_behind, alphanumeric_goes}
 use Rattle.jsgen_token_laws.proofs.Words.{word_begins, unescaped, name_spelled, spelled_name}
 use Rattle.jsgen_token_laws.proofs.Last.{Last, Open, After, line_of, Clear, Operand, Ready, Begun, Remembers, Ended, is_indent, Knows, NoDot, word_ends, clear_apart, clear_dots, clear_star, clear_quote, clear_quoted, clear_space, clear_operator, clear_word, clear_digit, increment_clear, decrement_clear, EndedSign, special_ends}
@@ -61,14 +61,14 @@ pub name_apart : (ascii : Bool) (code gap w : List ℕ) → spells_name w ≡ tr
 name_apart ascii code gap w h true e = refl
 name_apart ascii code gap w h false e = subst (λ t. is_apart other_end (code ++ (gap ++ t)) ≡ true) (sym (unescaped ascii w e)) (ends_apart other_end code gap w h)
 
-wrote_with_name : {names : Tables} (w : List ℕ) (p : Pen) (l : Last) → spells_name w ≡ true → Knows names p l → Writes names p l (with_name w p) (After (Word (name_text p.style.ascii w))) (piece (line_of l) (Word (name_text p.style.ascii w)) done)
-wrote_with_name w p l h k = written_word (name_text p.style.ascii w) p (with_name w p) l (name_spelled p.style.ascii w h) refl k (record { indent = k.indent; tables = k.tables; ending = name_apart p.style.ascii p.code (space_if (is_apart p.ending p.code)) w h (has_escapes p.style.ascii w) refl })
+wrote_with_name : {names : Tables} (w : List ℕ) (p : Pen) (l : Last) → spells_name w ≡ true → Knows names p l → Writes names p l (with_name_written w p) (After (Word (name_text p.style.ascii w))) (piece (line_of l) (Word (name_text p.style.ascii w)) done)
+wrote_with_name w p l h k = written_word (name_text p.style.ascii w) p (with_name_written w p) l (name_spelled p.style.ascii w h) refl k (record { indent = k.indent; tables = k.tables; ending = name_apart p.style.ascii p.code (space_if (is_apart p.ending p.code)) w h (has_escapes p.style.ascii w) refl })
 
 -- a name, whatever its span
-pub wrote_name : {names : Tables} (n : Named) (p : Pen) (l : Last) → spells_name (printed_name names n) ≡ true → Knows names p l → Writes names p l (with_name (printed_name p.style.tables n) p) (After (Word (name_text p.style.ascii (printed_name names n)))) (piece (line_of l) (Word (name_text p.style.ascii (printed_name names n))) done)
+pub wrote_name : {names : Tables} (n : Named) (p : Pen) (l : Last) → spells_name (printed_name names n) ≡ true → Knows names p l → Writes names p l (with_name_written (printed_name p.style.tables n) p) (After (Word (name_text p.style.ascii (printed_name names n)))) (piece (line_of l) (Word (name_text p.style.ascii (printed_name names n))) done)
 wrote_name {names} n p l h k =
     let w : List ℕ = name_text p.style.ascii (printed_name names n) in
-    subst (λ tables. Writes names p l (with_name (printed_name tables n) p) (After (Word w)) (piece (line_of l) (Word w) done)) (sym k.tables) (wrote_with_name (printed_name names n) p l h k)
+    subst (λ tables. Writes names p l (with_name_written (printed_name tables n) p) (After (Word w)) (piece (line_of l) (Word w) done)) (sym k.tables) (wrote_with_name (printed_name names n) p l h k)
 
 -- one that stands as it is written is printed so
 pub printed_as_written : (names : Tables) (w : List ℕ) → printed_name names (as_written w) ≡ w
@@ -78,10 +78,10 @@ printed_as_written names w = go names.scoping
     go None = refl
     go (Some scoping) = refl
 
-pub wrote_written_name : {names : Tables} (w : List ℕ) (p : Pen) (l : Last) → spells_name w ≡ true → Knows names p l → Writes names p l (with_name (printed_name p.style.tables (as_written w)) p) (After (Word (name_text p.style.ascii w))) (piece (line_of l) (Word (name_text p.style.ascii w)) done)
+pub wrote_written_name : {names : Tables} (w : List ℕ) (p : Pen) (l : Last) → spells_name w ≡ true → Knows names p l → Writes names p l (with_name_written (printed_name p.style.tables (as_written w)) p) (After (Word (name_text p.style.ascii w))) (piece (line_of l) (Word (name_text p.style.ascii w)) done)
 wrote_written_name {names} w p l h k =
     let e : printed_name names (as_written w) ≡ w = printed_as_written names w in
-    subst (λ x. Writes names p l (with_name (printed_name p.style.tables (as_written w)) p) (After (Word (name_text p.style.ascii x))) (piece (line_of l) (Word (name_text p.style.ascii x)) done)) e (wrote_name (as_written w) p l (subst (λ x. spells_name x ≡ true) (sym e) h) k)
+    subst (λ x. Writes names p l (with_name_written (printed_name p.style.tables (as_written w)) p) (After (Word (name_text p.style.ascii x))) (piece (line_of l) (Word (name_text p.style.ascii x)) done)) e (wrote_name (as_written w) p l (subst (λ x. spells_name x ≡ true) (sym e) h) k)
 
 -- a number that doesn't end in a dot ends in a character of words
 ends_apart_number : (e : Ending) (code gap : List ℕ) (c : ℕ) (w : List ℕ) → spells_number (c ∷ w) ≡ true → ends_in (codes ".") (c ∷ w) ≡ false → is_apart e (code ++ (gap ++ (c ∷ w))) ≡ true

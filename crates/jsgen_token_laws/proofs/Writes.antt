@@ -1,9 +1,10 @@
 -- What a step between two pens adds to the tokens of the code.
-use Rattle.std.proofs.Common.{◌≡◌, ℕ, Bool, true, false, ◌||◌, List, [], ◌++◌, refl, sym, ap, ◌∙◌, subst, append_assoc, append-nil}
+use Rattle.std.proofs.Common.{◌≡◌, ℕ, Bool, true, false, ◌||◌, inr, Some, codes, List, [], ◌++◌, refl, sym, ap, ◌∙◌, subst, append_assoc, append-nil}
 use Rattle.std.specs.List.{list_all}
+use Rattle.std.specs.Str.{all_scalars}
 use Rattle.jsgen_tree.specs.Job.{Tables}
 use Rattle.jsgen_model.specs.Punctuator.{Bracket, opening, closing}
-use Rattle.jsgen_model.specs.Tokens.{Tokens, done, piece, group, ◌⧺◌, Piece, piece_text, is_spelled, is_blank, has_line_end, is_line_terminator, AreTokensAfter, AreTokensOf}
+use Rattle.jsgen_model.specs.Tokens.{Tokens, done, piece, group, ◌⧺◌, Piece, piece_text, is_spelled, is_blank, has_line_end, is_line_terminator, AreTokensAfter, AreTokensOf, AreTokensBehind}
 use Rattle.jsgen_model.specs.Layout.{Pen}
 use Rattle.jsgen_token_laws.proofs.Characters.{all_append, any_append}
 use Rattle.jsgen_token_laws.proofs.Last.{Last, Open, After, line_of, Clear, Knows, clear_end, clear_opening}
@@ -77,8 +78,8 @@ wrote_piece p q l gap x mark h m s clear e k = record {
 }
 
 -- the tokens of a step's own text
-alone : {names : Tables} {p q : Pen} {m : Last} {ts : Tokens} → (w : Writes names p (Open false) q m ts) → AreTokensAfter false w.text ts
-alone {names} {p} {q} {m} {ts} w = rw (append-nil, then_done) at (w.tokens [] done (clear_end m) refl).1
+alone : {names : Tables} {line : Bool} {p q : Pen} {m : Last} {ts : Tokens} → (w : Writes names p (Open line) q m ts) → AreTokensAfter line w.text ts
+alone {names} {line} {p} {q} {m} {ts} w = rw (append-nil, then_done) at (w.tokens [] done (clear_end m) refl).1
 
 pub wrote_brackets : {names : Tables} (b : Bracket) (p p1 q q1 : Pen) (l m : Last) (gs : Tokens) → p1.code ≡ p.code ++ opening b → q1.code ≡ q.code ++ closing b → Knows names q1 (Open false) → Writes names p1 (Open false) q m gs → Writes names p l q1 (Open false) (group (line_of l) b gs done)
 wrote_brackets b p p1 q q1 l m gs e f k w = record {
@@ -98,3 +99,10 @@ wrote_brackets b p p1 q q1 l m gs e f k w = record {
 -- the whole text of a pen that began with nothing
 pub all_tokens : {names : Tables} (p q : Pen) (m : Last) (ts : Tokens) → p.code ≡ [] → Writes names p (Open false) q m ts → AreTokensOf q.code ts
 all_tokens p q m ts e w = subst (λ x. AreTokensAfter false x ts) (sym (w.code ∙ ap (λ x. x ++ w.text) e)) (alone w)
+
+-- of a pen that began with a hashbang and its line end: the first token stands behind that
+pub tokens_behind_hashbang : {names : Tables} (value : List ℕ) (p q : Pen) (m : Last) (ts : Tokens) → has_line_end value ≡ false → all_scalars value ≡ true → p.code ≡ (codes "#!" ++ value) ++ codes "\n" → Writes names p (Open true) q m ts → AreTokensBehind (Some value) q.code ts
+tokens_behind_hashbang value p q m ts h s e w = (codes "\n" ++ w.text, record { no_line_end = h; scalars = s; text_is = whole; ends = inr refl }, tokens_behind_blank false (codes "\n") w.text ts refl (alone w))
+  where
+    whole : q.code ≡ codes "#!" ++ (value ++ (codes "\n" ++ w.text))
+    whole = w.code ∙ (ap (λ x. x ++ w.text) e ∙ (append_assoc (codes "#!" ++ value) (codes "\n") w.text ∙ append_assoc (codes "#!") value (codes "\n" ++ w.text)))

@@ -5,6 +5,7 @@ use Rattle.std.proofs.Common.{Box, None, Some}
 use Rattle.jsgen_tree.specs.declared.sets.Argument.{Argument}
 use Rattle.jsgen_tree.specs.declared.sets.ArrayExpressionElement.{ArrayExpressionElement}
 use Rattle.jsgen_tree.specs.declared.sets.ChainElement.{ChainElement}
+use Rattle.jsgen_tree.specs.declared.sets.MemberExpression.{MemberExpression}
 use Rattle.jsgen_tree.specs.declared.sets.SimpleAssignmentTarget.{SimpleAssignmentTarget}
 use Rattle.jsgen_tree.specs.declared.sets.AssignmentTargetPattern.{AssignmentTargetPattern}
 use Rattle.jsgen_tree.specs.declared.sets.AssignmentTargetMaybeDefault.{AssignmentTargetMaybeDefault}
@@ -66,6 +67,7 @@ use Rattle.jsgen_tree.specs.declared.modules.ExportDefaultDeclaration.{ExportDef
 use Rattle.jsgen_tree.specs.declared.sets.Argument.TheVariants as arguments
 use Rattle.jsgen_tree.specs.declared.sets.ArrayExpressionElement.TheVariants as array_expression_elements
 use Rattle.jsgen_tree.specs.declared.sets.ChainElement.TheVariants as chain_elements
+use Rattle.jsgen_tree.specs.declared.sets.MemberExpression.TheVariants as member_expressions
 use Rattle.jsgen_tree.specs.declared.sets.SimpleAssignmentTarget.TheVariants as simple_assignment_targets
 use Rattle.jsgen_tree.specs.declared.sets.AssignmentTargetPattern.TheVariants as assignment_target_patterns
 use Rattle.jsgen_tree.specs.declared.sets.AssignmentTargetMaybeDefault.TheVariants as assignment_target_maybe_defaults
@@ -92,6 +94,11 @@ with_chain_element P of_static_member_expression of_computed_member_expression o
 with_chain_element P of_static_member_expression of_computed_member_expression of_private_field_expression of_call_expression (chain_elements.ComputedMemberExpression b) = of_computed_member_expression b
 with_chain_element P of_static_member_expression of_computed_member_expression of_private_field_expression of_call_expression (chain_elements.PrivateFieldExpression b) = of_private_field_expression b
 with_chain_element P of_static_member_expression of_computed_member_expression of_private_field_expression of_call_expression (chain_elements.CallExpression b) = of_call_expression b
+
+pub with_member_expression : {N : Type 0} (P : MemberExpression N → Type 0) → ((b : Box (StaticMemberExpression N) Global) → P (member_expressions.StaticMemberExpression b)) → ((b : Box (ComputedMemberExpression N) Global) → P (member_expressions.ComputedMemberExpression b)) → ((b : Box (PrivateFieldExpression N) Global) → P (member_expressions.PrivateFieldExpression b)) → (n : MemberExpression N) → P n
+with_member_expression P of_static_member_expression of_computed_member_expression of_private_field_expression (member_expressions.StaticMemberExpression b) = of_static_member_expression b
+with_member_expression P of_static_member_expression of_computed_member_expression of_private_field_expression (member_expressions.ComputedMemberExpression b) = of_computed_member_expression b
+with_member_expression P of_static_member_expression of_computed_member_expression of_private_field_expression (member_expressions.PrivateFieldExpression b) = of_private_field_expression b
 
 pub with_simple_assignment_target : {N : Type 0} (P : SimpleAssignmentTarget N → Type 0) → ((b : Box IdentifierReference Global) → P (simple_assignment_targets.IdentifierReference b)) → ((b : Box (StaticMemberExpression N) Global) → P (simple_assignment_targets.StaticMemberExpression b)) → ((b : Box (ComputedMemberExpression N) Global) → P (simple_assignment_targets.ComputedMemberExpression b)) → ((b : Box (PrivateFieldExpression N) Global) → P (simple_assignment_targets.PrivateFieldExpression b)) → (n : SimpleAssignmentTarget N) → P n
 with_simple_assignment_target P of_identifier_reference of_static_member_expression of_computed_member_expression of_private_field_expression (simple_assignment_targets.IdentifierReference b) = of_identifier_reference b

@@ -115,6 +115,7 @@ use Rattle.jsgen_tree.specs.declared.sets.Expression.{Expression}
 use Rattle.jsgen_tree.specs.declared.sets.Argument.{Argument}
 use Rattle.jsgen_tree.specs.declared.sets.ArrayExpressionElement.{ArrayExpressionElement}
 use Rattle.jsgen_tree.specs.declared.sets.ChainElement.{ChainElement}
+use Rattle.jsgen_tree.specs.declared.sets.MemberExpression.{MemberExpression}
 use Rattle.jsgen_tree.specs.declared.sets.SimpleAssignmentTarget.{SimpleAssignmentTarget}
 use Rattle.jsgen_tree.specs.declared.sets.AssignmentTargetPattern.{AssignmentTargetPattern}
 use Rattle.jsgen_tree.specs.declared.sets.AssignmentTarget.{AssignmentTarget}
@@ -137,6 +138,7 @@ use Rattle.jsgen_tree.specs.declared.sets.Expression.TheVariants as expression
 use Rattle.jsgen_tree.specs.declared.sets.Argument.TheVariants as argument
 use Rattle.jsgen_tree.specs.declared.sets.ArrayExpressionElement.TheVariants as array_expression_element
 use Rattle.jsgen_tree.specs.declared.sets.ChainElement.TheVariants as chain_element
+use Rattle.jsgen_tree.specs.declared.sets.MemberExpression.TheVariants as member_expression
 use Rattle.jsgen_tree.specs.declared.sets.SimpleAssignmentTarget.TheVariants as simple_assignment_target
 use Rattle.jsgen_tree.specs.declared.sets.AssignmentTargetPattern.TheVariants as assignment_target_pattern
 use Rattle.jsgen_tree.specs.declared.sets.AssignmentTarget.TheVariants as assignment_target
@@ -542,6 +544,11 @@ in_export_default_declaration_kind plain (export_default_declaration_kind.Expres
 
 abbrev pub export_default_declaration_row : {N : Type 0} → (N → Tree) → ExportDefaultDeclaration N → Tree
 export_default_declaration_row plain n = export_default_declaration (record { span = n.span; values = [] }) (in_export_default_declaration_kind plain n.declaration)
+
+abbrev pub in_member_expression : {N : Type 0} → (N → Tree) → MemberExpression N → Tree
+in_member_expression plain (member_expression.StaticMemberExpression b) = static_member_expression_row plain b.value
+in_member_expression plain (member_expression.ComputedMemberExpression b) = computed_member_expression_row plain b.value
+in_member_expression plain (member_expression.PrivateFieldExpression b) = private_field_expression_row plain b.value
 
 abbrev pub in_assignment_target_pattern : {N : Type 0} → (N → Tree) → AssignmentTargetPattern N → Tree
 in_assignment_target_pattern plain (assignment_target_pattern.ArrayAssignmentTarget b) = array_assignment_target_row plain b.value

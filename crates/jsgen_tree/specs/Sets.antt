@@ -60,6 +60,12 @@ is_chain_element types.PrivateFieldExpression = true
 is_chain_element types.CallExpression = true
 is_chain_element type = false
 
+abbrev pub is_member_expression : NodeType → Bool
+is_member_expression types.StaticMemberExpression = true
+is_member_expression types.ComputedMemberExpression = true
+is_member_expression types.PrivateFieldExpression = true
+is_member_expression type = false
+
 abbrev pub is_simple_assignment_target : NodeType → Bool
 is_simple_assignment_target types.IdentifierReference = true
 is_simple_assignment_target types.StaticMemberExpression = true

@@ -5,6 +5,7 @@ use Rattle.jsgen_tree.specs.declared.sets.Expression.{Expression}
 use Rattle.jsgen_tree.specs.declared.sets.Argument.{Argument}
 use Rattle.jsgen_tree.specs.declared.sets.ArrayExpressionElement.{ArrayExpressionElement}
 use Rattle.jsgen_tree.specs.declared.sets.ChainElement.{ChainElement}
+use Rattle.jsgen_tree.specs.declared.sets.MemberExpression.{MemberExpression}
 use Rattle.jsgen_tree.specs.declared.sets.SimpleAssignmentTarget.{SimpleAssignmentTarget}
 use Rattle.jsgen_tree.specs.declared.sets.AssignmentTargetPattern.{AssignmentTargetPattern}
 use Rattle.jsgen_tree.specs.declared.sets.AssignmentTarget.{AssignmentTarget}
@@ -27,6 +28,7 @@ use Rattle.jsgen_tree.specs.declared.sets.Expression.TheVariants as expression
 use Rattle.jsgen_tree.specs.declared.sets.Argument.TheVariants as argument
 use Rattle.jsgen_tree.specs.declared.sets.ArrayExpressionElement.TheVariants as array_expression_element
 use Rattle.jsgen_tree.specs.declared.sets.ChainElement.TheVariants as chain_element
+use Rattle.jsgen_tree.specs.declared.sets.MemberExpression.TheVariants as member_expression
 use Rattle.jsgen_tree.specs.declared.sets.SimpleAssignmentTarget.TheVariants as simple_assignment_target
 use Rattle.jsgen_tree.specs.declared.sets.AssignmentTargetPattern.TheVariants as assignment_target_pattern
 use Rattle.jsgen_tree.specs.declared.sets.AssignmentTarget.TheVariants as assignment_target
@@ -97,6 +99,11 @@ chain_element_span (chain_element.StaticMemberExpression b) = b.value.span
 chain_element_span (chain_element.ComputedMemberExpression b) = b.value.span
 chain_element_span (chain_element.PrivateFieldExpression b) = b.value.span
 chain_element_span (chain_element.CallExpression b) = b.value.span
+
+abbrev pub member_expression_span : {N : Type 0} → MemberExpression N → Span
+member_expression_span (member_expression.StaticMemberExpression b) = b.value.span
+member_expression_span (member_expression.ComputedMemberExpression b) = b.value.span
+member_expression_span (member_expression.PrivateFieldExpression b) = b.value.span
 
 abbrev pub simple_assignment_target_span : {N : Type 0} → SimpleAssignmentTarget N → Span
 simple_assignment_target_span (simple_assignment_target.IdentifierReference b) = b.value.span

@@ -52,14 +52,18 @@ impl MethodDefinitionKind {
 }
 
 /// A private name, without its `#` (ECMA-262, 12.7).
-#[derive(Drop)]
 pub struct PrivateIdentifier {
     pub span: Span,
     pub name: String,
 }
 
+impl Drop for PrivateIdentifier {
+    fn drop(self) {
+        let PrivateIdentifier { span: _, name: _ } = self;
+    }
+}
+
 /// A member by its private name (ECMA-262, 13.3.2).
-#[derive(Drop)]
 pub struct PrivateFieldExpression<N = Node> {
     pub span: Span,
     pub object: ExpressionNode<N>,
@@ -68,16 +72,35 @@ pub struct PrivateFieldExpression<N = Node> {
     pub field: Box<PrivateIdentifier>,
 }
 
+impl<N: Drop> Drop for PrivateFieldExpression<N> {
+    fn drop(self) {
+        let PrivateFieldExpression {
+            span: _,
+            object: _,
+            optional: _,
+            field: _,
+        } = self;
+    }
+}
+
 /// Whether an object has a member of a private name (ECMA-262, 13.10).
-#[derive(Drop)]
 pub struct PrivateInExpression<N = Node> {
     pub span: Span,
     pub left: Box<PrivateIdentifier>,
     pub right: ExpressionNode<N>,
 }
 
+impl<N: Drop> Drop for PrivateInExpression<N> {
+    fn drop(self) {
+        let PrivateInExpression {
+            span: _,
+            left: _,
+            right: _,
+        } = self;
+    }
+}
+
 /// A class with a name of its own or without (ECMA-262, 15.7).
-#[derive(Drop)]
 pub struct Class<N = Node> {
     pub span: Span,
     pub kind: ClassKind,
@@ -87,22 +110,43 @@ pub struct Class<N = Node> {
     pub body: Box<ClassBody<N>>,
 }
 
+impl<N: Drop> Drop for Class<N> {
+    fn drop(self) {
+        let Class {
+            span: _,
+            kind: _,
+            id: _,
+            heritage: _,
+            body: _,
+        } = self;
+    }
+}
+
 /// The members of a class (ECMA-262, 15.7).
-#[derive(Drop)]
 pub struct ClassBody<N = Node> {
     pub span: Span,
     pub body: Vec<ClassElementNode<N>>,
 }
 
+impl<N: Drop> Drop for ClassBody<N> {
+    fn drop(self) {
+        let ClassBody { span: _, body: _ } = self;
+    }
+}
+
 /// Statements that run when the class is made (ECMA-262, 15.7).
-#[derive(Drop)]
 pub struct StaticBlock<N = Node> {
     pub span: Span,
     pub body: Vec<StatementNode<N>>,
 }
 
+impl<N: Drop> Drop for StaticBlock<N> {
+    fn drop(self) {
+        let StaticBlock { span: _, body: _ } = self;
+    }
+}
+
 /// A method of a class, by its key and its function (ECMA-262, 15.4).
-#[derive(Drop)]
 pub struct MethodDefinition<N = Node> {
     pub span: Span,
     pub kind: MethodDefinitionKind,
@@ -112,12 +156,36 @@ pub struct MethodDefinition<N = Node> {
     pub is_static: bool,
 }
 
+impl<N: Drop> Drop for MethodDefinition<N> {
+    fn drop(self) {
+        let MethodDefinition {
+            span: _,
+            kind: _,
+            key: _,
+            value: _,
+            computed: _,
+            is_static: _,
+        } = self;
+    }
+}
+
 /// A field of a class (ECMA-262, 15.7).
-#[derive(Drop)]
 pub struct PropertyDefinition<N = Node> {
     pub span: Span,
     pub key: PropertyKey<N>,
     pub computed: bool,
     pub is_static: bool,
     pub value: Option<ExpressionNode<N>>,
+}
+
+impl<N: Drop> Drop for PropertyDefinition<N> {
+    fn drop(self) {
+        let PropertyDefinition {
+            span: _,
+            key: _,
+            computed: _,
+            is_static: _,
+            value: _,
+        } = self;
+    }
 }

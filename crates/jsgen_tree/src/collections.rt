@@ -29,21 +29,36 @@ impl PropertyKind {
 }
 
 /// The values of an expression, one by one, among the elements of an array or among arguments (ECMA-262, 13.2.4).
-#[derive(Drop)]
 pub struct SpreadElement<N = Node> {
     pub span: Span,
     pub argument: ExpressionNode<N>,
 }
 
+impl<N: Drop> Drop for SpreadElement<N> {
+    fn drop(self) {
+        let SpreadElement {
+            span: _,
+            argument: _,
+        } = self;
+    }
+}
+
 /// An array by its elements, of which some may be left out (ECMA-262, 13.2.4).
-#[derive(Drop)]
 pub struct ArrayExpression<N = Node> {
     pub span: Span,
     pub elements: Vec<Option<ArrayExpressionElement<N>>>,
 }
 
+impl<N: Drop> Drop for ArrayExpression<N> {
+    fn drop(self) {
+        let ArrayExpression {
+            span: _,
+            elements: _,
+        } = self;
+    }
+}
+
 /// A property by its key and its value (ECMA-262, 13.2.5).
-#[derive(Drop)]
 pub struct ObjectProperty<N = Node> {
     pub span: Span,
     pub kind: PropertyKind,
@@ -56,9 +71,31 @@ pub struct ObjectProperty<N = Node> {
     pub computed: bool,
 }
 
+impl<N: Drop> Drop for ObjectProperty<N> {
+    fn drop(self) {
+        let ObjectProperty {
+            span: _,
+            kind: _,
+            key: _,
+            value: _,
+            method: _,
+            shorthand: _,
+            computed: _,
+        } = self;
+    }
+}
+
 /// An object by its properties (ECMA-262, 13.2.5).
-#[derive(Drop)]
 pub struct ObjectExpression<N = Node> {
     pub span: Span,
     pub properties: Vec<ObjectPropertyKind<N>>,
+}
+
+impl<N: Drop> Drop for ObjectExpression<N> {
+    fn drop(self) {
+        let ObjectExpression {
+            span: _,
+            properties: _,
+        } = self;
+    }
 }

@@ -2,7 +2,7 @@
 // The type of a member of each set.
 ghost use Rattle.std.specs.Prelude.{◌≡◌};
 ghost use Rattle.jsgen_tree.specs.Tree.{type_of};
-ghost use Rattle.jsgen_tree.specs.Rows.{expression_plain, assignment_target_plain, declaration_plain, statement_plain, binding_pattern_plain, class_element_plain, in_argument, in_array_expression_element, in_chain_element, in_simple_assignment_target, in_assignment_target_pattern, in_assignment_target_maybe_default, in_assignment_target_property, in_arrow_function_body, in_for_statement_init, in_for_statement_left, in_object_property_kind, in_property_key, in_module_export_name, in_import_declaration_specifier, in_import_attribute_key, in_export_default_declaration_kind};
+ghost use Rattle.jsgen_tree.specs.Rows.{expression_plain, assignment_target_plain, declaration_plain, statement_plain, binding_pattern_plain, class_element_plain, in_argument, in_array_expression_element, in_chain_element, in_member_expression, in_simple_assignment_target, in_assignment_target_pattern, in_assignment_target_maybe_default, in_assignment_target_property, in_arrow_function_body, in_for_statement_init, in_for_statement_left, in_object_property_kind, in_property_key, in_module_export_name, in_import_declaration_specifier, in_import_attribute_key, in_export_default_declaration_kind};
 ghost use Rattle.jsgen_tree.specs.Plain.{node_plain};
 
 use crate::nodes::Node;
@@ -11,14 +11,15 @@ use crate::sets::{
     AssignmentTargetMaybeDefault, AssignmentTargetPattern, AssignmentTargetProperty,
     BindingPattern, ChainElement, ClassElement, Declaration, ExportDefaultDeclarationKind,
     Expression, ForStatementInit, ForStatementLeft, ImportAttributeKey, ImportDeclarationSpecifier,
-    ModuleExportName, ObjectPropertyKind, PropertyKey, SimpleAssignmentTarget, Statement,
+    MemberExpression, ModuleExportName, ObjectPropertyKind, PropertyKey, SimpleAssignmentTarget,
+    Statement,
 };
 use crate::types::NodeType;
 
-impl Expression {
+impl<N: HasType> Expression<N> {
     /// The type of the node.
     pub fn node_type(&self) -> NodeType
-        ensures { result ≡ type_of (expression_plain node_plain self.now) }
+        ensures { result ≡ type_of (expression_plain N.plain self.now) }
     {
         match self {
             Expression::IdentifierReference(_) => NodeType::IdentifierReference,
@@ -61,10 +62,10 @@ impl Expression {
     }
 }
 
-impl Argument {
+impl<N: HasType> Argument<N> {
     /// The type of the node.
     pub fn node_type(&self) -> NodeType
-        ensures { result ≡ type_of (in_argument node_plain self.now) }
+        ensures { result ≡ type_of (in_argument N.plain self.now) }
     {
         match self {
             Argument::SpreadElement(_) => NodeType::SpreadElement,
@@ -73,10 +74,10 @@ impl Argument {
     }
 }
 
-impl ArrayExpressionElement {
+impl<N: HasType> ArrayExpressionElement<N> {
     /// The type of the node.
     pub fn node_type(&self) -> NodeType
-        ensures { result ≡ type_of (in_array_expression_element node_plain self.now) }
+        ensures { result ≡ type_of (in_array_expression_element N.plain self.now) }
     {
         match self {
             ArrayExpressionElement::SpreadElement(_) => NodeType::SpreadElement,
@@ -85,10 +86,10 @@ impl ArrayExpressionElement {
     }
 }
 
-impl ChainElement {
+impl<N: HasType> ChainElement<N> {
     /// The type of the node.
     pub fn node_type(&self) -> NodeType
-        ensures { result ≡ type_of (in_chain_element node_plain self.now) }
+        ensures { result ≡ type_of (in_chain_element N.plain self.now) }
     {
         match self {
             ChainElement::StaticMemberExpression(_) => NodeType::StaticMemberExpression,
@@ -99,10 +100,23 @@ impl ChainElement {
     }
 }
 
-impl SimpleAssignmentTarget {
+impl<N: HasType> MemberExpression<N> {
     /// The type of the node.
     pub fn node_type(&self) -> NodeType
-        ensures { result ≡ type_of (in_simple_assignment_target node_plain self.now) }
+        ensures { result ≡ type_of (in_member_expression N.plain self.now) }
+    {
+        match self {
+            MemberExpression::StaticMemberExpression(_) => NodeType::StaticMemberExpression,
+            MemberExpression::ComputedMemberExpression(_) => NodeType::ComputedMemberExpression,
+            MemberExpression::PrivateFieldExpression(_) => NodeType::PrivateFieldExpression,
+        }
+    }
+}
+
+impl<N: HasType> SimpleAssignmentTarget<N> {
+    /// The type of the node.
+    pub fn node_type(&self) -> NodeType
+        ensures { result ≡ type_of (in_simple_assignment_target N.plain self.now) }
     {
         match self {
             SimpleAssignmentTarget::IdentifierReference(_) => NodeType::IdentifierReference,
@@ -114,10 +128,10 @@ impl SimpleAssignmentTarget {
     }
 }
 
-impl AssignmentTargetPattern {
+impl<N: HasType> AssignmentTargetPattern<N> {
     /// The type of the node.
     pub fn node_type(&self) -> NodeType
-        ensures { result ≡ type_of (in_assignment_target_pattern node_plain self.now) }
+        ensures { result ≡ type_of (in_assignment_target_pattern N.plain self.now) }
     {
         match self {
             AssignmentTargetPattern::ArrayAssignmentTarget(_) => NodeType::ArrayAssignmentTarget,
@@ -126,10 +140,10 @@ impl AssignmentTargetPattern {
     }
 }
 
-impl AssignmentTarget {
+impl<N: HasType> AssignmentTarget<N> {
     /// The type of the node.
     pub fn node_type(&self) -> NodeType
-        ensures { result ≡ type_of (assignment_target_plain node_plain self.now) }
+        ensures { result ≡ type_of (assignment_target_plain N.plain self.now) }
     {
         match self {
             AssignmentTarget::IdentifierReference(_) => NodeType::IdentifierReference,
@@ -142,10 +156,10 @@ impl AssignmentTarget {
     }
 }
 
-impl AssignmentTargetMaybeDefault {
+impl<N: HasType> AssignmentTargetMaybeDefault<N> {
     /// The type of the node.
     pub fn node_type(&self) -> NodeType
-        ensures { result ≡ type_of (in_assignment_target_maybe_default node_plain self.now) }
+        ensures { result ≡ type_of (in_assignment_target_maybe_default N.plain self.now) }
     {
         match self {
             AssignmentTargetMaybeDefault::AssignmentTarget(node) => node.get().node_type(),
@@ -155,10 +169,10 @@ impl AssignmentTargetMaybeDefault {
     }
 }
 
-impl AssignmentTargetProperty {
+impl<N: HasType> AssignmentTargetProperty<N> {
     /// The type of the node.
     pub fn node_type(&self) -> NodeType
-        ensures { result ≡ type_of (in_assignment_target_property node_plain self.now) }
+        ensures { result ≡ type_of (in_assignment_target_property N.plain self.now) }
     {
         match self {
             AssignmentTargetProperty::AssignmentTargetPropertyIdentifier(_) =>
@@ -169,10 +183,10 @@ impl AssignmentTargetProperty {
     }
 }
 
-impl ArrowFunctionBody {
+impl<N: HasType> ArrowFunctionBody<N> {
     /// The type of the node.
     pub fn node_type(&self) -> NodeType
-        ensures { result ≡ type_of (in_arrow_function_body node_plain self.now) }
+        ensures { result ≡ type_of (in_arrow_function_body N.plain self.now) }
     {
         match self {
             ArrowFunctionBody::FunctionBody(_) => NodeType::FunctionBody,
@@ -181,10 +195,10 @@ impl ArrowFunctionBody {
     }
 }
 
-impl ForStatementInit {
+impl<N: HasType> ForStatementInit<N> {
     /// The type of the node.
     pub fn node_type(&self) -> NodeType
-        ensures { result ≡ type_of (in_for_statement_init node_plain self.now) }
+        ensures { result ≡ type_of (in_for_statement_init N.plain self.now) }
     {
         match self {
             ForStatementInit::VariableDeclaration(_) => NodeType::VariableDeclaration,
@@ -193,10 +207,10 @@ impl ForStatementInit {
     }
 }
 
-impl ForStatementLeft {
+impl<N: HasType> ForStatementLeft<N> {
     /// The type of the node.
     pub fn node_type(&self) -> NodeType
-        ensures { result ≡ type_of (in_for_statement_left node_plain self.now) }
+        ensures { result ≡ type_of (in_for_statement_left N.plain self.now) }
     {
         match self {
             ForStatementLeft::VariableDeclaration(_) => NodeType::VariableDeclaration,
@@ -205,10 +219,10 @@ impl ForStatementLeft {
     }
 }
 
-impl ObjectPropertyKind {
+impl<N: HasType> ObjectPropertyKind<N> {
     /// The type of the node.
     pub fn node_type(&self) -> NodeType
-        ensures { result ≡ type_of (in_object_property_kind node_plain self.now) }
+        ensures { result ≡ type_of (in_object_property_kind N.plain self.now) }
     {
         match self {
             ObjectPropertyKind::ObjectProperty(_) => NodeType::ObjectProperty,
@@ -217,10 +231,10 @@ impl ObjectPropertyKind {
     }
 }
 
-impl PropertyKey {
+impl<N: HasType> PropertyKey<N> {
     /// The type of the node.
     pub fn node_type(&self) -> NodeType
-        ensures { result ≡ type_of (in_property_key node_plain self.now) }
+        ensures { result ≡ type_of (in_property_key N.plain self.now) }
     {
         match self {
             PropertyKey::IdentifierName(_) => NodeType::IdentifierName,
@@ -230,10 +244,10 @@ impl PropertyKey {
     }
 }
 
-impl Declaration {
+impl<N: HasType> Declaration<N> {
     /// The type of the node.
     pub fn node_type(&self) -> NodeType
-        ensures { result ≡ type_of (declaration_plain node_plain self.now) }
+        ensures { result ≡ type_of (declaration_plain N.plain self.now) }
     {
         match self {
             Declaration::VariableDeclaration(_) => NodeType::VariableDeclaration,
@@ -243,11 +257,10 @@ impl Declaration {
     }
 }
 
-impl Statement {
+impl<N: HasType> Statement<N> {
     /// The type of the node.
-    #[cycle(node_type)]
     pub fn node_type(&self) -> NodeType
-        ensures { result ≡ type_of (statement_plain node_plain self.now) }
+        ensures { result ≡ type_of (statement_plain N.plain self.now) }
     {
         match self {
             Statement::Declaration(node) => node.get().node_type(),
@@ -278,10 +291,10 @@ impl Statement {
     }
 }
 
-impl BindingPattern {
+impl<N: HasType> BindingPattern<N> {
     /// The type of the node.
     pub fn node_type(&self) -> NodeType
-        ensures { result ≡ type_of (binding_pattern_plain node_plain self.now) }
+        ensures { result ≡ type_of (binding_pattern_plain N.plain self.now) }
     {
         match self {
             BindingPattern::BindingIdentifier(_) => NodeType::BindingIdentifier,
@@ -292,10 +305,10 @@ impl BindingPattern {
     }
 }
 
-impl ClassElement {
+impl<N: HasType> ClassElement<N> {
     /// The type of the node.
     pub fn node_type(&self) -> NodeType
-        ensures { result ≡ type_of (class_element_plain node_plain self.now) }
+        ensures { result ≡ type_of (class_element_plain N.plain self.now) }
     {
         match self {
             ClassElement::StaticBlock(_) => NodeType::StaticBlock,
@@ -345,10 +358,10 @@ impl ImportAttributeKey {
     }
 }
 
-impl ExportDefaultDeclarationKind {
+impl<N: HasType> ExportDefaultDeclarationKind<N> {
     /// The type of the node.
     pub fn node_type(&self) -> NodeType
-        ensures { result ≡ type_of (in_export_default_declaration_kind node_plain self.now) }
+        ensures { result ≡ type_of (in_export_default_declaration_kind N.plain self.now) }
     {
         match self {
             ExportDefaultDeclarationKind::Function(_) => NodeType::Function,
@@ -358,12 +371,22 @@ impl ExportDefaultDeclarationKind {
     }
 }
 
-impl Node {
+/// What nests in a set and has a type: `Node` alone.
+pub trait HasType {
+    ghost use Rattle.jsgen_tree.specs.Tree.{Tree};
+
+    ghost plain: { Self → Tree };
+
     /// The type of the node.
+    fn node_type(&self) -> NodeType
+        ensures { result ≡ type_of (plain self.now) };
+}
+
+impl HasType for Node {
+    ghost plain = { λ n. node_plain n };
+
     #[cycle(node_type)]
-    pub fn node_type(&self) -> NodeType
-        ensures { result ≡ type_of (node_plain self.now) }
-    {
+    fn node_type(&self) -> NodeType {
         match self {
             Node::Expression(node) => node.node_type(),
             Node::AssignmentTarget(node) => node.node_type(),
@@ -372,5 +395,14 @@ impl Node {
             Node::BindingPattern(node) => node.node_type(),
             Node::ClassElement(node) => node.node_type(),
         }
+    }
+}
+
+impl Node {
+    /// The type of the node.
+    pub fn node_type(&self) -> NodeType
+        ensures { result ≡ type_of (node_plain self.now) }
+    {
+        HasType::node_type(self)
     }
 }

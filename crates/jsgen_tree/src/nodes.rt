@@ -54,30 +54,43 @@ pub struct ClassElementNode<N = Node> {
 }
 
 // Written out, so that it is proved here alone: a derived one is proved again, for all types, in each crate that lets go of a tree.
+// Each set is let go of by a function over any `N`: of members at `Node` itself the proof is one for each way that types stand in one another.
 impl Drop for Node {
     #[cycle(node)]
     fn drop(self) {
         match self {
-            Node::Expression(member) => {
-                let _ = member;
-            }
-            Node::AssignmentTarget(member) => {
-                let _ = member;
-            }
-            Node::Declaration(member) => {
-                let _ = member;
-            }
-            Node::Statement(member) => {
-                let _ = member;
-            }
-            Node::BindingPattern(member) => {
-                let _ = member;
-            }
-            Node::ClassElement(member) => {
-                let _ = member;
-            }
+            Node::Expression(member) => let_go_of_expression(member),
+            Node::AssignmentTarget(member) => let_go_of_assignment_target(member),
+            Node::Declaration(member) => let_go_of_declaration(member),
+            Node::Statement(member) => let_go_of_statement(member),
+            Node::BindingPattern(member) => let_go_of_binding_pattern(member),
+            Node::ClassElement(member) => let_go_of_class_element(member),
         }
     }
+}
+
+fn let_go_of_expression<N: Drop>(member: Expression<N>) {
+    let _ = member;
+}
+
+fn let_go_of_assignment_target<N: Drop>(member: AssignmentTarget<N>) {
+    let _ = member;
+}
+
+fn let_go_of_declaration<N: Drop>(member: Declaration<N>) {
+    let _ = member;
+}
+
+fn let_go_of_statement<N: Drop>(member: Statement<N>) {
+    let _ = member;
+}
+
+fn let_go_of_binding_pattern<N: Drop>(member: BindingPattern<N>) {
+    let _ = member;
+}
+
+fn let_go_of_class_element<N: Drop>(member: ClassElement<N>) {
+    let _ = member;
 }
 
 impl From<Expression> for ExpressionNode {

@@ -105,6 +105,14 @@ pub enum ChainElement<N = Node> {
     CallExpression(Box<CallExpression<N>>),
 }
 
+/// A member of an object, which a link goes on from.
+#[derive(Drop)]
+pub enum MemberExpression<N = Node> {
+    StaticMemberExpression(Box<StaticMemberExpression<N>>),
+    ComputedMemberExpression(Box<ComputedMemberExpression<N>>),
+    PrivateFieldExpression(Box<PrivateFieldExpression<N>>),
+}
+
 /// What may be changed as it stands.
 #[derive(Drop)]
 pub enum SimpleAssignmentTarget<N = Node> {

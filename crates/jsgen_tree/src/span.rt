@@ -3,7 +3,7 @@
 ghost use Rattle.std.specs.Prelude.{◌≡◌};
 ghost use Rattle.jsgen_tree.specs.Tree.{span_of};
 ghost use Rattle.jsgen_tree.specs.Plain.{node_plain};
-ghost use Rattle.jsgen_tree.specs.Spans.{expression_span, argument_span, array_expression_element_span, chain_element_span, simple_assignment_target_span, assignment_target_pattern_span, assignment_target_span, assignment_target_maybe_default_span, assignment_target_property_span, arrow_function_body_span, for_statement_init_span, for_statement_left_span, object_property_kind_span, property_key_span, declaration_span, statement_span, binding_pattern_span, class_element_span, module_export_name_span, import_declaration_specifier_span, import_attribute_key_span, export_default_declaration_kind_span};
+ghost use Rattle.jsgen_tree.specs.Spans.{expression_span, argument_span, array_expression_element_span, chain_element_span, member_expression_span, simple_assignment_target_span, assignment_target_pattern_span, assignment_target_span, assignment_target_maybe_default_span, assignment_target_property_span, arrow_function_body_span, for_statement_init_span, for_statement_left_span, object_property_kind_span, property_key_span, declaration_span, statement_span, binding_pattern_span, class_element_span, module_export_name_span, import_declaration_specifier_span, import_attribute_key_span, export_default_declaration_kind_span};
 
 use crate::nodes::Node;
 use crate::sets::{
@@ -11,7 +11,8 @@ use crate::sets::{
     AssignmentTargetMaybeDefault, AssignmentTargetPattern, AssignmentTargetProperty,
     BindingPattern, ChainElement, ClassElement, Declaration, ExportDefaultDeclarationKind,
     Expression, ForStatementInit, ForStatementLeft, ImportAttributeKey, ImportDeclarationSpecifier,
-    ModuleExportName, ObjectPropertyKind, PropertyKey, SimpleAssignmentTarget, Statement,
+    MemberExpression, ModuleExportName, ObjectPropertyKind, PropertyKey, SimpleAssignmentTarget,
+    Statement,
 };
 use jsgen_syntax::Span;
 
@@ -101,6 +102,18 @@ impl<N> GetSpan for ChainElement<N> {
             ChainElement::ComputedMemberExpression(node) => node.span,
             ChainElement::PrivateFieldExpression(node) => node.span,
             ChainElement::CallExpression(node) => node.span,
+        }
+    }
+}
+
+impl<N> GetSpan for MemberExpression<N> {
+    ghost own_span = { λ n. member_expression_span n };
+
+    fn span(&self) -> Span {
+        match self {
+            MemberExpression::StaticMemberExpression(node) => node.span,
+            MemberExpression::ComputedMemberExpression(node) => node.span,
+            MemberExpression::PrivateFieldExpression(node) => node.span,
         }
     }
 }

@@ -92,7 +92,6 @@ impl VariableDeclarationKind {
 }
 
 /// A script or a module (ECMA-262, 16).
-#[derive(Drop)]
 pub struct Program<N = Node> {
     pub span: Span,
     /// The text that spans speak of.
@@ -104,6 +103,20 @@ pub struct Program<N = Node> {
     pub hashbang: Option<Box<Hashbang>>,
     pub directives: Vec<Directive>,
     pub body: Vec<StatementNode<N>>,
+}
+
+impl<N: Drop> Drop for Program<N> {
+    fn drop(self) {
+        let Program {
+            span: _,
+            source: _,
+            kind: _,
+            comments: _,
+            hashbang: _,
+            directives: _,
+            body: _,
+        } = self;
+    }
 }
 
 /// A comment, by where it stands in the source (ECMA-262, 12.4).
@@ -121,31 +134,56 @@ pub struct Comment {
 }
 
 /// A string at the front of a body that a program says something by (ECMA-262, 11.2.1).
-#[derive(Drop)]
 pub struct Directive {
     pub span: Span,
     /// What stands between its quotes, as it is written.
     pub directive: String,
 }
 
+impl Drop for Directive {
+    fn drop(self) {
+        let Directive {
+            span: _,
+            directive: _,
+        } = self;
+    }
+}
+
 /// Names that are bound, and their values (ECMA-262, 14.3).
-#[derive(Drop)]
 pub struct VariableDeclaration<N = Node> {
     pub span: Span,
     pub kind: VariableDeclarationKind,
     pub declarations: Vec<VariableDeclarator<N>>,
 }
 
+impl<N: Drop> Drop for VariableDeclaration<N> {
+    fn drop(self) {
+        let VariableDeclaration {
+            span: _,
+            kind: _,
+            declarations: _,
+        } = self;
+    }
+}
+
 /// One name that is bound, or one pattern (ECMA-262, 14.3).
-#[derive(Drop)]
 pub struct VariableDeclarator<N = Node> {
     pub span: Span,
     pub id: BindingPatternNode<N>,
     pub init: Option<ExpressionNode<N>>,
 }
 
+impl<N: Drop> Drop for VariableDeclarator<N> {
+    fn drop(self) {
+        let VariableDeclarator {
+            span: _,
+            id: _,
+            init: _,
+        } = self;
+    }
+}
+
 /// A name that is bound (ECMA-262, 13.1).
-#[derive(Drop)]
 pub struct BindingIdentifier {
     pub span: Span,
     pub name: String,
@@ -153,22 +191,44 @@ pub struct BindingIdentifier {
     pub symbol: Option<u32>,
 }
 
+impl Drop for BindingIdentifier {
+    fn drop(self) {
+        let BindingIdentifier {
+            span: _,
+            name: _,
+            symbol: _,
+        } = self;
+    }
+}
+
 /// An expression for what it does (ECMA-262, 14.5).
-#[derive(Drop)]
 pub struct ExpressionStatement<N = Node> {
     pub span: Span,
     pub expression: ExpressionNode<N>,
 }
 
+impl<N: Drop> Drop for ExpressionStatement<N> {
+    fn drop(self) {
+        let ExpressionStatement {
+            span: _,
+            expression: _,
+        } = self;
+    }
+}
+
 /// Statements in braces (ECMA-262, 14.2).
-#[derive(Drop)]
 pub struct BlockStatement<N = Node> {
     pub span: Span,
     pub body: Vec<StatementNode<N>>,
 }
 
+impl<N: Drop> Drop for BlockStatement<N> {
+    fn drop(self) {
+        let BlockStatement { span: _, body: _ } = self;
+    }
+}
+
 /// A choice, with `else` or without (ECMA-262, 14.6).
-#[derive(Drop)]
 pub struct IfStatement<N = Node> {
     pub span: Span,
     pub test: ExpressionNode<N>,
@@ -176,8 +236,24 @@ pub struct IfStatement<N = Node> {
     pub alternate: Option<StatementNode<N>>,
 }
 
+impl<N: Drop> Drop for IfStatement<N> {
+    fn drop(self) {
+        let IfStatement {
+            span: _,
+            test: _,
+            consequent: _,
+            alternate: _,
+        } = self;
+    }
+}
+
 /// A semicolon alone (ECMA-262, 14.4).
-#[derive(Drop)]
 pub struct EmptyStatement {
     pub span: Span,
+}
+
+impl Drop for EmptyStatement {
+    fn drop(self) {
+        let EmptyStatement { span: _ } = self;
+    }
 }

@@ -1,7 +1,7 @@
 // Generated from tools/nodes/table.txt; edit that and run tools/nodes/generate.
 // The types of nodes, and the sets that a field's child may be of.
 ghost use Rattle.std.specs.Prelude.{◌≡◌};
-ghost use Rattle.jsgen_tree.specs.Sets.{in_set, is_expression, is_argument, is_array_expression_element, is_chain_element, is_simple_assignment_target, is_assignment_target_pattern, is_assignment_target, is_assignment_target_maybe_default, is_assignment_target_property, is_arrow_function_body, is_for_statement_init, is_for_statement_left, is_object_property_kind, is_property_key, is_declaration, is_statement, is_binding_pattern, is_class_element, is_module_export_name, is_import_declaration_specifier, is_import_attribute_key, is_export_default_declaration_kind};
+ghost use Rattle.jsgen_tree.specs.Sets.{in_set, is_expression, is_argument, is_array_expression_element, is_chain_element, is_member_expression, is_simple_assignment_target, is_assignment_target_pattern, is_assignment_target, is_assignment_target_maybe_default, is_assignment_target_property, is_arrow_function_body, is_for_statement_init, is_for_statement_left, is_object_property_kind, is_property_key, is_declaration, is_statement, is_binding_pattern, is_class_element, is_module_export_name, is_import_declaration_specifier, is_import_attribute_key, is_export_default_declaration_kind};
 
 /// The type of a node.
 #[derive(Clone, Copy, Debug, PartialEq, Eq)]
@@ -272,92 +272,14 @@ impl NodeType {
     pub fn is_argument(self) -> bool
         ensures { result ≡ is_argument self }
     {
-        matches!(
-            &self,
-            NodeType::SpreadElement
-                | NodeType::IdentifierReference
-                | NodeType::ThisExpression
-                | NodeType::NullLiteral
-                | NodeType::BooleanLiteral
-                | NodeType::NumericLiteral
-                | NodeType::BigIntLiteral
-                | NodeType::StringLiteral
-                | NodeType::RegExpLiteral
-                | NodeType::BinaryExpression
-                | NodeType::LogicalExpression
-                | NodeType::ParenthesizedExpression
-                | NodeType::StaticMemberExpression
-                | NodeType::ComputedMemberExpression
-                | NodeType::CallExpression
-                | NodeType::ChainExpression
-                | NodeType::ArrayExpression
-                | NodeType::ObjectExpression
-                | NodeType::UnaryExpression
-                | NodeType::UpdateExpression
-                | NodeType::NewExpression
-                | NodeType::NewTarget
-                | NodeType::Super
-                | NodeType::ImportMeta
-                | NodeType::ConditionalExpression
-                | NodeType::SequenceExpression
-                | NodeType::AssignmentExpression
-                | NodeType::Function
-                | NodeType::ArrowFunctionExpression
-                | NodeType::Class
-                | NodeType::PrivateFieldExpression
-                | NodeType::PrivateInExpression
-                | NodeType::AwaitExpression
-                | NodeType::YieldExpression
-                | NodeType::TemplateLiteral
-                | NodeType::TaggedTemplateExpression
-                | NodeType::ImportExpression
-        )
+        matches!(&self, NodeType::SpreadElement) || self.is_expression()
     }
 
     /// Whether nodes of this type are in `ArrayExpressionElement`.
     pub fn is_array_expression_element(self) -> bool
         ensures { result ≡ is_array_expression_element self }
     {
-        matches!(
-            &self,
-            NodeType::SpreadElement
-                | NodeType::IdentifierReference
-                | NodeType::ThisExpression
-                | NodeType::NullLiteral
-                | NodeType::BooleanLiteral
-                | NodeType::NumericLiteral
-                | NodeType::BigIntLiteral
-                | NodeType::StringLiteral
-                | NodeType::RegExpLiteral
-                | NodeType::BinaryExpression
-                | NodeType::LogicalExpression
-                | NodeType::ParenthesizedExpression
-                | NodeType::StaticMemberExpression
-                | NodeType::ComputedMemberExpression
-                | NodeType::CallExpression
-                | NodeType::ChainExpression
-                | NodeType::ArrayExpression
-                | NodeType::ObjectExpression
-                | NodeType::UnaryExpression
-                | NodeType::UpdateExpression
-                | NodeType::NewExpression
-                | NodeType::NewTarget
-                | NodeType::Super
-                | NodeType::ImportMeta
-                | NodeType::ConditionalExpression
-                | NodeType::SequenceExpression
-                | NodeType::AssignmentExpression
-                | NodeType::Function
-                | NodeType::ArrowFunctionExpression
-                | NodeType::Class
-                | NodeType::PrivateFieldExpression
-                | NodeType::PrivateInExpression
-                | NodeType::AwaitExpression
-                | NodeType::YieldExpression
-                | NodeType::TemplateLiteral
-                | NodeType::TaggedTemplateExpression
-                | NodeType::ImportExpression
-        )
+        matches!(&self, NodeType::SpreadElement) || self.is_expression()
     }
 
     /// Whether nodes of this type are in `ChainElement`.
@@ -370,6 +292,18 @@ impl NodeType {
                 | NodeType::ComputedMemberExpression
                 | NodeType::PrivateFieldExpression
                 | NodeType::CallExpression
+        )
+    }
+
+    /// Whether nodes of this type are in `MemberExpression`.
+    pub fn is_member_expression(self) -> bool
+        ensures { result ≡ is_member_expression self }
+    {
+        matches!(
+            &self,
+            NodeType::StaticMemberExpression
+                | NodeType::ComputedMemberExpression
+                | NodeType::PrivateFieldExpression
         )
     }
 
@@ -415,16 +349,7 @@ impl NodeType {
     pub fn is_assignment_target_maybe_default(self) -> bool
         ensures { result ≡ is_assignment_target_maybe_default self }
     {
-        matches!(
-            &self,
-            NodeType::IdentifierReference
-                | NodeType::StaticMemberExpression
-                | NodeType::ComputedMemberExpression
-                | NodeType::PrivateFieldExpression
-                | NodeType::ArrayAssignmentTarget
-                | NodeType::ObjectAssignmentTarget
-                | NodeType::AssignmentTargetWithDefault
-        )
+        matches!(&self, NodeType::AssignmentTargetWithDefault) || self.is_assignment_target()
     }
 
     /// Whether nodes of this type are in `AssignmentTargetProperty`.
@@ -442,108 +367,21 @@ impl NodeType {
     pub fn is_arrow_function_body(self) -> bool
         ensures { result ≡ is_arrow_function_body self }
     {
-        matches!(
-            &self,
-            NodeType::FunctionBody
-                | NodeType::IdentifierReference
-                | NodeType::ThisExpression
-                | NodeType::NullLiteral
-                | NodeType::BooleanLiteral
-                | NodeType::NumericLiteral
-                | NodeType::BigIntLiteral
-                | NodeType::StringLiteral
-                | NodeType::RegExpLiteral
-                | NodeType::BinaryExpression
-                | NodeType::LogicalExpression
-                | NodeType::ParenthesizedExpression
-                | NodeType::StaticMemberExpression
-                | NodeType::ComputedMemberExpression
-                | NodeType::CallExpression
-                | NodeType::ChainExpression
-                | NodeType::ArrayExpression
-                | NodeType::ObjectExpression
-                | NodeType::UnaryExpression
-                | NodeType::UpdateExpression
-                | NodeType::NewExpression
-                | NodeType::NewTarget
-                | NodeType::Super
-                | NodeType::ImportMeta
-                | NodeType::ConditionalExpression
-                | NodeType::SequenceExpression
-                | NodeType::AssignmentExpression
-                | NodeType::Function
-                | NodeType::ArrowFunctionExpression
-                | NodeType::Class
-                | NodeType::PrivateFieldExpression
-                | NodeType::PrivateInExpression
-                | NodeType::AwaitExpression
-                | NodeType::YieldExpression
-                | NodeType::TemplateLiteral
-                | NodeType::TaggedTemplateExpression
-                | NodeType::ImportExpression
-        )
+        matches!(&self, NodeType::FunctionBody) || self.is_expression()
     }
 
     /// Whether nodes of this type are in `ForStatementInit`.
     pub fn is_for_statement_init(self) -> bool
         ensures { result ≡ is_for_statement_init self }
     {
-        matches!(
-            &self,
-            NodeType::VariableDeclaration
-                | NodeType::IdentifierReference
-                | NodeType::ThisExpression
-                | NodeType::NullLiteral
-                | NodeType::BooleanLiteral
-                | NodeType::NumericLiteral
-                | NodeType::BigIntLiteral
-                | NodeType::StringLiteral
-                | NodeType::RegExpLiteral
-                | NodeType::BinaryExpression
-                | NodeType::LogicalExpression
-                | NodeType::ParenthesizedExpression
-                | NodeType::StaticMemberExpression
-                | NodeType::ComputedMemberExpression
-                | NodeType::CallExpression
-                | NodeType::ChainExpression
-                | NodeType::ArrayExpression
-                | NodeType::ObjectExpression
-                | NodeType::UnaryExpression
-                | NodeType::UpdateExpression
-                | NodeType::NewExpression
-                | NodeType::NewTarget
-                | NodeType::Super
-                | NodeType::ImportMeta
-                | NodeType::ConditionalExpression
-                | NodeType::SequenceExpression
-                | NodeType::AssignmentExpression
-                | NodeType::Function
-                | NodeType::ArrowFunctionExpression
-                | NodeType::Class
-                | NodeType::PrivateFieldExpression
-                | NodeType::PrivateInExpression
-                | NodeType::AwaitExpression
-                | NodeType::YieldExpression
-                | NodeType::TemplateLiteral
-                | NodeType::TaggedTemplateExpression
-                | NodeType::ImportExpression
-        )
+        matches!(&self, NodeType::VariableDeclaration) || self.is_expression()
     }
 
     /// Whether nodes of this type are in `ForStatementLeft`.
     pub fn is_for_statement_left(self) -> bool
         ensures { result ≡ is_for_statement_left self }
     {
-        matches!(
-            &self,
-            NodeType::VariableDeclaration
-                | NodeType::IdentifierReference
-                | NodeType::StaticMemberExpression
-                | NodeType::ComputedMemberExpression
-                | NodeType::PrivateFieldExpression
-                | NodeType::ArrayAssignmentTarget
-                | NodeType::ObjectAssignmentTarget
-        )
+        matches!(&self, NodeType::VariableDeclaration) || self.is_assignment_target()
     }
 
     /// Whether nodes of this type are in `ObjectPropertyKind`.
@@ -559,45 +397,8 @@ impl NodeType {
     {
         matches!(
             &self,
-            NodeType::IdentifierName
-                | NodeType::PrivateIdentifier
-                | NodeType::IdentifierReference
-                | NodeType::ThisExpression
-                | NodeType::NullLiteral
-                | NodeType::BooleanLiteral
-                | NodeType::NumericLiteral
-                | NodeType::BigIntLiteral
-                | NodeType::StringLiteral
-                | NodeType::RegExpLiteral
-                | NodeType::BinaryExpression
-                | NodeType::LogicalExpression
-                | NodeType::ParenthesizedExpression
-                | NodeType::StaticMemberExpression
-                | NodeType::ComputedMemberExpression
-                | NodeType::CallExpression
-                | NodeType::ChainExpression
-                | NodeType::ArrayExpression
-                | NodeType::ObjectExpression
-                | NodeType::UnaryExpression
-                | NodeType::UpdateExpression
-                | NodeType::NewExpression
-                | NodeType::NewTarget
-                | NodeType::Super
-                | NodeType::ImportMeta
-                | NodeType::ConditionalExpression
-                | NodeType::SequenceExpression
-                | NodeType::AssignmentExpression
-                | NodeType::Function
-                | NodeType::ArrowFunctionExpression
-                | NodeType::Class
-                | NodeType::PrivateFieldExpression
-                | NodeType::PrivateInExpression
-                | NodeType::AwaitExpression
-                | NodeType::YieldExpression
-                | NodeType::TemplateLiteral
-                | NodeType::TaggedTemplateExpression
-                | NodeType::ImportExpression
-        )
+            NodeType::IdentifierName | NodeType::PrivateIdentifier
+        ) || self.is_expression()
     }
 
     /// Whether nodes of this type are in `Declaration`.
@@ -616,10 +417,7 @@ impl NodeType {
     {
         matches!(
             &self,
-            NodeType::VariableDeclaration
-                | NodeType::Function
-                | NodeType::Class
-                | NodeType::ExpressionStatement
+            NodeType::ExpressionStatement
                 | NodeType::BlockStatement
                 | NodeType::IfStatement
                 | NodeType::EmptyStatement
@@ -642,7 +440,7 @@ impl NodeType {
                 | NodeType::ExportFromDeclaration
                 | NodeType::ExportAllDeclaration
                 | NodeType::ExportDefaultDeclaration
-        )
+        ) || self.is_declaration()
     }
 
     /// Whether nodes of this type are in `BindingPattern`.
@@ -701,44 +499,6 @@ impl NodeType {
     pub fn is_export_default_declaration_kind(self) -> bool
         ensures { result ≡ is_export_default_declaration_kind self }
     {
-        matches!(
-            &self,
-            NodeType::Function
-                | NodeType::Class
-                | NodeType::IdentifierReference
-                | NodeType::ThisExpression
-                | NodeType::NullLiteral
-                | NodeType::BooleanLiteral
-                | NodeType::NumericLiteral
-                | NodeType::BigIntLiteral
-                | NodeType::StringLiteral
-                | NodeType::RegExpLiteral
-                | NodeType::BinaryExpression
-                | NodeType::LogicalExpression
-                | NodeType::ParenthesizedExpression
-                | NodeType::StaticMemberExpression
-                | NodeType::ComputedMemberExpression
-                | NodeType::CallExpression
-                | NodeType::ChainExpression
-                | NodeType::ArrayExpression
-                | NodeType::ObjectExpression
-                | NodeType::UnaryExpression
-                | NodeType::UpdateExpression
-                | NodeType::NewExpression
-                | NodeType::NewTarget
-                | NodeType::Super
-                | NodeType::ImportMeta
-                | NodeType::ConditionalExpression
-                | NodeType::SequenceExpression
-                | NodeType::AssignmentExpression
-                | NodeType::ArrowFunctionExpression
-                | NodeType::PrivateFieldExpression
-                | NodeType::PrivateInExpression
-                | NodeType::AwaitExpression
-                | NodeType::YieldExpression
-                | NodeType::TemplateLiteral
-                | NodeType::TaggedTemplateExpression
-                | NodeType::ImportExpression
-        )
+        matches!(&self, NodeType::Function | NodeType::Class) || self.is_expression()
     }
 }

@@ -49,7 +49,7 @@ test("README has three screens, and the first has one example and the commands",
   const first = README.slice(0, README.indexOf("\n## "));
   const lines = first.split("\n").reduce((sum, line) => sum + wrapped(line), 0);
   assert.ok(lines <= 40, `${lines} lines of ${WIDTH} characters`);
-  for (const shown of ["./jsgen --unproved print", "| `./jsgen print", "npm install jsgen-VERSION.tgz", ".ci/run", "rattle-kit-13b logic dac8208d650f15bf", "x86-64", "node 20.19"]) {
+  for (const shown of ["./jsgen --unproved print", "| `./jsgen print", "npm install jsgen-VERSION.tgz", ".ci/run", "rattle-kit-13f logic dac8208d650f15bf", "x86-64", "node 20.19"]) {
     assert.ok(first.includes(shown), shown);
   }
 });

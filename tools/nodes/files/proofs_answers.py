@@ -8,8 +8,8 @@ def write(table):
     return {
         "proofs/span/NodeGetSpan/+node_span/Answers.antt":
             answers(table, "span.NodeGetSpan.+node_span", "returns-in-{s.name}", "{name}_spans"),
-        "proofs/+node_type/Answers.antt":
-            answers(table, "+node_type", "nodes::Node::node_type-returns-in-{s.name}", "plain_{name}"),
+        "proofs/node_type/NodeHasType/+node_type/Answers.antt":
+            answers(table, "node_type.NodeHasType.+node_type", "returns-in-{s.name}", "plain_{name}"),
     }
 
 

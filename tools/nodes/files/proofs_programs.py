@@ -71,7 +71,7 @@ def itself(table, n, at):
     lists = [whole_list(table, f, at) for f in table.children(n) if f.many in ("*", "*?")]
     if len(lists) > 2:
         raise SystemExit(f"{n.name}: that a type with three lists is formed has no proof yet")
-    return f"and_from _ _ ({lists[0]}) ({lists[1]})" if len(lists) == 2 else lists[0] if lists else "refl"
+    return f"and_from _ _ ({lists[1]}) ({lists[0]})" if len(lists) == 2 else lists[0] if lists else "refl"
 
 
 def whole_list(table, f, at):

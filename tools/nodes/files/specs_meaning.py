@@ -1,6 +1,6 @@
 """What the table says of a node's meaning, between marks in the definitions of jsgen_model: of which types and flags no reading is
-promised, and which are core and not plain; that lists but an array's have no hole (Plain.antt), and the normal form of a row (Normal.antt). A type whose clause
-stands by hand there has that one. Of each other row, between marks in proofs of jsgen_row_laws: that its normal form is its own
+promised, and which are core and not plain (Plain.antt), and the normal form of a row (Normal.antt), where no clause by hand gives it.
+Of each row whose normal form it gives, between marks in proofs of jsgen_row_laws: that its normal form is its own
 (Normals.antt), and that it is the same without tables (Unrenamed.antt)."""
 
 import re
@@ -12,9 +12,6 @@ from names import REPOSITORY
 
 SPECS = REPOSITORY / "crates" / "jsgen_model" / "specs"
 LAWS = REPOSITORY / "crates" / "jsgen_row_laws" / "proofs"
-
-# What says that a list has no hole.
-HOLES = {"*": "has_no_hole", "*?": "has_no_hole_if_listed"}
 
 
 def write(table):
@@ -42,9 +39,7 @@ def plain(table):
     flags = [f"has_core_flags types.{n.name} a = {' && '.join(f'not ({reader(n, f)} a)' for f in flags_of(table, n, 'unpromised'))}" for n in nodes if flags_of(table, n, "unpromised")]
     core_types = [f"is_core_alone types.{n.name} = true" for n in nodes if n.promise == "core"]
     core_flags = [f"sets_core_flag types.{n.name} a = {' || '.join(f'{reader(n, f)} a' for f in flags_of(table, n, 'core'))}" for n in nodes if flags_of(table, n, "core")]
-    formed = [f"is_formed {row(table, n)} = {' && '.join(f'{HOLES[f.many]} {variable(f)}' for f in table.children(n) if f.many in HOLES) or 'true'}"
-              for n in by_default(table, text, "is_formed")]
-    for name, clauses in (("types", types), ("flags", flags), ("core_types", core_types), ("core_flags", core_flags), ("formed", formed)):
+    for name, clauses in (("types", types), ("flags", flags), ("core_types", core_types), ("core_flags", core_flags)):
         text = layout.region(text, name, "\n".join(clauses))
     return text
 

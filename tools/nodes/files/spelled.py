@@ -40,7 +40,7 @@ def crates(table):
 
 
 def chained(terms, sign):
-    """The terms, each joined to all that follow it."""
+    """The terms, each joined to all that follow it, where the sign doesn't associate to the right."""
     first, *others = terms
     if not others:
         return first
@@ -86,7 +86,7 @@ class Clause:
         self.n, self.place = n, "place"
 
     def text(self, parts):
-        return chained([self.item(part) for part in parts], "⊕")
+        return " ⊕ ".join(self.item(part) for part in parts)
 
     def item(self, part):
         return getattr(self, "item_" + part[0])(*part[1:])
@@ -123,7 +123,7 @@ class Clause:
         return "mark a.span"
 
     def item_marked_indentation(self):
-        return "marked_indentation a.span"
+        return "marked_indentation false a.span"
 
     def item_linked(self, f):
         return f"(spell {variable(f)} {self.place} ⊕ link_mark (span_if (is_at_link {self.place}) (span_of {variable(f)})))"
@@ -287,7 +287,7 @@ class Body:
         return self.step("print_mark", "node.span")
 
     def step_marked_indentation(self):
-        return self.step("print_marked_indentation", "node.span")
+        return self.step("print_marked_indentation", "false, node.span")
 
     def step_linked(self, f):
         got = self.call("get")

@@ -24,7 +24,7 @@ def write(table):
     passed["span"] = ["GetSpan"]
     passed["type_spans"] = []
     passed["types"] = ["NodeSet", "NodeType"]
-    passed["node_type"] = []
+    passed["node_type"] = ["HasType"]
     mods = "".join(f"mod {m};\n" for m in sorted(passed))
     # so many names stand on a line each in the layout of rt fmt
     uses = "".join(f"pub use {m}::{name};\n" for m, names in sorted(passed.items()) for name in sorted(names))

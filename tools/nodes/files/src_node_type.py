@@ -1,4 +1,4 @@
-"""src/node_type.rt: `node_type()` of each set and of `Node`."""
+"""src/node_type.rt: `node_type()` of each set, whatever nests in it, and of `Node`: a function that names `Node` is dear."""
 
 import layout
 from names import sets_in_rust
@@ -14,26 +14,21 @@ def write(table):
     return {"src/node_type.rt": layout.rust("The type of a member of each set.", ghosts, [], homes, "\n\n".join(parts))}
 
 
-def is_cyclic(table, s):
-    """Whether the set's function asks `Node`'s, which asks it."""
-    return s.nests and any(m in table.sets for m in s.members)
-
-
 def plain(table, s):
-    """The plain data of `self` at the recursive type."""
+    """The plain data of `self`, from that of what nests."""
     name = s.plain if s.nests else "in_" + snake(s.name)
-    return f"{name} node_plain self.now" if table.generic(s.name) else f"{name} self.now"
+    return f"{name} N.plain self.now" if table.generic(s.name) else f"{name} self.now"
 
 
 def of_set(table, s):
-    cycle = "    #[cycle(node_type)]\n" if is_cyclic(table, s) else ""
     arms = ""
     for m in s.members:
         arms += f"            {s.name}::{m}(node) => node.get().node_type(),\n" if m in table.sets else \
                 f"            {s.name}::{m}(_) => NodeType::{m},\n"
-    return f"""impl {s.name} {{
+    head = f"impl<N: HasType> {s.name}<N>" if table.generic(s.name) else f"impl {s.name}"
+    return f"""{head} {{
     /// The type of the node.
-{cycle}    pub fn node_type(&self) -> NodeType
+    pub fn node_type(&self) -> NodeType
         ensures {{ result ≡ type_of ({plain(table, s)}) }}
     {{
         match self {{
@@ -44,13 +39,32 @@ def of_set(table, s):
 
 def of_node(table):
     arms = "".join(f"            Node::{s.name}(node) => node.node_type(),\n" for s in table.nesting())
-    return f"""impl Node {{
+    return f"""/// What nests in a set and has a type: `Node` alone.
+pub trait HasType {{
+    ghost use Rattle.jsgen_tree.specs.Tree.{{Tree}};
+
+    ghost plain: {{ Self → Tree }};
+
     /// The type of the node.
+    fn node_type(&self) -> NodeType
+        ensures {{ result ≡ type_of (plain self.now) }};
+}}
+
+impl HasType for Node {{
+    ghost plain = {{ λ n. node_plain n }};
+
     #[cycle(node_type)]
+    fn node_type(&self) -> NodeType {{
+        match self {{
+{arms}        }}
+    }}
+}}
+
+impl Node {{
+    /// The type of the node.
     pub fn node_type(&self) -> NodeType
         ensures {{ result ≡ type_of (node_plain self.now) }}
     {{
-        match self {{
-{arms}        }}
+        HasType::node_type(self)
     }}
 }}"""

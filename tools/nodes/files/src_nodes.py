@@ -2,7 +2,7 @@
 
 import layout
 from names import DECLARED, sets_in_rust
-from table import spoken
+from table import snake, spoken
 
 
 def write(table):
@@ -28,15 +28,21 @@ pub struct {s}Node<N = Node> {{
 
 
 def letting_go(sets):
-    arms = "".join(f"            Node::{s}(member) => {{\n                let _ = member;\n            }}\n" for s in sets)
+    arms = "".join(f"            Node::{s}(member) => let_go_of_{snake(s)}(member),\n" for s in sets)
+    ends = "".join(f"""
+
+fn let_go_of_{snake(s)}<N: Drop>(member: {s}<N>) {{
+    let _ = member;
+}}""" for s in sets)
     return f"""// Written out, so that it is proved here alone: a derived one is proved again, for all types, in each crate that lets go of a tree.
+// Each set is let go of by a function over any `N`: of members at `Node` itself the proof is one for each way that types stand in one another.
 impl Drop for Node {{
     #[cycle(node)]
     fn drop(self) {{
         match self {{
 {arms}        }}
     }}
-}}"""
+}}{ends}"""
 
 
 def conversion(s):

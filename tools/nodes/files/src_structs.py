@@ -50,8 +50,16 @@ def struct(table, n):
         fields += f"    /// {f.doc}\n" if f.doc else ""
         fields += f"    pub {f.rust}: {rust_type(table, f)},\n"
     fields += "".join(f"    {ghost},\n" for ghost in n.ghosts)
-    derived = "Clone, Copy, Debug, PartialEq, Eq" if n.is_copy else "Drop"
-    return f"/// {doc}\n#[derive({derived})]\npub struct {n.name}{generic} {{\n{fields}}}"
+    derived = "#[derive(Clone, Copy, Debug, PartialEq, Eq)]\n" if n.is_copy else ""
+    of = f"/// {doc}\n{derived}pub struct {n.name}{generic} {{\n{fields}}}"
+    return of if n.is_copy else of + "\n\n" + letting_go(table, n)
+
+
+def letting_go(table, n):
+    """Written out, so that it is proved in jsgen_tree alone: a derived one is proved again in each crate that lets go of such a struct."""
+    names = ", ".join(f"{name}: _" for name in ["span"] + [f.rust for f in n.in_rust()])
+    head = f"impl<N: Drop> Drop for {n.name}<N>" if table.generic(n.name) else f"impl Drop for {n.name}"
+    return f"{head} {{\n    fn drop(self) {{\n        let {n.name} {{ {names} }} = self;\n    }}\n}}"
 
 
 def rust_type(table, f):

@@ -48,15 +48,19 @@ def test(table, name):
 
 
 def is_function(table, name):
-    types = "\n                | ".join("NodeType::" + t for t in table.types_in(name))
+    """A set within a set is asked by its own function."""
+    own = [m for m in table.sets[name].members if m not in table.sets]
+    inner = [f"self.is_{snake(m)}()" for m in table.sets[name].members if m in table.sets]
+    types = "\n                | ".join("NodeType::" + t for t in own)
+    test = " || ".join(([f"""matches!(
+            &self,
+            {types}
+        )"""] if own else []) + inner)
     return f"""
     /// Whether nodes of this type are in `{name}`.
     pub fn is_{snake(name)}(self) -> bool
         ensures {{ result ≡ is_{snake(name)} self }}
     {{
-        matches!(
-            &self,
-            {types}
-        )
+        {test}
     }}
 """

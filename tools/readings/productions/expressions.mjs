@@ -1,6 +1,6 @@
 // The productions of expressions, functions, objects and classes (Grammar.antt, "expressions"), by the names of their constructors.
 import { names_function, on_same_line, simple_target, starts_in_brace } from "../guards.mjs";
-import { ASSIGNMENT, BINARY, UNARY, UPDATE, may_stand } from "./operators.mjs";
+import { ASSIGNMENT, BINARY, UNARY, UPDATE, may_operate } from "./operators.mjs";
 import { both, each, flagged, row } from "./rows.mjs";
 
 const ReadsExpression = {
@@ -46,7 +46,7 @@ const ReadsExpression = {
   a_named_member_of_call: row("Call = o:Call . v:name", "tree.static_member (link_values false) o (tree.identifier_name (named v))"),
   a_computed_member_of_call: row("Call = o:Call [ e:Expression[+in] ]", "tree.computed_member (link_values false) o e"),
   an_operation: each("o", BINARY, ({ token, level, right }) =>
-    row(`${level}${may_stand(token)} = l:${level} ${token} r:${right}`, "tree.binary (bare (binary_operator o ∷ [])) l r"),
+    row(`${level}${may_operate(token)} = l:${level} ${token} r:${right}`, "tree.binary (bare (binary_operator o ∷ [])) l r"),
   ),
   a_power: row("Exponent = l:Update ** r:Exponent", "tree.binary (bare (binary_operator operators.Exponential ∷ [])) l r"),
   a_conjunction: row("LogicalAnd = l:LogicalAnd && r:BitOr", "tree.logical (bare (logical_operator And ∷ [])) l r"),

@@ -1,4 +1,4 @@
-// Operators, with their tokens, their names in Grammar.antt and the levels of operations.
+// Operators, with their tokens, their names in Premises.antt and the levels of operations.
 
 const named = (record, tokens) => Object.entries(tokens).map(([token, name]) => ({ token, name: `${record}.${name}` }));
 const ofLevel = (level, right, tokens) => named("operators", tokens).map((operator) => ({ ...operator, level, right }));
@@ -29,4 +29,4 @@ export const ASSIGNMENT = named("assignment_operators", {
 });
 
 /** `in` stands where it is allowed: the flag that an operation then needs. */
-export const may_stand = (token) => (token === "in" ? "[+in]" : "");
+export const may_operate = (token) => (token === "in" ? "[+in]" : "");

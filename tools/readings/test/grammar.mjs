@@ -1,10 +1,18 @@
-// The productions as Grammar.antt has them, and what of them the table should say.
+// The productions as Grammar.antt has them, with the contexts that Premises.antt defines, and what of them the table should say.
 import { readFileSync } from "node:fs";
 import { words } from "../notation.mjs";
 import { flagsOf } from "../productions/rows.mjs";
 
-const GRAMMAR = new URL("../../../crates/jsgen_model/specs/Grammar.antt", import.meta.url);
-const TEXT = readFileSync(GRAMMAR, "utf8");
+const textOf = (name) => readFileSync(new URL(`../../../crates/jsgen_model/specs/${name}`, import.meta.url), "utf8");
+
+/** A text in which each production stands on one line: a long one is broken before its conclusion. */
+export const unbroken = (text) => text.replace(/\n +→ /g, " → ");
+
+const TEXT = unbroken(textOf("Grammar.antt"));
+const PREMISES = textOf("Premises.antt");
+
+// A program is read as a module is: its hashbang, which this family adds, is no token.
+const ABOVE_TOKENS = ["ReadsProgram"];
 
 /** The productions of the families `Reads..`: { family, name, premises, conclusion }, the last two as texts. */
 export function productionsOfGrammar() {
@@ -14,7 +22,7 @@ export function productionsOfGrammar() {
     const data = /^\s*pub data (\w+) :/.exec(line);
     if (data) family = data[1];
     const [, name, type] = /^\s+(\w+) : (.*)$/.exec(line) ?? [];
-    if (!name || !family?.startsWith("Reads")) continue;
+    if (!name || !family?.startsWith("Reads") || ABOVE_TOKENS.includes(family)) continue;
     const parts = partsBetween(words(type), "→").filter((part) => !part.startsWith("{"));
     found.push({ family, name, premises: parts.slice(0, -1), conclusion: parts.at(-1) });
   }
@@ -52,7 +60,7 @@ const FIELDS = { in_operator: "in", yield_operand: "yield", await_operand: "awai
 
 // The definitions of contexts, by their names: their arguments, and the flags that they tell, each as an argument's name or `true` or `false`.
 const CONTEXTS = new Map(
-  [...TEXT.matchAll(/^(\w+)((?: \w+)*) = record (?:\w+ )?\{ (.*) \}$/gm)].map(([, name, args, fields]) => [
+  [...PREMISES.matchAll(/^(\w+)((?: \w+)*) = record (?:\w+ )?\{ (.*) \}$/gm)].map(([, name, args, fields]) => [
     name,
     { args: args.split(" ").filter(Boolean), told: fields.split("; ").map((field) => field.split(" = ")) },
   ]),

@@ -1,4 +1,4 @@
-// The guards that ask what a tree is, beside the clauses of Grammar.antt: both answer the same of each expression of small sizes. The
+// The guards that ask what a tree is, beside the clauses of Premises.antt: both answer the same of each expression of small sizes. The
 // reader's clauses use the guards too, so nothing else compares them with the grammar.
 import assert from "node:assert/strict";
 import { test } from "node:test";
@@ -11,9 +11,9 @@ import { Readings } from "../readings.mjs";
 import { written } from "../trees.mjs";
 import { isTrue, option, shown, value } from "../values.mjs";
 
-const GRAMMAR = fileURLToPath(new URL("../../../crates/jsgen_model/specs/Grammar.antt", import.meta.url));
+const PREMISES = fileURLToPath(new URL("../../../crates/jsgen_model/specs/Premises.antt", import.meta.url));
 
-const grammar = functionsIn(GRAMMAR, ["simple_target", "names_function", "may_name", "is_reference", "is_anonymous_function", "function_of", "class_of"]);
+const grammar = functionsIn(PREMISES, ["simple_target", "names_function", "may_name", "is_identifier_reference", "is_anonymous_function", "function_of", "class_of"]);
 
 // Alphabets, each with the size up to which its expressions are tried.
 const ALPHABETS = [

@@ -39,9 +39,9 @@ test("each makes the trees of the grammar", () => {
   }
 });
 
-// Grammar.antt has a name for a string's tree, which the reader doesn't use everywhere.
+// Premises.antt has a name for a string's tree, which the reader doesn't use everywhere.
 test("a text has the tree that the grammar says", () => {
-  const file = fileURLToPath(new URL("../../../crates/jsgen_model/specs/Grammar.antt", import.meta.url));
+  const file = fileURLToPath(new URL("../../../crates/jsgen_model/specs/Premises.antt", import.meta.url));
   const grammar = functionsIn(file, ["text_of"]);
   assert.equal(treeOf(grammar.call("text_of", textValue("s"))), tree("text_of", textTree("s")));
 });
@@ -141,7 +141,7 @@ function saidIn(path, pattern) {
 }
 
 test("operators have the tokens and the levels of the grammar", () => {
-  const said = (name) => new Map(saidIn("jsgen_model/specs/Grammar.antt", new RegExp(`^${name} ([\\w.]+) = (.*)$`, "gm")));
+  const said = (name) => new Map(saidIn("jsgen_model/specs/Premises.antt", new RegExp(`^${name} ([\\w.]+) = (.*)$`, "gm")));
   const piece = (token) => (isWord(token) ? `Word (codes "${token}")` : `Sign ${SIGNS[token]}`);
   const without = (map, name) => new Map([...map].filter(([key]) => key !== name));
   const pieces = (operators) => new Map(operators.map(({ name, token }) => [name, piece(token)]));

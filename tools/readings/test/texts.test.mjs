@@ -32,6 +32,9 @@ for (const [text, ...wanted] of [
   ["/\n/", "/ \n /"],
   ["/a/i\\u0066", "/ a / i\\u0066"],
   ["#a.#\\u{61}\n#if", "#a . #\\u{61} \n #if"],
+  ["#!a b\nc", "\n c"],
+  ["#!", ""],
+  [" #!a"],
   ["# a"],
   ["#1"],
   ["`a`b", "`a` b"],
@@ -80,8 +83,8 @@ const readings = byGrammar(allCases);
 
 const samples = Object.values(samplesByFile).flat();
 
-// What begins there has no end, or is no name.
-const WITHOUT_TOKENS = ["class A { # x }", "`${a`;", "`${a}"];
+// What begins there has no end, or is no name, or a hashbang that isn't at the front.
+const WITHOUT_TOKENS = ["class A { # x }", "`${a`;", "`${a}", " #!a\nb;", "\n#!a\nb;", "a;#!b", "#!a\n#!b\nc;", "# !a\nb;"];
 
 test("each text has tokens that are known", () => {
   const texts = [...readings, ...samples].map(([text]) => text);

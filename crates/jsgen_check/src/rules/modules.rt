@@ -1,20 +1,19 @@
 // Imports, exports and hashbangs.
 #![tactic(auto, unfolding(jsgen_rules::specs::Verdict::verdict))]
 
-ghost use Rattle.std.specs.Prelude.{◌≡◌, not, map, option_map};
+ghost use Rattle.std.specs.Prelude.{◌≡◌, false, not, map, option_map};
 ghost use Rattle.jsgen_tree.specs.Tree.{trees, optional_list, type_of};
 ghost use Rattle.jsgen_tree.specs.Rows.{hashbang_row, import_declaration_row, export_named_declaration_row, export_from_declaration_row, export_specifier_row, in_import_declaration_specifier, in_module_export_name};
-ghost use Rattle.jsgen_model.specs.Valid.{own_faults, import_faults, export_faults, are_named, are_behind_default, are_specifiers, fit_source, fits_source, is_named_import};
+ghost use Rattle.jsgen_model.specs.Valid.{own_faults, misplaced_faults, behind_default_faults, specifier_faults, import_faults, export_faults, fits_source, is_named_import};
 ghost use Rattle.jsgen_rules.specs.Verdict.{verdict};
 ghost use Rattle.jsgen_check.specs.Verdict.{surroundings_plain};
 
 use crate::Surroundings;
 use jsgen_model::TreeFault;
 use jsgen_rules::{Classes, check_hashbang, fits_source};
-use jsgen_syntax::Span;
 use jsgen_tree::{
-    ExportFromDeclaration, ExportNamedDeclaration, ExportSpecifier, Hashbang, ImportDeclaration,
-    ImportDeclarationSpecifier,
+    ExportFromDeclaration, ExportNamedDeclaration, ExportSpecifier, GetSpan, Hashbang,
+    ImportDeclaration, ImportDeclarationSpecifier,
 };
 
 #[tactic(auto)]
@@ -42,57 +41,61 @@ fn is_unnamed(specifier: &ImportDeclarationSpecifier) -> bool
     }
 }
 
-fn are_named(specifiers: &[ImportDeclarationSpecifier]) -> bool
-    ensures { result ≡ are_named (trees (map in_import_declaration_specifier specifiers.now)) }
+fn check_named(specifiers: &[ImportDeclarationSpecifier]) -> Result<(), TreeFault>
+    ensures { result ≡ verdict (misplaced_faults is_named_import (trees (map in_import_declaration_specifier specifiers.now))) }
 {
     for specifier in specifiers {
         if is_unnamed(specifier) {
-            return false;
+            return Err(TreeFault::Place {
+                start: specifier.span().start,
+            });
         }
     }
-    true
+    Ok(())
+}
+
+fn check_none(specifiers: &[ImportDeclarationSpecifier]) -> Result<(), TreeFault>
+    ensures { result ≡ verdict (misplaced_faults (λ type. false) (trees (map in_import_declaration_specifier specifiers.now))) }
+{
+    match specifiers {
+        [first, ..] => Err(TreeFault::Place {
+            start: first.span().start,
+        }),
+        [] => Ok(()),
+    }
 }
 
 /// All exports by one name, or some by theirs.
-fn are_behind_default(specifiers: &[ImportDeclarationSpecifier]) -> bool
-    ensures { result ≡ are_behind_default (trees (map in_import_declaration_specifier specifiers.now)) }
+fn check_behind_default(specifiers: &[ImportDeclarationSpecifier]) -> Result<(), TreeFault>
+    ensures { result ≡ verdict (behind_default_faults (trees (map in_import_declaration_specifier specifiers.now))) }
 {
     match specifiers {
         [
             ImportDeclarationSpecifier::ImportNamespaceSpecifier(_),
             others @ ..,
-        ] => others.is_empty(),
-        _ => are_named(specifiers),
+        ] => check_none(others),
+        _ => check_named(specifiers),
     }
 }
 
 /// A default, if there is one, stands first.
-fn are_specifiers(specifiers: &[ImportDeclarationSpecifier]) -> bool
-    ensures { result ≡ are_specifiers (trees (map in_import_declaration_specifier specifiers.now)) }
+fn check_specifiers(specifiers: &[ImportDeclarationSpecifier]) -> Result<(), TreeFault>
+    ensures { result ≡ verdict (specifier_faults (trees (map in_import_declaration_specifier specifiers.now))) }
 {
     match specifiers {
         [
             ImportDeclarationSpecifier::ImportDefaultSpecifier(_),
             others @ ..,
-        ] => are_behind_default(others),
-        _ => are_behind_default(specifiers),
+        ] => check_behind_default(others),
+        _ => check_behind_default(specifiers),
     }
 }
 
-fn check_specifiers(
-    specifiers: &Option<Vec<ImportDeclarationSpecifier>>,
-    span: Span,
-) -> Result<(), TreeFault>
-    ensures { result ≡ verdict (import_faults span (optional_list (option_map (λ v. map in_import_declaration_specifier v.items) specifiers.now))) }
+fn check_imports(specifiers: &Option<Vec<ImportDeclarationSpecifier>>) -> Result<(), TreeFault>
+    ensures { result ≡ verdict (import_faults (optional_list (option_map (λ v. map in_import_declaration_specifier v.items) specifiers.now))) }
 {
     match specifiers {
-        Some(specifiers) => {
-            if are_specifiers(specifiers) {
-                Ok(())
-            } else {
-                Err(TreeFault::Place { start: span.start })
-            }
-        }
+        Some(specifiers) => check_specifiers(specifiers),
         None => Ok(()),
     }
 }
@@ -107,7 +110,7 @@ pub fn check_import_declaration_rules(
 {
     let _ = classes;
     let _ = around;
-    check_specifiers(&node.specifiers, node.span)
+    check_imports(&node.specifiers)
 }
 
 // ---- what is exported
@@ -118,29 +121,17 @@ fn misfits(has_source: bool, specifier: &ExportSpecifier) -> bool
     !fits_source(has_source, specifier.local.node_type())
 }
 
-fn fit_source(has_source: bool, specifiers: &[ExportSpecifier]) -> bool
-    ensures { result ≡ fit_source has_source (trees (map export_specifier_row specifiers.now)) }
+fn check_exports(has_source: bool, specifiers: &[ExportSpecifier]) -> Result<(), TreeFault>
+    ensures { result ≡ verdict (export_faults has_source (trees (map export_specifier_row specifiers.now))) }
 {
     for specifier in specifiers {
         if misfits(has_source, specifier) {
-            return false;
+            return Err(TreeFault::Place {
+                start: specifier.span.start,
+            });
         }
     }
-    true
-}
-
-fn check_exports(
-    has_source: bool,
-    specifiers: &[ExportSpecifier],
-    span: Span,
-) -> Result<(), TreeFault>
-    ensures { result ≡ verdict (export_faults has_source span (trees (map export_specifier_row specifiers.now))) }
-{
-    if fit_source(has_source, specifiers) {
-        Ok(())
-    } else {
-        Err(TreeFault::Place { start: span.start })
-    }
+    Ok(())
 }
 
 #[tactic(auto)]
@@ -153,7 +144,7 @@ pub fn check_export_named_declaration_rules(
 {
     let _ = classes;
     let _ = around;
-    check_exports(false, &node.specifiers, node.span)
+    check_exports(false, &node.specifiers)
 }
 
 #[tactic(auto)]
@@ -166,5 +157,5 @@ pub fn check_export_from_declaration_rules(
 {
     let _ = classes;
     let _ = around;
-    check_exports(true, &node.specifiers, node.span)
+    check_exports(true, &node.specifiers)
 }

@@ -5,7 +5,7 @@ ghost use Rattle.std.specs.Prelude.{◌≡◌, not, ◌&&◌, map, option_map};
 ghost use Rattle.jsgen_tree.specs.Tree.{Tree, optional, trees, type_of, span_of};
 ghost use Rattle.jsgen_tree.specs.Rows.{object_pattern_row, binding_property_row, binding_rest_element_row, variable_declarator_row, variable_declaration_row, in_for_statement_init};
 ghost use Rattle.jsgen_tree.specs.Plain.{node_plain};
-ghost use Rattle.jsgen_model.specs.Valid.{own_faults, fault_if, rest_faults, is_binding_name, lacks_value, any_lacks_value, binds_nothing, init_faults};
+ghost use Rattle.jsgen_model.specs.Valid.{own_faults, fault_if, rest_faults, is_binding_name, lacks_value, any_lacks_value, lacking, binds_nothing, unbound, init_faults};
 ghost use Rattle.jsgen_model.specs.declared.fault.TreeFault.TheVariants as faults;
 ghost use Rattle.jsgen_rules.specs.Verdict.{verdict};
 ghost use Rattle.jsgen_check.specs.Verdict.{surroundings_plain};
@@ -14,8 +14,9 @@ use crate::rules::keys::check_pattern_key;
 use crate::{CheckNode, Surroundings};
 use jsgen_model::TreeFault;
 use jsgen_rules::{Classes, is_binding_name};
+use jsgen_syntax::Span;
 use jsgen_tree::{
-    BindingProperty, BindingRestElement, Declaration, ForStatementInit, Node, NodeType,
+    BindingProperty, BindingRestElement, Declaration, ForStatementInit, GetSpan, Node, NodeType,
     ObjectPattern, Statement, VariableDeclaration, VariableDeclarator,
 };
 
@@ -116,11 +117,29 @@ fn any_lacks_value<N, T: TypeOf<N>>(declarators: &[VariableDeclarator<N>]) -> bo
     false
 }
 
-// Whether a declaration binds a pattern and gives it no value.
+// The first such declarator, and this span where there is none.
+fn lacking<N, T: TypeOf<N>>(declarators: &[VariableDeclarator<N>], span: Span) -> Span
+    ensures { result ≡ lacking span (trees (map (variable_declarator_row T.plain) declarators.now)) }
+{
+    for declarator in declarators {
+        if lacks_value::<N, T>(declarator) {
+            return declarator.span;
+        }
+    }
+    span
+}
+
+// Whether a declaration binds a pattern and gives it no value, and where.
 fn declaration_binds_nothing<N, T: TypeOf<N>>(node: &VariableDeclaration<N>) -> bool
     ensures { result ≡ binds_nothing (variable_declaration_row T.plain node.now) }
 {
     any_lacks_value::<N, T>(&node.declarations)
+}
+
+fn declaration_unbound<N, T: TypeOf<N>>(node: &VariableDeclaration<N>) -> Span
+    ensures { result ≡ unbound (variable_declaration_row T.plain node.now) }
+{
+    lacking::<N, T>(&node.declarations, node.span)
 }
 
 /// Whether a node is a declaration that binds a pattern and gives it no value.
@@ -147,6 +166,28 @@ pub fn binds_nothing(node: &Node) -> bool
     }
 }
 
+/// Where a node is one: its first declarator that lacks a value. Of all else its own span.
+#[cycle(unbound)]
+pub fn unbound(node: &Node) -> Span
+    ensures { result ≡ unbound (node_plain node.now) }
+{
+    match node {
+        Node::Expression(expression) => expression.span(),
+        Node::AssignmentTarget(target) => target.span(),
+        Node::Statement(statement) => match statement {
+            Statement::Declaration(node) => unbound(node.get()),
+            _ => statement.span(),
+        },
+        Node::Declaration(declaration) => match declaration {
+            Declaration::VariableDeclaration(node) => { declaration_unbound::<Node, OfNode>(node) }
+            Declaration::Function(node) => node.span,
+            Declaration::Class(node) => node.span,
+        },
+        Node::BindingPattern(pattern) => pattern.span(),
+        Node::ClassElement(element) => element.span(),
+    }
+}
+
 /// Before the first round of a loop each pattern has a value.
 pub fn check_init<N: CheckNode>(init: &Option<ForStatementInit<N>>) -> Result<(), TreeFault>
     ensures { result ≡ verdict (init_faults (optional (option_map (in_for_statement_init N.plain) init.now))) }
@@ -158,13 +199,13 @@ pub fn check_init<N: CheckNode>(init: &Option<ForStatementInit<N>>) -> Result<()
 }
 
 fn check_first<N: CheckNode>(init: &ForStatementInit<N>) -> Result<(), TreeFault>
-    ensures { result ≡ verdict (fault_if (binds_nothing (in_for_statement_init N.plain init.now)) (faults.Place (span_of (in_for_statement_init N.plain init.now)).start)) }
+    ensures { result ≡ verdict (fault_if (binds_nothing (in_for_statement_init N.plain init.now)) (faults.Place (unbound (in_for_statement_init N.plain init.now)).start)) }
 {
     match init {
         ForStatementInit::VariableDeclaration(node) => {
             if declaration_binds_nothing::<N, OfChild>(node) {
                 return Err(TreeFault::Place {
-                    start: node.span.start,
+                    start: declaration_unbound::<N, OfChild>(node).start,
                 });
             }
             Ok(())
@@ -173,7 +214,7 @@ fn check_first<N: CheckNode>(init: &ForStatementInit<N>) -> Result<(), TreeFault
         ForStatementInit::Expression(node) => {
             if node.get().binds_nothing() {
                 return Err(TreeFault::Place {
-                    start: node.get().start(),
+                    start: node.get().unbound_start(),
                 });
             }
             Ok(())

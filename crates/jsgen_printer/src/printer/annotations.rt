@@ -73,7 +73,7 @@ impl<'a> Printer<'a> {
     fn print_annotation(&mut self, ends: bool, kind: AnnotationKind, offset: u32)
         ensures { Goes self.old self.new (annotation_written ends (annotation_of kind) offset) }
     {
-        let is_behind_slash = self.ends_in(b'/');
+        let is_behind_slash = self.code_ends_in(b'/');
         self.print_if(is_behind_slash, " ");
         self.print_annotation_text(ends, kind, offset);
     }

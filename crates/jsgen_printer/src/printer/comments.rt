@@ -1,5 +1,5 @@
 // Comments that wait in the store, and the steps that print them.
-ghost use Rattle.std.specs.Prelude.{◌≡◌, ◌<◌, ◌||◌, ◌&&◌, ◌==◌, ◌-◌, [], ◌∷◌, true, false, Option, List, ℕ, is_some, option_map, codes, drop, map, slice_get};
+ghost use Rattle.std.specs.Prelude.{◌≡◌, ◌<◌, ◌||◌, ◌&&◌, ◌==◌, ◌-◌, [], ◌∷◌, true, false, Option, List, ℕ, is_some, option_map, codes, drop, map, slice_get, not};
 ghost use Rattle.std.specs.Option.{unwrap_or};
 ghost use Rattle.std.specs.List.{list_all, list_any};
 ghost use Rattle.std.specs.Str.{chars};
@@ -9,9 +9,9 @@ ghost use Rattle.jsgen_model.specs.Comments.{are_any, empty_store, left_below, o
 ghost use Rattle.jsgen_tree.specs.Options.{legal_plain};
 ghost use Rattle.jsgen_model.specs.Ends.{licensed, each_written, reference};
 ghost use Rattle.jsgen_model.specs.Groups as groups;
-ghost use Rattle.jsgen_model.specs.Groups.{group, group_at, comments_at, orphans_before, has_orphans, orphan_lines_at, empty_body_at, body_of, body_lines, last_byte, ending_at, without_ending, without_group, closing_group, case_begun, case_ended, is_printed, before_group, behind_group, comment_written, text_written, block_lines, block_line, lines_of, opens_block, closes_block, indented_if, indented_here, with_pending_space, one_deeper, at_level, soft_line_ended, is_mid_line, html_close, before_first, before_later, behind, behind_last, ends_line, is_line, is_legal, has_no_newlines, used_up, used_up_if, softly_spaced, space_behind, line_ended, on_new_line, at_line_start, ends_in, with_store};
+ghost use Rattle.jsgen_model.specs.Groups.{group, group_at, comments_at, orphans_before, has_orphans, orphan_lines_at, empty_body_at, body_of, body_lines, last_byte, ending_at, without_ending, without_group, closing_group, case_begun, case_ended, is_printed, before_group, behind_group, comment_written, text_written, block_lines, block_line, lines_of, opens_block, closes_block, indented_if, indented_here, with_pending_space, one_deeper, at_level, soft_line_ended, is_mid_line, html_close, before_first, before_later, behind_comment, behind_last, ends_its_line, is_line, is_legal, has_no_newlines, used_up, used_up_if, softly_spaced, space_behind, line_ended, on_new_line, at_line_start, code_ends_in, with_store};
 ghost use Rattle.jsgen_model.specs.Items.{◌⊕◌, comments, orphans, orphan_lines, empty_body, indentation, all_of_them, then_space, with_due_space, annotation_before_it, with_key_annotation};
-ghost use Rattle.jsgen_model.specs.Layout.{written, other_end, led, unless_printed, not};
+ghost use Rattle.jsgen_model.specs.Layout.{written, other_end, led, unless_printed};
 ghost use Rattle.jsgen_model.specs.Lay.{lay, case_mark, before_block};
 ghost use Rattle.jsgen_model.specs.Spell.{items_if};
 ghost use Rattle.jsgen_printer.specs.Printer.{pen_of, start_of, by_comments, lead_of, manner_of, group_of, level_if, case_behind};
@@ -283,7 +283,7 @@ impl<'a> Printer<'a> {
 
     // What stands behind the first comment of a group.
     fn print_behind(&mut self, source: &str, first: Comment, others: &[Comment], ended: bool)
-        ensures { Goes self.old self.new (behind ended (comment_plain source.now first) (map (comment_plain source.now) others.now)) }
+        ensures { Goes self.old self.new (behind_comment ended (comment_plain source.now first) (map (comment_plain source.now) others.now)) }
     {
         let mut last = first;
         for comment in others {
@@ -291,7 +291,7 @@ impl<'a> Printer<'a> {
             self.print_comment(source, *comment);
             last = *comment;
         }
-        self.print_behind_last(ended || ends_line(last));
+        self.print_behind_last(ended || ends_its_line(last));
     }
 
     /// Licences at the end of a text, or what tells where they are, as the options have them.
@@ -421,7 +421,7 @@ impl<'a> Printer<'a> {
         ensures { Lays self.old self.new (comments with_key_annotation offset) }
     {
         if self.has_key_annotation(offset) {
-            let is_behind_slash = self.ends_in(b'/');
+            let is_behind_slash = self.code_ends_in(b'/');
             self.print_white_if(is_behind_slash, " ");
             self.print_taken(offset);
             self.print_due();
@@ -437,9 +437,9 @@ impl<'a> Printer<'a> {
         }
     }
 
-    pub(super) fn ends_in(&self, byte: u8) -> bool
+    pub(super) fn code_ends_in(&self, byte: u8) -> bool
         requires { byte < 128 }
-        ensures { result ≡ ends_in byte (pen_of self.now) }
+        ensures { result ≡ code_ends_in byte (pen_of self.now) }
     {
         match self.code.last_byte() {
             Some(last) => last == byte,
@@ -451,7 +451,7 @@ impl<'a> Printer<'a> {
     fn print_due(&mut self)
         ensures { Goes self.old self.new (behind_group with_key_annotation) }
     {
-        if self.ends_in(b'\n') {
+        if self.code_ends_in(b'\n') {
             self.print_indentation();
         } else {
             self.use_pending_space();
@@ -732,8 +732,8 @@ fn begins_line(last: Comment, comment: Comment) -> bool
 }
 
 // Whether nothing may follow it on its line, or nothing did.
-fn ends_line(comment: Comment) -> bool
-    ensures { (source : List ℕ) → result ≡ ends_line (comment_plain source comment) }
+fn ends_its_line(comment: Comment) -> bool
+    ensures { (source : List ℕ) → result ≡ ends_its_line (comment_plain source comment) }
 {
     is_line(comment.kind) || comment.followed_by_newline
 }

@@ -1,9 +1,10 @@
 // Marks of a source map, where one is wanted.
-ghost use Rattle.std.specs.Prelude.{◌≡◌, ◌-◌, ◌∷◌, true, None, is_some, string_bytes};
+ghost use Rattle.std.specs.Prelude.{◌≡◌, ◌≤◌, ◌-◌, ◌∷◌, true, None, is_some, length, string_bytes};
+ghost use Rattle.std.specs.Fmt.Cut.{floor_char_boundary};
 ghost use Rattle.std.specs.Option.{option_copied};
 ghost use Rattle.std.specs.Str.{chars, encode_utf8_all};
 ghost use Rattle.jsgen_model.specs.Items.{mark, end_mark, link_mark, marked_word, apart};
-ghost use Rattle.jsgen_model.specs.Marks.{has_start_mark, has_end_mark, has_link_mark, closes_link, ends_in_link, other_name_in};
+ghost use Rattle.jsgen_model.specs.Marks.{has_start_mark, has_end_mark, end_offset, has_link_mark, closes_link, ends_in_link, other_name_in};
 ghost use Rattle.jsgen_model.specs.Spell.{items_if};
 ghost use Rattle.jsgen_model.specs.Lay.{marked_if, span_mark, name_mark};
 ghost use Rattle.jsgen_printer.specs.Printer.{pen_of, is_ascii, by_marks, marks_plain, source_plain};
@@ -74,6 +75,17 @@ impl<'a> Printer<'a> {
         }
     }
 
+    // Where the character begins that has the last byte of a span with a mark.
+    fn end_offset(&self, span: Span) -> u32
+        requires { IsTrue (has_end_mark (pen_of self.now).style.source span) }
+        ensures { result ≡ end_offset (pen_of self.now).style.source span }
+    {
+        match &self.marks {
+            Some(marks) => last_character(marks.source, span),
+            None => 0,
+        }
+    }
+
     // Whether what follows a span has a mark, where an object of a link ends.
     fn has_link_mark(&self, span: Span) -> bool
         ensures { result ≡ has_link_mark (pen_of self.now).style.source span (pen_of self.now).code }
@@ -126,7 +138,7 @@ impl<'a> Printer<'a> {
         ensures { Lays self.old self.new (end_mark span) }
     {
         if self.has_end_mark(span) {
-            let offset = last_offset(span);
+            let offset = self.end_offset(span);
             self.add_mark(offset, None);
         }
     }
@@ -192,11 +204,13 @@ impl<'a> Printer<'a> {
     }
 }
 
-// The offset of a span's last byte.
-fn last_offset(span: Span) -> u32
-    ensures { result ≡ span.end - 1 }
+// Where the character begins that has the last byte of a span.
+fn last_character(source: &str, span: Span) -> u32
+    requires { span.end ≤ length source.now }
+    ensures { result ≡ floor_char_boundary source.now (span.end - 1) }
 {
-    span.end.saturating_sub(1)
+    let last = span.end.saturating_sub(1);
+    source.floor_char_boundary(last as usize) as u32
 }
 
 // What the object of a link ends in, behind which it has a mark.

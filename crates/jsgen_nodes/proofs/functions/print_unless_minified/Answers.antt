@@ -1,6 +1,5 @@
 use Rattle.jsgen_printer.proofs.Sequence.{unless_minified_laid}
-use Rattle.std.proofs.Common.{ap}
-use Rattle.jsgen_model.specs.Layout.{not}
+use Rattle.std.proofs.Common.{ap, not}
 use Rattle.jsgen_nodes.proofs.functions.print_unless_minified.Goals as goal
 
 pub returns : goal.returns

@@ -1,5 +1,4 @@
-use Rattle.std.proofs.Common.{ap}
-use Rattle.jsgen_model.specs.Layout.{not}
+use Rattle.std.proofs.Common.{ap, not}
 use Rattle.jsgen_printer.proofs.Sequence.{unless_minified_laid}
 use Rattle.jsgen_nodes.proofs.operations.print_unless_minified.Goals as goal
 

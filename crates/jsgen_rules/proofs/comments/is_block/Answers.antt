@@ -2,7 +2,7 @@ use Rattle.std.proofs.Common.{◌≡◌, List, ℕ, Bool, false, not, ◌&&◌, 
 use Rattle.std.specs.Option.{option_map_or}
 use Rattle.std.specs.Str.{chars}
 use Rattle.jsgen_model.specs.Tokens.{has_line_end}
-use Rattle.jsgen_model.specs.Valid.{begins_with, ends_at_close}
+use Rattle.jsgen_model.specs.Valid.{begins_with_mark, ends_at_close}
 use Rattle.jsgen_rules.proofs.Marks.{block_mark}
 use Rattle.jsgen_rules.proofs.comments.is_block.Goals as goal
 
@@ -12,8 +12,8 @@ block is_multiline rest = (if is_multiline then has_line_end rest else not (has_
 abbrev or_none : Bool → Option (Bor (List ℕ)) → Bool
 or_none is_multiline r = option_map_or (λ (rest : Bor (List ℕ)). block is_multiline (chars rest.now)) r false
 
-of_mark : (is_multiline : Bool) (cs : List ℕ) (r : Option (Bor (List ℕ))) → begins_with (chars (47 ∷ 42 ∷ [])) (block is_multiline) cs ≡ or_none is_multiline r → begins_with (47 ∷ 42 ∷ []) (block is_multiline) cs ≡ or_none is_multiline r
-of_mark is_multiline cs r h = ap (λ m. begins_with m (block is_multiline) cs) (sym block_mark) ∙ h
+of_mark : (is_multiline : Bool) (cs : List ℕ) (r : Option (Bor (List ℕ))) → begins_with_mark (chars (47 ∷ 42 ∷ [])) (block is_multiline) cs ≡ or_none is_multiline r → begins_with_mark (47 ∷ 42 ∷ []) (block is_multiline) cs ≡ or_none is_multiline r
+of_mark is_multiline cs r h = ap (λ m. begins_with_mark m (block is_multiline) cs) (sym block_mark) ∙ h
 
 pub returns-in-Some : goal.returns-in-Some
 returns-in-Some c =

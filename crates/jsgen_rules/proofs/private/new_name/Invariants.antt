@@ -1,13 +1,13 @@
 use Rattle.std.proofs.Common.{◌≡◌, length}
 use Rattle.std.specs.Str.{chars}
 use Rattle.jsgen_tree.specs.Scoping.{private_plain}
-use Rattle.jsgen_model.specs.Private.{name_by}
+use Rattle.jsgen_model.specs.Private.{private_name_by}
 use Rattle.jsgen_rules.specs.Classes.{numbers}
 use Rattle.jsgen_rules.proofs.private.new_name.Given as goal
 
 -- the classes left give the whole
 abbrev pub invariant-classes : goal.invariant-classes
-invariant-classes l = name_by (private_plain l.mappings) (numbers l.rest) (chars l.name) ≡ name_by (private_plain l.mappings) (numbers l.classes) (chars l.name)
+invariant-classes l = private_name_by (private_plain l.mappings) (numbers l.rest) (chars l.name) ≡ private_name_by (private_plain l.mappings) (numbers l.classes) (chars l.name)
 
 abbrev pub decreases-classes : goal.decreases-classes
 decreases-classes l = length (numbers l.rest)

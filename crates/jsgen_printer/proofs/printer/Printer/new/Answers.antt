@@ -9,5 +9,5 @@ pub returns-clause-pen : goal.returns-clause-pen
 unfolding pen_of
 returns-clause-pen c =
     let empty : chars (buffer_bytes c.with_indent.result) ≡ [] = ap chars c.with_indent.ensures.empty ∙ chars-nil in
-    let outermost : reverse c.new.result.items ≡ [] = ap reverse c.new.ensures.items in
-    rw (empty, outermost, c.with_indent.ensures.byte, c.with_indent.ensures.width, c.none.ensures, c.wanted_quote.ensures) refl
+    let outermost : reverse c.new.result.classes.items ≡ [] = ap reverse c.new.ensures.classes in
+    rw (empty, outermost, c.with_indent.ensures.byte, c.with_indent.ensures.width, c.new.ensures.tables, c.wanted_quote.ensures) refl

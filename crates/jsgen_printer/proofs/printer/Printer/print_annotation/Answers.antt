@@ -15,6 +15,6 @@ returns c =
     let o = c.args.offset in
     let kind = annotation_of c.args.kind in
     goes_as (annotation_written c.args.ends kind o)
-    (ap (λ t. annotation_by (fitting_at c.args.ends kind o pen) kind o (written_if c.ends_in-is_behind_slash.result t pen)) (ascii_chars (codes " ") refl)
-    ∙ ap (λ b. annotation_by (fitting_at c.args.ends kind o pen) kind o (written_if b (codes " ") pen)) c.ends_in-is_behind_slash.ensures)
+    (ap (λ t. annotation_by (fitting_at c.args.ends kind o pen) kind o (written_if c.code_ends_in-is_behind_slash.result t pen)) (ascii_chars (codes " ") refl)
+    ∙ ap (λ b. annotation_by (fitting_at c.args.ends kind o pen) kind o (written_if b (codes " ") pen)) c.code_ends_in-is_behind_slash.ensures)
     (goes_then (λ p. prefix_append p.code _) (λ p. (annotation_by_adds (fitting_at c.args.ends kind o p) kind o p).text) c.print_if.ensures c.print_annotation_text.ensures)

@@ -14,8 +14,8 @@ returns-then-has_key_annotation c =
     let pen = pen_of c.args.self.now in
     let o = c.args.offset in
     goes_laid (comments with_key_annotation o)
-    (ap (λ t. behind_group with_key_annotation (group false (group_at o pen) (without_group o (white_if c.ends_in-is_behind_slash.result t pen)))) (ascii_chars (codes " ") refl)
-    ∙ (ap (λ b. behind_group with_key_annotation (group false (group_at o pen) (without_group o (white_if b (codes " ") pen)))) c.ends_in-is_behind_slash.ensures
+    (ap (λ t. behind_group with_key_annotation (group false (group_at o pen) (without_group o (white_if c.code_ends_in-is_behind_slash.result t pen)))) (ascii_chars (codes " ") refl)
+    ∙ (ap (λ b. behind_group with_key_annotation (group false (group_at o pen) (without_group o (white_if b (codes " ") pen)))) c.code_ends_in-is_behind_slash.ensures
     ∙ ap (λ t. printed_if t with_key_annotation o pen) (sym c.if-has_key_annotation.true ∙ c.has_key_annotation.ensures)))
-    (goes_then (λ p. prefix_of_prefix (prefix_append p.code _) (group_adds false (group_at o p) (without_group o (white_if c.ends_in-is_behind_slash.result _ p))).text) (λ p. (behind_group_adds with_key_annotation p).text)
+    (goes_then (λ p. prefix_of_prefix (prefix_append p.code _) (group_adds false (group_at o p) (without_group o (white_if c.code_ends_in-is_behind_slash.result _ p))).text) (λ p. (behind_group_adds with_key_annotation p).text)
     (goes_then (λ p. prefix_append p.code _) (λ p. (group_adds false (group_at o p) (without_group o p)).text) c.print_white_if.ensures c.print_taken.ensures) c.print_due.ensures)

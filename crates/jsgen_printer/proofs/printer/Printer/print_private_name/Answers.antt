@@ -18,7 +18,7 @@ returns c =
     let span = c.args.span in
     let name = chars c.args.name.now in
     let own = chars c.printed_name-printed.result.now in
-    let printed = c.printed_name-printed.ensures ∙ ap (λ classes. printed_private (tables_plain printer.tables) (reverse classes) name) c.deref.ensures.value in
+    let printed = c.printed_name-printed.ensures ∙ ap (λ classes. printed_private (tables_plain printer.scope.tables) (reverse classes) name) c.deref.ensures.value in
     goes_laid (private_name span name)
     (behind_hash own (name_mark span (35 ∷ own) (pen_of printer)) ∙ ap (λ w. with_private_name w (name_mark span (35 ∷ w) (pen_of printer))) printed)
     (goes_then (λ pen. prefix_append pen.code _) (λ pen. prefix_append pen.code _) (goes_then (λ pen. whole_prefix pen.code) (λ pen. prefix_append pen.code _) c.print_private_mark.ensures c.print_str.ensures) c.print_bare_name.ensures)

@@ -1,0 +1,5 @@
+use Rattle.jsgen_private_laws.proofs.JobsSame as jobs
+use Rattle.jsgen_private_laws.proofs.settled_is_renamed.Goals as goal
+
+pub returns : goal.returns
+returns c = jobs.renamed_same
