@@ -19,7 +19,7 @@ from pathlib import Path
 from gate import TICK, TOP, gate, measured
 
 # Not jsgen_nodes: the check writes what it proved of many of its functions at one time, so that they can't be told apart.
-WATCHED = ("jsgen_printer", "jsgen_fields", "jsgen_expression_rows", "jsgen_statement_rows", "jsgen_rows")
+WATCHED = ("jsgen_printer", "jsgen_kept", "jsgen_fields", "jsgen_expression_rows", "jsgen_statement_rows", "jsgen_rows")
 SHAPES = (("ConditionalExpression", "Expression"), ("SequenceExpression", "Expression"), ("WhileStatement", "Statement"))
 FILES = {"Expression": ("synthetic_expressions", "jsgen_expression_rows"), "Statement": ("synthetic_statements", "jsgen_statement_rows")}
 TABLE = "tools/nodes/table.txt"

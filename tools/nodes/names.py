@@ -1,4 +1,4 @@
-"""Where the names of jsgen_tree and of the reader stand."""
+"""Where the names of jsgen_tree and of the crates of the reader stand."""
 
 from pathlib import Path
 
@@ -9,6 +9,7 @@ CRATE = REPOSITORY / "crates" / "jsgen_tree"
 SPECS = "Rattle.jsgen_tree.specs"
 DECLARED = SPECS + ".declared"
 MODEL = "Rattle.jsgen_model"
+KEPT = "Rattle.jsgen_kept"
 READER = "Rattle.jsgen_fields"
 
 

@@ -9,34 +9,34 @@ ghost use Rattle.jsgen_fields.specs.Parts.{is_in_classes};
 ghost use Rattle.jsgen_tree.specs.declared.types.NodeType.TheVariants as types;
 
 use jsgen_fields::InputFault;
-use jsgen_fields::asked::{
-    HoldsClassElement, HoldsDeclaration, HoldsExpression, HoldsStatement, PlainNode, ReadNode,
-    RowOf,
-};
 use jsgen_fields::fields::boxed;
-use jsgen_fields::kept::{
-    row_of_class, row_of_class_body, row_of_class_element, row_of_expression,
-    row_of_private_field_expression, row_of_private_identifier,
-};
 use jsgen_fields::list_fields::{class_element_list, statement_list};
-use jsgen_fields::others::OtherExpression;
 use jsgen_fields::set_fields::{
     needed_class_body, needed_expression, needed_function, needed_private_identifier,
     needed_property_key, optional_binding_identifier, optional_expression,
 };
+use jsgen_fields::set_rows::{row_of_class_element, row_of_expression};
 use jsgen_fields::values::{field_not_given, needed_text, neither_given, optional_flag};
 use jsgen_fields::words::{needed_class_form, needed_kind_of_method};
+use jsgen_kept::asked::{
+    HoldsClassElement, HoldsDeclaration, HoldsExpression, HoldsStatement, ReadNode, RowOf,
+};
+use jsgen_kept::kept::{
+    row_of_class, row_of_class_body, row_of_private_field_expression, row_of_private_identifier,
+};
+use jsgen_kept::others::OtherExpression;
 use jsgen_pool::Kept;
 use jsgen_syntax::Span;
 use jsgen_tree::{
-    Class, ClassBody, ClassElement, Expression, MethodDefinition, NodeType, PrivateFieldExpression,
-    PrivateIdentifier, PrivateInExpression, PropertyDefinition, StaticBlock,
+    Class, ClassBody, ClassElement, Expression, HasType, MethodDefinition, NodeType,
+    PrivateFieldExpression, PrivateIdentifier, PrivateInExpression, PropertyDefinition,
+    StaticBlock,
 };
 use serde_json::Value;
 use std::alloc::Global;
 
 #[tactic(auto, unfolding(jsgen_fields::specs::Reads::read_node))]
-fn read_private_identifier<N: PlainNode + Drop, R: RowOf<N> + Drop>(
+fn read_private_identifier<N: HasType + Drop, R: RowOf<N> + Drop>(
     alloc: Global,
     kept: &mut Vec<Kept<R>>,
     number: usize,

@@ -9,13 +9,13 @@ ghost use Rattle.jsgen_fields.specs.Parts.{is_in_assignments};
 ghost use Rattle.jsgen_tree.specs.declared.types.NodeType.TheVariants as types;
 
 use jsgen_fields::InputFault;
-use jsgen_fields::asked::{HoldsAssignmentTarget, HoldsExpression, ReadNode, RowOf};
 use jsgen_fields::fields::boxed;
-use jsgen_fields::kept::row_of_expression;
 use jsgen_fields::list_fields::expression_list;
-use jsgen_fields::others::OtherExpression;
 use jsgen_fields::set_fields::{needed_assignment_target, needed_expression};
+use jsgen_fields::set_rows::row_of_expression;
 use jsgen_fields::words::needed_assignment_operator;
+use jsgen_kept::asked::{HoldsAssignmentTarget, HoldsExpression, ReadNode, RowOf};
+use jsgen_kept::others::OtherExpression;
 use jsgen_pool::Kept;
 use jsgen_syntax::Span;
 use jsgen_tree::{

@@ -9,18 +9,19 @@ ghost use Rattle.jsgen_fields.specs.Parts.{is_in_collections};
 ghost use Rattle.jsgen_tree.specs.declared.types.NodeType.TheVariants as types;
 
 use jsgen_fields::InputFault;
-use jsgen_fields::asked::{HoldsExpression, PlainNode, ReadNode, RowOf};
 use jsgen_fields::fields::boxed;
-use jsgen_fields::kept::{row_of_expression, row_of_object_property, row_of_spread_element};
 use jsgen_fields::list_fields::{array_expression_element_or_hole_list, object_property_kind_list};
-use jsgen_fields::others::OtherExpression;
 use jsgen_fields::set_fields::{needed_expression, needed_property_key};
+use jsgen_fields::set_rows::row_of_expression;
 use jsgen_fields::values::optional_flag;
 use jsgen_fields::words::needed_property_kind;
+use jsgen_kept::asked::{HoldsExpression, ReadNode, RowOf};
+use jsgen_kept::kept::{row_of_object_property, row_of_spread_element};
+use jsgen_kept::others::OtherExpression;
 use jsgen_pool::Kept;
 use jsgen_syntax::Span;
 use jsgen_tree::{
-    ArrayExpression, Expression, NodeType, ObjectExpression, ObjectProperty, SpreadElement,
+    ArrayExpression, Expression, HasType, NodeType, ObjectExpression, ObjectProperty, SpreadElement,
 };
 use serde_json::Value;
 use std::alloc::Global;
@@ -127,7 +128,7 @@ fn read_object_property<N: HoldsExpression + Drop, R: RowOf<N> + Drop>(
 }
 
 #[tactic(auto, unfolding(jsgen_fields::specs::Reads::read_node))]
-fn read_object_expression<N: PlainNode + Drop, R: RowOf<N> + Drop>(
+fn read_object_expression<N: HasType + Drop, R: RowOf<N> + Drop>(
     alloc: Global,
     kept: &mut Vec<Kept<R>>,
     number: usize,

@@ -10,33 +10,34 @@ ghost use Rattle.jsgen_tree.specs.declared.types.NodeType.TheVariants as types;
 
 use crate::literals::read_numeric_literal;
 use jsgen_fields::InputFault;
-use jsgen_fields::asked::{HoldsExpression, PlainNode, ReadNode, RowOf};
 use jsgen_fields::fields::boxed;
-use jsgen_fields::kept::{
-    row_of_computed_member_expression, row_of_expression, row_of_identifier_name,
-    row_of_identifier_reference, row_of_static_member_expression,
-};
 use jsgen_fields::list_fields::argument_list;
-use jsgen_fields::others::OtherExpression;
 use jsgen_fields::set_fields::{needed_chain_element, needed_expression, needed_identifier_name};
+use jsgen_fields::set_rows::row_of_expression;
 use jsgen_fields::strings::needed_units;
 use jsgen_fields::values::{
     field_not_given, needed_flag, needed_text, optional_flag, optional_number,
 };
 use jsgen_fields::words::{needed_binary_operator, needed_logical_operator};
+use jsgen_kept::asked::{HoldsExpression, ReadNode, RowOf};
+use jsgen_kept::kept::{
+    row_of_computed_member_expression, row_of_identifier_name, row_of_identifier_reference,
+    row_of_static_member_expression,
+};
+use jsgen_kept::others::OtherExpression;
 use jsgen_pool::Kept;
 use jsgen_syntax::Span;
 use jsgen_tree::{
     BigIntLiteral, BinaryExpression, BooleanLiteral, CallExpression, ChainExpression,
-    ComputedMemberExpression, Expression, IdentifierName, IdentifierReference, LogicalExpression,
-    NodeType, NullLiteral, ParenthesizedExpression, RegExpLiteral, StaticMemberExpression,
-    StringLiteral, ThisExpression,
+    ComputedMemberExpression, Expression, HasType, IdentifierName, IdentifierReference,
+    LogicalExpression, NodeType, NullLiteral, ParenthesizedExpression, RegExpLiteral,
+    StaticMemberExpression, StringLiteral, ThisExpression,
 };
 use serde_json::Value;
 use std::alloc::Global;
 
 #[tactic(auto, unfolding(jsgen_fields::specs::Reads::read_node))]
-fn read_identifier_reference<N: PlainNode + Drop, R: RowOf<N> + Drop>(
+fn read_identifier_reference<N: HasType + Drop, R: RowOf<N> + Drop>(
     alloc: Global,
     kept: &mut Vec<Kept<R>>,
     number: usize,
@@ -67,7 +68,7 @@ fn read_identifier_reference<N: PlainNode + Drop, R: RowOf<N> + Drop>(
 }
 
 #[tactic(auto, unfolding(jsgen_fields::specs::Reads::read_node))]
-fn read_this_expression<N: PlainNode + Drop, R: RowOf<N> + Drop>(
+fn read_this_expression<N: HasType + Drop, R: RowOf<N> + Drop>(
     alloc: Global,
     kept: &mut Vec<Kept<R>>,
     number: usize,
@@ -93,7 +94,7 @@ fn read_this_expression<N: PlainNode + Drop, R: RowOf<N> + Drop>(
 }
 
 #[tactic(auto, unfolding(jsgen_fields::specs::Reads::read_node))]
-fn read_null_literal<N: PlainNode + Drop, R: RowOf<N> + Drop>(
+fn read_null_literal<N: HasType + Drop, R: RowOf<N> + Drop>(
     alloc: Global,
     kept: &mut Vec<Kept<R>>,
     number: usize,
@@ -119,7 +120,7 @@ fn read_null_literal<N: PlainNode + Drop, R: RowOf<N> + Drop>(
 }
 
 #[tactic(auto, unfolding(jsgen_fields::specs::Reads::read_node))]
-fn read_boolean_literal<N: PlainNode + Drop, R: RowOf<N> + Drop>(
+fn read_boolean_literal<N: HasType + Drop, R: RowOf<N> + Drop>(
     alloc: Global,
     kept: &mut Vec<Kept<R>>,
     number: usize,
@@ -147,7 +148,7 @@ fn read_boolean_literal<N: PlainNode + Drop, R: RowOf<N> + Drop>(
 }
 
 #[tactic(auto, unfolding(jsgen_fields::specs::Reads::read_node))]
-fn read_big_int_literal<N: PlainNode + Drop, R: RowOf<N> + Drop>(
+fn read_big_int_literal<N: HasType + Drop, R: RowOf<N> + Drop>(
     alloc: Global,
     kept: &mut Vec<Kept<R>>,
     number: usize,
@@ -175,7 +176,7 @@ fn read_big_int_literal<N: PlainNode + Drop, R: RowOf<N> + Drop>(
 }
 
 #[tactic(auto, unfolding(jsgen_fields::specs::Reads::read_node))]
-fn read_string_literal<N: PlainNode + Drop, R: RowOf<N> + Drop>(
+fn read_string_literal<N: HasType + Drop, R: RowOf<N> + Drop>(
     alloc: Global,
     kept: &mut Vec<Kept<R>>,
     number: usize,
@@ -203,7 +204,7 @@ fn read_string_literal<N: PlainNode + Drop, R: RowOf<N> + Drop>(
 }
 
 #[tactic(auto, unfolding(jsgen_fields::specs::Reads::read_node))]
-fn read_reg_exp_literal<N: PlainNode + Drop, R: RowOf<N> + Drop>(
+fn read_reg_exp_literal<N: HasType + Drop, R: RowOf<N> + Drop>(
     alloc: Global,
     kept: &mut Vec<Kept<R>>,
     number: usize,
@@ -346,7 +347,7 @@ fn read_logical_expression<N: HoldsExpression + Drop, R: RowOf<N> + Drop>(
 }
 
 #[tactic(auto, unfolding(jsgen_fields::specs::Reads::read_node))]
-fn read_identifier_name<N: PlainNode + Drop, R: RowOf<N> + Drop>(
+fn read_identifier_name<N: HasType + Drop, R: RowOf<N> + Drop>(
     alloc: Global,
     kept: &mut Vec<Kept<R>>,
     number: usize,
@@ -488,7 +489,7 @@ fn read_call_expression<N: HoldsExpression + Drop, R: RowOf<N> + Drop>(
 }
 
 #[tactic(auto, unfolding(jsgen_fields::specs::Reads::read_node))]
-fn read_chain_expression<N: PlainNode + Drop, R: RowOf<N> + Drop>(
+fn read_chain_expression<N: HasType + Drop, R: RowOf<N> + Drop>(
     alloc: Global,
     kept: &mut Vec<Kept<R>>,
     number: usize,

@@ -9,29 +9,29 @@ ghost use Rattle.jsgen_fields.specs.Parts.{is_in_functions};
 ghost use Rattle.jsgen_tree.specs.declared.types.NodeType.TheVariants as types;
 
 use jsgen_fields::InputFault;
-use jsgen_fields::asked::{
-    HoldsBindingPattern, HoldsDeclaration, HoldsExpression, HoldsStatement, PlainNode, ReadNode,
-    RowOf,
-};
 use jsgen_fields::fields::boxed;
-use jsgen_fields::kept::{
-    row_of_expression, row_of_formal_parameter, row_of_formal_parameter_rest,
-    row_of_formal_parameters, row_of_function, row_of_function_body,
-};
 use jsgen_fields::list_fields::{directive_list, formal_parameter_list, statement_list};
-use jsgen_fields::others::OtherExpression;
 use jsgen_fields::set_fields::{
     needed_arrow_function_body, needed_binding_pattern, needed_expression,
     needed_formal_parameters, optional_binding_identifier, optional_expression,
     optional_formal_parameter_rest, optional_function_body,
 };
+use jsgen_fields::set_rows::row_of_expression;
 use jsgen_fields::values::{field_not_given, neither_given, optional_flag};
 use jsgen_fields::words::needed_kind_of_function;
+use jsgen_kept::asked::{
+    HoldsBindingPattern, HoldsDeclaration, HoldsExpression, HoldsStatement, ReadNode, RowOf,
+};
+use jsgen_kept::kept::{
+    row_of_formal_parameter, row_of_formal_parameter_rest, row_of_formal_parameters,
+    row_of_function, row_of_function_body,
+};
+use jsgen_kept::others::OtherExpression;
 use jsgen_pool::Kept;
 use jsgen_syntax::Span;
 use jsgen_tree::{
     ArrowFunctionExpression, AwaitExpression, Expression, FormalParameter, FormalParameterRest,
-    FormalParameters, Function, FunctionBody, NodeType, YieldExpression,
+    FormalParameters, Function, FunctionBody, HasType, NodeType, YieldExpression,
 };
 use serde_json::Value;
 use std::alloc::Global;
@@ -116,7 +116,7 @@ fn read_formal_parameter_rest<N: HoldsBindingPattern + Drop, R: RowOf<N> + Drop>
 }
 
 #[tactic(auto, unfolding(jsgen_fields::specs::Reads::read_node))]
-fn read_formal_parameters<N: PlainNode + Drop, R: RowOf<N> + Drop>(
+fn read_formal_parameters<N: HasType + Drop, R: RowOf<N> + Drop>(
     alloc: Global,
     kept: &mut Vec<Kept<R>>,
     number: usize,
@@ -142,7 +142,7 @@ fn read_formal_parameters<N: PlainNode + Drop, R: RowOf<N> + Drop>(
 }
 
 #[tactic(auto, unfolding(jsgen_fields::specs::Reads::read_node))]
-fn read_function<N: PlainNode + Drop, R: RowOf<N> + Drop>(
+fn read_function<N: HasType + Drop, R: RowOf<N> + Drop>(
     alloc: Global,
     kept: &mut Vec<Kept<R>>,
     number: usize,

@@ -11,18 +11,18 @@ ghost use Rattle.jsgen_fields.specs.Reads.{Gives, read_node, read_value};
 ghost use Rattle.jsgen_fields.specs.Values.{Same, at, field as value_under, is_of_kind};
 ghost use Rattle.jsgen_pool.specs.Pool.{entries};
 
-use jsgen_fields::asked::{PlainNode, RowOf};
 use jsgen_fields::fields::boxed;
-use jsgen_fields::kept::row_of_expression;
-use jsgen_fields::others::OtherExpression;
+use jsgen_fields::set_rows::row_of_expression;
 use jsgen_fields::values::{
     needed_digits, needed_text, needed_value, optional_flag, passed_over_digits, passed_over_text,
     text_in, unset_flag,
 };
 use jsgen_fields::{At, InputFault};
+use jsgen_kept::asked::RowOf;
+use jsgen_kept::others::OtherExpression;
 use jsgen_pool::Kept;
 use jsgen_syntax::Span;
-use jsgen_tree::{Expression, NumericLiteral, NumericValue};
+use jsgen_tree::{Expression, HasType, NumericLiteral, NumericValue};
 use serde_json::Value;
 use std::alloc::Global;
 
@@ -44,7 +44,7 @@ fn needed_numeric_kind(number: usize, field: usize, row: &Value) -> Result<bool,
 }
 
 #[tactic(auto, unfolding(jsgen_fields::specs::Reads::read_node))]
-pub fn read_numeric_literal<N: PlainNode + Drop, R: RowOf<N> + Drop>(
+pub fn read_numeric_literal<N: HasType + Drop, R: RowOf<N> + Drop>(
     alloc: Global,
     kept: &mut Vec<Kept<R>>,
     number: usize,
@@ -63,7 +63,7 @@ pub fn read_numeric_literal<N: PlainNode + Drop, R: RowOf<N> + Drop>(
 
 // A whole number, by its digits.
 #[tactic(auto, unfolding(jsgen_fields::specs::Reads::read_node))]
-fn read_whole_number<N: PlainNode + Drop, R: RowOf<N> + Drop>(
+fn read_whole_number<N: HasType + Drop, R: RowOf<N> + Drop>(
     alloc: Global,
     kept: &mut Vec<Kept<R>>,
     number: usize,
@@ -103,7 +103,7 @@ fn read_whole_number<N: PlainNode + Drop, R: RowOf<N> + Drop>(
 
 // A number by its text, which has no sign.
 #[tactic(auto, unfolding(jsgen_fields::specs::Reads::read_node))]
-fn read_raw_number<N: PlainNode + Drop, R: RowOf<N> + Drop>(
+fn read_raw_number<N: HasType + Drop, R: RowOf<N> + Drop>(
     alloc: Global,
     kept: &mut Vec<Kept<R>>,
     number: usize,

@@ -9,18 +9,18 @@ ghost use Rattle.jsgen_fields.specs.Parts.{is_in_operations};
 ghost use Rattle.jsgen_tree.specs.declared.types.NodeType.TheVariants as types;
 
 use jsgen_fields::InputFault;
-use jsgen_fields::asked::{HoldsExpression, PlainNode, ReadNode, RowOf};
 use jsgen_fields::fields::boxed;
-use jsgen_fields::kept::row_of_expression;
 use jsgen_fields::list_fields::argument_list;
-use jsgen_fields::others::OtherExpression;
 use jsgen_fields::set_fields::{needed_expression, needed_simple_assignment_target};
+use jsgen_fields::set_rows::row_of_expression;
 use jsgen_fields::values::{field_not_given, optional_flag};
 use jsgen_fields::words::{needed_unary_operator, needed_update_operator};
+use jsgen_kept::asked::{HoldsExpression, ReadNode, RowOf};
+use jsgen_kept::others::OtherExpression;
 use jsgen_pool::Kept;
 use jsgen_syntax::Span;
 use jsgen_tree::{
-    Expression, ImportMeta, NewExpression, NewTarget, NodeType, Super, UnaryExpression,
+    Expression, HasType, ImportMeta, NewExpression, NewTarget, NodeType, Super, UnaryExpression,
     UpdateExpression,
 };
 use serde_json::Value;
@@ -62,7 +62,7 @@ fn read_unary_expression<N: HoldsExpression + Drop, R: RowOf<N> + Drop>(
 }
 
 #[tactic(auto, unfolding(jsgen_fields::specs::Reads::read_node))]
-fn read_new_target<N: PlainNode + Drop, R: RowOf<N> + Drop>(
+fn read_new_target<N: HasType + Drop, R: RowOf<N> + Drop>(
     alloc: Global,
     kept: &mut Vec<Kept<R>>,
     number: usize,
@@ -88,7 +88,7 @@ fn read_new_target<N: PlainNode + Drop, R: RowOf<N> + Drop>(
 }
 
 #[tactic(auto, unfolding(jsgen_fields::specs::Reads::read_node))]
-fn read_update_expression<N: PlainNode + Drop, R: RowOf<N> + Drop>(
+fn read_update_expression<N: HasType + Drop, R: RowOf<N> + Drop>(
     alloc: Global,
     kept: &mut Vec<Kept<R>>,
     number: usize,
@@ -174,7 +174,7 @@ fn read_new_expression<N: HoldsExpression + Drop, R: RowOf<N> + Drop>(
 }
 
 #[tactic(auto, unfolding(jsgen_fields::specs::Reads::read_node))]
-fn read_super<N: PlainNode + Drop, R: RowOf<N> + Drop>(
+fn read_super<N: HasType + Drop, R: RowOf<N> + Drop>(
     alloc: Global,
     kept: &mut Vec<Kept<R>>,
     number: usize,
@@ -200,7 +200,7 @@ fn read_super<N: PlainNode + Drop, R: RowOf<N> + Drop>(
 }
 
 #[tactic(auto, unfolding(jsgen_fields::specs::Reads::read_node))]
-fn read_import_meta<N: PlainNode + Drop, R: RowOf<N> + Drop>(
+fn read_import_meta<N: HasType + Drop, R: RowOf<N> + Drop>(
     alloc: Global,
     kept: &mut Vec<Kept<R>>,
     number: usize,

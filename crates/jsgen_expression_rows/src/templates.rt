@@ -9,25 +9,26 @@ ghost use Rattle.jsgen_fields.specs.Parts.{is_in_templates};
 ghost use Rattle.jsgen_tree.specs.declared.types.NodeType.TheVariants as types;
 
 use jsgen_fields::InputFault;
-use jsgen_fields::asked::{HoldsExpression, PlainNode, ReadNode, RowOf};
 use jsgen_fields::fields::boxed;
-use jsgen_fields::kept::{row_of_expression, row_of_template_element};
 use jsgen_fields::list_fields::{expression_list, template_element_list};
-use jsgen_fields::others::OtherExpression;
 use jsgen_fields::set_fields::{needed_expression, needed_template_literal, optional_expression};
+use jsgen_fields::set_rows::row_of_expression;
 use jsgen_fields::strings::optional_units;
 use jsgen_fields::values::{field_not_given, needed_text};
+use jsgen_kept::asked::{HoldsExpression, ReadNode, RowOf};
+use jsgen_kept::kept::row_of_template_element;
+use jsgen_kept::others::OtherExpression;
 use jsgen_pool::Kept;
 use jsgen_syntax::Span;
 use jsgen_tree::{
-    Expression, ImportExpression, NodeType, TaggedTemplateExpression, TemplateElement,
+    Expression, HasType, ImportExpression, NodeType, TaggedTemplateExpression, TemplateElement,
     TemplateLiteral,
 };
 use serde_json::Value;
 use std::alloc::Global;
 
 #[tactic(auto, unfolding(jsgen_fields::specs::Reads::read_node))]
-fn read_template_element<N: PlainNode + Drop, R: RowOf<N> + Drop>(
+fn read_template_element<N: HasType + Drop, R: RowOf<N> + Drop>(
     alloc: Global,
     kept: &mut Vec<Kept<R>>,
     number: usize,

@@ -3,8 +3,6 @@ use Rattle.std.specs.Prelude.{ℕ, suc, ◌-◌, ◌==◌, ◌||◌, List, [], �
 use Rattle.serde_json.specs.Data.{Data, null, Num, unsigned, negative, float}
 use Rattle.serde_json.specs.Find.{as_number}
 use Rattle.jsgen_syntax.specs.declared.span.Span.{Span}
-use Rattle.jsgen_tree.specs.declared.types.NodeType.{NodeType}
-use Rattle.jsgen_tree.specs.declared.types.NodeType.TheVariants as types
 use Rattle.jsgen_tree.specs.declared.types.NodeSet.{NodeSet}
 use Rattle.jsgen_tree.specs.Job.{JobData}
 use Rattle.jsgen_tree.specs.Atom.{Atom, no_value}
@@ -14,6 +12,7 @@ use Rattle.jsgen_tree.specs.Table.{Sort, Presence, needed, Field, absent_value, 
 use Rattle.jsgen_tree.specs.Fields.{fields}
 use Rattle.jsgen_tree.specs.Sets.{in_set}
 use Rattle.jsgen_tree.specs.Table as sorts
+use Rattle.jsgen_kept.specs.Kept.{is_program}
 use Rattle.jsgen_fields.specs.declared.At.{At}
 use Rattle.jsgen_fields.specs.declared.InputFault.{InputFault}
 use Rattle.jsgen_fields.specs.declared.InputFault.TheVariants.{Wrong, Child, Shared}
@@ -197,10 +196,6 @@ faults_in e u (m ∷ ms) = mark_faults e u m ++ faults_in e (with_mark u m) ms
 -- the last row's tree
 abbrev pub root_tree : List Tree → Option Tree
 root_tree e = slice_get e (length e - 1)
-
-abbrev pub is_program : NodeType → Bool
-is_program types.Program = true
-is_program other = false
 
 abbrev pub root_faults : At → Option Tree → List InputFault
 root_faults a None = Wrong a ∷ []

@@ -18,7 +18,8 @@ use Rattle.jsgen_fields.specs.declared.At.{At}
 use Rattle.jsgen_fields.specs.declared.InputFault.{InputFault}
 use Rattle.jsgen_fields.specs.declared.InputFault.TheVariants.{Wrong, Child, Shared, Memory}
 use Rattle.jsgen_fields.specs.Values.{after, at, field, not_given, field_in, in_row, is_needed, items_in, value_in, type_of, span_of, rows_in}
-use Rattle.jsgen_fields.specs.Meaning.{Held, a_value, a_list, a_maybe_list, Parts, put_in, child_held, absent_held, unread_held, is_program}
+use Rattle.jsgen_fields.specs.Meaning.{Held, a_value, a_list, a_maybe_list, Parts, put_in, child_held, absent_held, unread_held}
+use Rattle.jsgen_kept.specs.Kept.{is_program}
 
 abbrev pub Read : Type 0 → Type 0
 Read V = Result (V × List Entry) InputFault

@@ -8,10 +8,10 @@ ghost use Rattle.jsgen_fields.specs.Values.{Same};
 ghost use Rattle.jsgen_fields.specs.Reads.{Gives, number_in, take_child, take_or_hole, take_each};
 ghost use Rattle.jsgen_pool.specs.Pool.{entries};
 
-use crate::asked::{Child, PlainNode, RowOf};
 use crate::{At, InputFault};
+use jsgen_kept::asked::{Child, RowOf};
 use jsgen_pool::{Kept, TakeFault, Typed, take};
-use jsgen_tree::NodeSet;
+use jsgen_tree::{HasType, NodeSet};
 use serde_json::Value;
 use std::alloc::Global;
 
@@ -52,7 +52,7 @@ fn take_child<R: Typed + Drop>(
     }
 }
 
-pub fn take_as<N: PlainNode, R: RowOf<N> + Drop, C: Child<N>>(
+pub fn take_as<N: HasType, R: RowOf<N> + Drop, C: Child<N>>(
     alloc: Global,
     kept: &mut Vec<Kept<R>>,
     at: At,
@@ -68,7 +68,7 @@ pub fn take_as<N: PlainNode, R: RowOf<N> + Drop, C: Child<N>>(
     }
 }
 
-pub fn take_all<N: PlainNode, R: RowOf<N> + Drop, C: Child<N> + Drop>(
+pub fn take_all<N: HasType, R: RowOf<N> + Drop, C: Child<N> + Drop>(
     alloc: Global,
     kept: &mut Vec<Kept<R>>,
     at: At,
@@ -88,7 +88,7 @@ pub fn take_all<N: PlainNode, R: RowOf<N> + Drop, C: Child<N> + Drop>(
 // ---- lists with holes
 
 // Null is a hole.
-fn take_or_hole<N: PlainNode, R: RowOf<N> + Drop, C: Child<N>>(
+fn take_or_hole<N: HasType, R: RowOf<N> + Drop, C: Child<N>>(
     alloc: Global,
     kept: &mut Vec<Kept<R>>,
     at: At,
@@ -106,7 +106,7 @@ fn take_or_hole<N: PlainNode, R: RowOf<N> + Drop, C: Child<N>>(
     }
 }
 
-pub fn take_all_or_holes<N: PlainNode, R: RowOf<N> + Drop, C: Child<N> + Drop>(
+pub fn take_all_or_holes<N: HasType, R: RowOf<N> + Drop, C: Child<N> + Drop>(
     alloc: Global,
     kept: &mut Vec<Kept<R>>,
     at: At,

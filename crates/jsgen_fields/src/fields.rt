@@ -8,16 +8,17 @@ ghost use Rattle.jsgen_fields.specs.Meaning.{a_child, a_maybe, a_list, a_maybe_l
 ghost use Rattle.jsgen_fields.specs.Reads.{Gives, read_children};
 ghost use Rattle.jsgen_pool.specs.Pool.{entries};
 
-use crate::asked::{Child, PlainNode, RowOf};
 use crate::children::{take_all, take_all_or_holes, take_as};
 use crate::values::{items_in, needed_value, optional_value};
 use crate::{At, InputFault};
+use jsgen_kept::asked::{Child, RowOf};
 use jsgen_pool::Kept;
+use jsgen_tree::HasType;
 use serde_json::Value;
 use std::alloc::Global;
 
 #[tactic(auto, unfolding(crate::specs::Reads::read_children))]
-pub fn needed_child<N: PlainNode, R: RowOf<N> + Drop, C: Child<N>>(
+pub fn needed_child<N: HasType, R: RowOf<N> + Drop, C: Child<N>>(
     alloc: Global,
     kept: &mut Vec<Kept<R>>,
     number: usize,
@@ -36,7 +37,7 @@ pub fn needed_child<N: PlainNode, R: RowOf<N> + Drop, C: Child<N>>(
 }
 
 #[tactic(auto, unfolding(crate::specs::Reads::read_children))]
-pub fn optional_child<N: PlainNode, R: RowOf<N> + Drop, C: Child<N>>(
+pub fn optional_child<N: HasType, R: RowOf<N> + Drop, C: Child<N>>(
     alloc: Global,
     kept: &mut Vec<Kept<R>>,
     number: usize,
@@ -60,7 +61,7 @@ pub fn optional_child<N: PlainNode, R: RowOf<N> + Drop, C: Child<N>>(
 
 /// A list that is empty where it is absent.
 #[tactic(auto, unfolding(crate::specs::Reads::read_children))]
-pub fn children<N: PlainNode, R: RowOf<N> + Drop, C: Child<N> + Drop>(
+pub fn children<N: HasType, R: RowOf<N> + Drop, C: Child<N> + Drop>(
     alloc: Global,
     kept: &mut Vec<Kept<R>>,
     number: usize,
@@ -84,7 +85,7 @@ pub fn children<N: PlainNode, R: RowOf<N> + Drop, C: Child<N> + Drop>(
 
 /// A list, or none where it is absent.
 #[tactic(auto, unfolding(crate::specs::Reads::read_children))]
-pub fn optional_children<N: PlainNode, R: RowOf<N> + Drop, C: Child<N> + Drop>(
+pub fn optional_children<N: HasType, R: RowOf<N> + Drop, C: Child<N> + Drop>(
     alloc: Global,
     kept: &mut Vec<Kept<R>>,
     number: usize,
@@ -111,7 +112,7 @@ pub fn optional_children<N: PlainNode, R: RowOf<N> + Drop, C: Child<N> + Drop>(
 
 /// A list with a hole at each null, empty where it is absent.
 #[tactic(auto, unfolding(crate::specs::Reads::read_children))]
-pub fn children_or_holes<N: PlainNode, R: RowOf<N> + Drop, C: Child<N> + Drop>(
+pub fn children_or_holes<N: HasType, R: RowOf<N> + Drop, C: Child<N> + Drop>(
     alloc: Global,
     kept: &mut Vec<Kept<R>>,
     number: usize,

@@ -1,4 +1,4 @@
-//! The fields of a job's rows: what stands in them, the rows that were read, and what becomes of a row where it is a child.
+//! The fields of a job's rows, and what stands in them.
 #![tactic(auto)]
 
 ghost use Rattle.std.specs.Prelude.{◌≡◌, Some};
@@ -6,19 +6,13 @@ ghost use Rattle.jsgen_fields.specs.Texts.{at_text, fault_text};
 ghost use Rattle.jsgen_fields.specs.Values.{at, head};
 ghost use Rattle.jsgen_fields.specs.declared.InputFault.TheVariants as faults;
 
-pub mod asked;
-mod child_nodes;
-mod child_sets;
-mod child_types;
 mod children;
 pub mod fields;
 pub mod floats;
-pub mod kept;
 pub mod list_fields;
-mod members;
 mod names;
-pub mod others;
 pub mod set_fields;
+pub mod set_rows;
 pub mod strings;
 pub mod values;
 pub mod words;

@@ -12,22 +12,22 @@ ghost use Rattle.jsgen_pool.specs.Pool.{entries};
 ghost use Rattle.jsgen_tree.specs.declared.types.NodeSet.TheVariants as sets;
 
 use crate::InputFault;
-use crate::asked::{
-    HoldsAssignmentTarget, HoldsBindingPattern, HoldsClassElement, HoldsDeclaration,
-    HoldsExpression, HoldsStatement, PlainNode, RowOf,
-};
 use crate::fields::{children, children_or_holes, optional_children};
+use jsgen_kept::asked::{
+    HoldsAssignmentTarget, HoldsBindingPattern, HoldsClassElement, HoldsDeclaration,
+    HoldsExpression, HoldsStatement, RowOf,
+};
 use jsgen_pool::Kept;
 use jsgen_tree::{
     Argument, ArrayExpressionElement, AssignmentTargetMaybeDefault, AssignmentTargetProperty,
     BindingPatternNode, BindingProperty, ClassElementNode, Comment, Directive, ExportSpecifier,
-    ExpressionNode, FormalParameter, ImportAttribute, ImportDeclarationSpecifier,
+    ExpressionNode, FormalParameter, HasType, ImportAttribute, ImportDeclarationSpecifier,
     ObjectPropertyKind, StatementNode, SwitchCase, TemplateElement, VariableDeclarator,
 };
 use serde_json::Value;
 use std::alloc::Global;
 
-pub fn comment_list<N: PlainNode + Drop, R: RowOf<N> + Drop>(
+pub fn comment_list<N: HasType + Drop, R: RowOf<N> + Drop>(
     alloc: Global,
     kept: &mut Vec<Kept<R>>,
     number: usize,
@@ -41,7 +41,7 @@ pub fn comment_list<N: PlainNode + Drop, R: RowOf<N> + Drop>(
     children::<N, R, _>(alloc, kept, number, field, row, name)
 }
 
-pub fn directive_list<N: PlainNode + Drop, R: RowOf<N> + Drop>(
+pub fn directive_list<N: HasType + Drop, R: RowOf<N> + Drop>(
     alloc: Global,
     kept: &mut Vec<Kept<R>>,
     number: usize,
@@ -69,7 +69,7 @@ pub fn statement_list<N: HoldsDeclaration + HoldsStatement + Drop, R: RowOf<N> +
     children::<N, R, _>(alloc, kept, number, field, row, name)
 }
 
-pub fn variable_declarator_list<N: PlainNode + Drop, R: RowOf<N> + Drop>(
+pub fn variable_declarator_list<N: HasType + Drop, R: RowOf<N> + Drop>(
     alloc: Global,
     kept: &mut Vec<Kept<R>>,
     number: usize,
@@ -111,7 +111,7 @@ pub fn array_expression_element_or_hole_list<N: HoldsExpression + Drop, R: RowOf
     children_or_holes::<N, R, _>(alloc, kept, number, field, row, name)
 }
 
-pub fn object_property_kind_list<N: PlainNode + Drop, R: RowOf<N> + Drop>(
+pub fn object_property_kind_list<N: HasType + Drop, R: RowOf<N> + Drop>(
     alloc: Global,
     kept: &mut Vec<Kept<R>>,
     number: usize,
@@ -139,7 +139,7 @@ pub fn expression_list<N: HoldsExpression + Drop, R: RowOf<N> + Drop>(
     children::<N, R, _>(alloc, kept, number, field, row, name)
 }
 
-pub fn formal_parameter_list<N: PlainNode + Drop, R: RowOf<N> + Drop>(
+pub fn formal_parameter_list<N: HasType + Drop, R: RowOf<N> + Drop>(
     alloc: Global,
     kept: &mut Vec<Kept<R>>,
     number: usize,
@@ -153,7 +153,7 @@ pub fn formal_parameter_list<N: PlainNode + Drop, R: RowOf<N> + Drop>(
     children::<N, R, _>(alloc, kept, number, field, row, name)
 }
 
-pub fn template_element_list<N: PlainNode + Drop, R: RowOf<N> + Drop>(
+pub fn template_element_list<N: HasType + Drop, R: RowOf<N> + Drop>(
     alloc: Global,
     kept: &mut Vec<Kept<R>>,
     number: usize,
@@ -167,7 +167,7 @@ pub fn template_element_list<N: PlainNode + Drop, R: RowOf<N> + Drop>(
     children::<N, R, _>(alloc, kept, number, field, row, name)
 }
 
-pub fn switch_case_list<N: PlainNode + Drop, R: RowOf<N> + Drop>(
+pub fn switch_case_list<N: HasType + Drop, R: RowOf<N> + Drop>(
     alloc: Global,
     kept: &mut Vec<Kept<R>>,
     number: usize,
@@ -181,7 +181,7 @@ pub fn switch_case_list<N: PlainNode + Drop, R: RowOf<N> + Drop>(
     children::<N, R, _>(alloc, kept, number, field, row, name)
 }
 
-pub fn binding_property_list<N: PlainNode + Drop, R: RowOf<N> + Drop>(
+pub fn binding_property_list<N: HasType + Drop, R: RowOf<N> + Drop>(
     alloc: Global,
     kept: &mut Vec<Kept<R>>,
     number: usize,
@@ -226,7 +226,7 @@ pub fn assignment_target_maybe_default_or_hole_list<
     children_or_holes::<N, R, _>(alloc, kept, number, field, row, name)
 }
 
-pub fn assignment_target_property_list<N: PlainNode + Drop, R: RowOf<N> + Drop>(
+pub fn assignment_target_property_list<N: HasType + Drop, R: RowOf<N> + Drop>(
     alloc: Global,
     kept: &mut Vec<Kept<R>>,
     number: usize,
@@ -254,7 +254,7 @@ pub fn class_element_list<N: HoldsClassElement + Drop, R: RowOf<N> + Drop>(
     children::<N, R, _>(alloc, kept, number, field, row, name)
 }
 
-pub fn optional_import_declaration_specifier_list<N: PlainNode + Drop, R: RowOf<N> + Drop>(
+pub fn optional_import_declaration_specifier_list<N: HasType + Drop, R: RowOf<N> + Drop>(
     alloc: Global,
     kept: &mut Vec<Kept<R>>,
     number: usize,
@@ -268,7 +268,7 @@ pub fn optional_import_declaration_specifier_list<N: PlainNode + Drop, R: RowOf<
     optional_children::<N, R, _>(alloc, kept, number, field, row, name)
 }
 
-pub fn import_attribute_list<N: PlainNode + Drop, R: RowOf<N> + Drop>(
+pub fn import_attribute_list<N: HasType + Drop, R: RowOf<N> + Drop>(
     alloc: Global,
     kept: &mut Vec<Kept<R>>,
     number: usize,
@@ -282,7 +282,7 @@ pub fn import_attribute_list<N: PlainNode + Drop, R: RowOf<N> + Drop>(
     children::<N, R, _>(alloc, kept, number, field, row, name)
 }
 
-pub fn export_specifier_list<N: PlainNode + Drop, R: RowOf<N> + Drop>(
+pub fn export_specifier_list<N: HasType + Drop, R: RowOf<N> + Drop>(
     alloc: Global,
     kept: &mut Vec<Kept<R>>,
     number: usize,

@@ -12,25 +12,25 @@ ghost use Rattle.jsgen_pool.specs.Pool.{entries};
 ghost use Rattle.jsgen_tree.specs.declared.types.NodeSet.TheVariants as sets;
 
 use crate::InputFault;
-use crate::asked::{
-    HoldsAssignmentTarget, HoldsBindingPattern, HoldsDeclaration, HoldsExpression, HoldsStatement,
-    PlainNode, RowOf,
-};
 use crate::fields::{needed_child, optional_child};
+use jsgen_kept::asked::{
+    HoldsAssignmentTarget, HoldsBindingPattern, HoldsDeclaration, HoldsExpression, HoldsStatement,
+    RowOf,
+};
 use jsgen_pool::Kept;
 use jsgen_tree::{
     ArrowFunctionBody, AssignmentTargetMaybeDefault, AssignmentTargetNode, AssignmentTargetRest,
     BindingIdentifier, BindingPatternNode, BindingRestElement, BlockStatement, CatchClause,
     ChainElement, ClassBody, DeclarationNode, ExportDefaultDeclarationKind, ExpressionNode,
     ForStatementInit, ForStatementLeft, FormalParameterRest, FormalParameters, Function,
-    FunctionBody, Hashbang, IdentifierName, IdentifierReference, ImportAttributeKey,
+    FunctionBody, HasType, Hashbang, IdentifierName, IdentifierReference, ImportAttributeKey,
     LabelIdentifier, ModuleExportName, PrivateIdentifier, PropertyKey, SimpleAssignmentTarget,
     StatementNode, StringLiteral, TemplateLiteral, WithClause,
 };
 use serde_json::Value;
 use std::alloc::Global;
 
-pub fn optional_hashbang<N: PlainNode + Drop, R: RowOf<N> + Drop>(
+pub fn optional_hashbang<N: HasType + Drop, R: RowOf<N> + Drop>(
     alloc: Global,
     kept: &mut Vec<Kept<R>>,
     number: usize,
@@ -114,7 +114,7 @@ pub fn optional_statement<N: HoldsDeclaration + HoldsStatement + Drop, R: RowOf<
     optional_child::<N, R, _>(alloc, kept, number, field, row, name)
 }
 
-pub fn needed_identifier_name<N: PlainNode + Drop, R: RowOf<N> + Drop>(
+pub fn needed_identifier_name<N: HasType + Drop, R: RowOf<N> + Drop>(
     alloc: Global,
     kept: &mut Vec<Kept<R>>,
     number: usize,
@@ -128,7 +128,7 @@ pub fn needed_identifier_name<N: PlainNode + Drop, R: RowOf<N> + Drop>(
     needed_child::<N, R, _>(alloc, kept, number, field, row, name)
 }
 
-pub fn needed_chain_element<N: PlainNode + Drop, R: RowOf<N> + Drop>(
+pub fn needed_chain_element<N: HasType + Drop, R: RowOf<N> + Drop>(
     alloc: Global,
     kept: &mut Vec<Kept<R>>,
     number: usize,
@@ -156,7 +156,7 @@ pub fn needed_property_key<N: HoldsExpression + Drop, R: RowOf<N> + Drop>(
     needed_child::<N, R, _>(alloc, kept, number, field, row, name)
 }
 
-pub fn needed_simple_assignment_target<N: PlainNode + Drop, R: RowOf<N> + Drop>(
+pub fn needed_simple_assignment_target<N: HasType + Drop, R: RowOf<N> + Drop>(
     alloc: Global,
     kept: &mut Vec<Kept<R>>,
     number: usize,
@@ -184,7 +184,7 @@ pub fn needed_assignment_target<N: HoldsAssignmentTarget + Drop, R: RowOf<N> + D
     needed_child::<N, R, _>(alloc, kept, number, field, row, name)
 }
 
-pub fn optional_formal_parameter_rest<N: PlainNode + Drop, R: RowOf<N> + Drop>(
+pub fn optional_formal_parameter_rest<N: HasType + Drop, R: RowOf<N> + Drop>(
     alloc: Global,
     kept: &mut Vec<Kept<R>>,
     number: usize,
@@ -198,7 +198,7 @@ pub fn optional_formal_parameter_rest<N: PlainNode + Drop, R: RowOf<N> + Drop>(
     optional_child::<N, R, _>(alloc, kept, number, field, row, name)
 }
 
-pub fn optional_binding_identifier<N: PlainNode + Drop, R: RowOf<N> + Drop>(
+pub fn optional_binding_identifier<N: HasType + Drop, R: RowOf<N> + Drop>(
     alloc: Global,
     kept: &mut Vec<Kept<R>>,
     number: usize,
@@ -212,7 +212,7 @@ pub fn optional_binding_identifier<N: PlainNode + Drop, R: RowOf<N> + Drop>(
     optional_child::<N, R, _>(alloc, kept, number, field, row, name)
 }
 
-pub fn needed_formal_parameters<N: PlainNode + Drop, R: RowOf<N> + Drop>(
+pub fn needed_formal_parameters<N: HasType + Drop, R: RowOf<N> + Drop>(
     alloc: Global,
     kept: &mut Vec<Kept<R>>,
     number: usize,
@@ -226,7 +226,7 @@ pub fn needed_formal_parameters<N: PlainNode + Drop, R: RowOf<N> + Drop>(
     needed_child::<N, R, _>(alloc, kept, number, field, row, name)
 }
 
-pub fn optional_function_body<N: PlainNode + Drop, R: RowOf<N> + Drop>(
+pub fn optional_function_body<N: HasType + Drop, R: RowOf<N> + Drop>(
     alloc: Global,
     kept: &mut Vec<Kept<R>>,
     number: usize,
@@ -254,7 +254,7 @@ pub fn needed_arrow_function_body<N: HoldsExpression + Drop, R: RowOf<N> + Drop>
     needed_child::<N, R, _>(alloc, kept, number, field, row, name)
 }
 
-pub fn needed_template_literal<N: PlainNode + Drop, R: RowOf<N> + Drop>(
+pub fn needed_template_literal<N: HasType + Drop, R: RowOf<N> + Drop>(
     alloc: Global,
     kept: &mut Vec<Kept<R>>,
     number: usize,
@@ -296,7 +296,7 @@ pub fn needed_for_statement_left<N: HoldsAssignmentTarget + Drop, R: RowOf<N> + 
     needed_child::<N, R, _>(alloc, kept, number, field, row, name)
 }
 
-pub fn needed_label_identifier<N: PlainNode + Drop, R: RowOf<N> + Drop>(
+pub fn needed_label_identifier<N: HasType + Drop, R: RowOf<N> + Drop>(
     alloc: Global,
     kept: &mut Vec<Kept<R>>,
     number: usize,
@@ -310,7 +310,7 @@ pub fn needed_label_identifier<N: PlainNode + Drop, R: RowOf<N> + Drop>(
     needed_child::<N, R, _>(alloc, kept, number, field, row, name)
 }
 
-pub fn optional_label_identifier<N: PlainNode + Drop, R: RowOf<N> + Drop>(
+pub fn optional_label_identifier<N: HasType + Drop, R: RowOf<N> + Drop>(
     alloc: Global,
     kept: &mut Vec<Kept<R>>,
     number: usize,
@@ -324,7 +324,7 @@ pub fn optional_label_identifier<N: PlainNode + Drop, R: RowOf<N> + Drop>(
     optional_child::<N, R, _>(alloc, kept, number, field, row, name)
 }
 
-pub fn needed_block_statement<N: PlainNode + Drop, R: RowOf<N> + Drop>(
+pub fn needed_block_statement<N: HasType + Drop, R: RowOf<N> + Drop>(
     alloc: Global,
     kept: &mut Vec<Kept<R>>,
     number: usize,
@@ -338,7 +338,7 @@ pub fn needed_block_statement<N: PlainNode + Drop, R: RowOf<N> + Drop>(
     needed_child::<N, R, _>(alloc, kept, number, field, row, name)
 }
 
-pub fn optional_catch_clause<N: PlainNode + Drop, R: RowOf<N> + Drop>(
+pub fn optional_catch_clause<N: HasType + Drop, R: RowOf<N> + Drop>(
     alloc: Global,
     kept: &mut Vec<Kept<R>>,
     number: usize,
@@ -352,7 +352,7 @@ pub fn optional_catch_clause<N: PlainNode + Drop, R: RowOf<N> + Drop>(
     optional_child::<N, R, _>(alloc, kept, number, field, row, name)
 }
 
-pub fn optional_block_statement<N: PlainNode + Drop, R: RowOf<N> + Drop>(
+pub fn optional_block_statement<N: HasType + Drop, R: RowOf<N> + Drop>(
     alloc: Global,
     kept: &mut Vec<Kept<R>>,
     number: usize,
@@ -380,7 +380,7 @@ pub fn optional_binding_pattern<N: HoldsBindingPattern + Drop, R: RowOf<N> + Dro
     optional_child::<N, R, _>(alloc, kept, number, field, row, name)
 }
 
-pub fn optional_binding_rest_element<N: PlainNode + Drop, R: RowOf<N> + Drop>(
+pub fn optional_binding_rest_element<N: HasType + Drop, R: RowOf<N> + Drop>(
     alloc: Global,
     kept: &mut Vec<Kept<R>>,
     number: usize,
@@ -394,7 +394,7 @@ pub fn optional_binding_rest_element<N: PlainNode + Drop, R: RowOf<N> + Drop>(
     optional_child::<N, R, _>(alloc, kept, number, field, row, name)
 }
 
-pub fn optional_assignment_target_rest<N: PlainNode + Drop, R: RowOf<N> + Drop>(
+pub fn optional_assignment_target_rest<N: HasType + Drop, R: RowOf<N> + Drop>(
     alloc: Global,
     kept: &mut Vec<Kept<R>>,
     number: usize,
@@ -408,7 +408,7 @@ pub fn optional_assignment_target_rest<N: PlainNode + Drop, R: RowOf<N> + Drop>(
     optional_child::<N, R, _>(alloc, kept, number, field, row, name)
 }
 
-pub fn needed_identifier_reference<N: PlainNode + Drop, R: RowOf<N> + Drop>(
+pub fn needed_identifier_reference<N: HasType + Drop, R: RowOf<N> + Drop>(
     alloc: Global,
     kept: &mut Vec<Kept<R>>,
     number: usize,
@@ -436,7 +436,7 @@ pub fn needed_assignment_target_maybe_default<N: HoldsAssignmentTarget + Drop, R
     needed_child::<N, R, _>(alloc, kept, number, field, row, name)
 }
 
-pub fn needed_private_identifier<N: PlainNode + Drop, R: RowOf<N> + Drop>(
+pub fn needed_private_identifier<N: HasType + Drop, R: RowOf<N> + Drop>(
     alloc: Global,
     kept: &mut Vec<Kept<R>>,
     number: usize,
@@ -450,7 +450,7 @@ pub fn needed_private_identifier<N: PlainNode + Drop, R: RowOf<N> + Drop>(
     needed_child::<N, R, _>(alloc, kept, number, field, row, name)
 }
 
-pub fn needed_class_body<N: PlainNode + Drop, R: RowOf<N> + Drop>(
+pub fn needed_class_body<N: HasType + Drop, R: RowOf<N> + Drop>(
     alloc: Global,
     kept: &mut Vec<Kept<R>>,
     number: usize,
@@ -464,7 +464,7 @@ pub fn needed_class_body<N: PlainNode + Drop, R: RowOf<N> + Drop>(
     needed_child::<N, R, _>(alloc, kept, number, field, row, name)
 }
 
-pub fn needed_function<N: PlainNode + Drop, R: RowOf<N> + Drop>(
+pub fn needed_function<N: HasType + Drop, R: RowOf<N> + Drop>(
     alloc: Global,
     kept: &mut Vec<Kept<R>>,
     number: usize,
@@ -478,7 +478,7 @@ pub fn needed_function<N: PlainNode + Drop, R: RowOf<N> + Drop>(
     needed_child::<N, R, _>(alloc, kept, number, field, row, name)
 }
 
-pub fn needed_string_literal<N: PlainNode + Drop, R: RowOf<N> + Drop>(
+pub fn needed_string_literal<N: HasType + Drop, R: RowOf<N> + Drop>(
     alloc: Global,
     kept: &mut Vec<Kept<R>>,
     number: usize,
@@ -492,7 +492,7 @@ pub fn needed_string_literal<N: PlainNode + Drop, R: RowOf<N> + Drop>(
     needed_child::<N, R, _>(alloc, kept, number, field, row, name)
 }
 
-pub fn optional_with_clause<N: PlainNode + Drop, R: RowOf<N> + Drop>(
+pub fn optional_with_clause<N: HasType + Drop, R: RowOf<N> + Drop>(
     alloc: Global,
     kept: &mut Vec<Kept<R>>,
     number: usize,
@@ -506,7 +506,7 @@ pub fn optional_with_clause<N: PlainNode + Drop, R: RowOf<N> + Drop>(
     optional_child::<N, R, _>(alloc, kept, number, field, row, name)
 }
 
-pub fn needed_binding_identifier<N: PlainNode + Drop, R: RowOf<N> + Drop>(
+pub fn needed_binding_identifier<N: HasType + Drop, R: RowOf<N> + Drop>(
     alloc: Global,
     kept: &mut Vec<Kept<R>>,
     number: usize,
@@ -520,7 +520,7 @@ pub fn needed_binding_identifier<N: PlainNode + Drop, R: RowOf<N> + Drop>(
     needed_child::<N, R, _>(alloc, kept, number, field, row, name)
 }
 
-pub fn needed_module_export_name<N: PlainNode + Drop, R: RowOf<N> + Drop>(
+pub fn needed_module_export_name<N: HasType + Drop, R: RowOf<N> + Drop>(
     alloc: Global,
     kept: &mut Vec<Kept<R>>,
     number: usize,
@@ -534,7 +534,7 @@ pub fn needed_module_export_name<N: PlainNode + Drop, R: RowOf<N> + Drop>(
     needed_child::<N, R, _>(alloc, kept, number, field, row, name)
 }
 
-pub fn needed_import_attribute_key<N: PlainNode + Drop, R: RowOf<N> + Drop>(
+pub fn needed_import_attribute_key<N: HasType + Drop, R: RowOf<N> + Drop>(
     alloc: Global,
     kept: &mut Vec<Kept<R>>,
     number: usize,
@@ -562,7 +562,7 @@ pub fn needed_declaration<N: HoldsDeclaration + Drop, R: RowOf<N> + Drop>(
     needed_child::<N, R, _>(alloc, kept, number, field, row, name)
 }
 
-pub fn optional_module_export_name<N: PlainNode + Drop, R: RowOf<N> + Drop>(
+pub fn optional_module_export_name<N: HasType + Drop, R: RowOf<N> + Drop>(
     alloc: Global,
     kept: &mut Vec<Kept<R>>,
     number: usize,

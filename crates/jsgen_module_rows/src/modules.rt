@@ -9,29 +9,30 @@ ghost use Rattle.jsgen_fields.specs.Parts.{is_in_statements, is_in_expressions, 
 ghost use Rattle.jsgen_tree.specs.declared.types.NodeType.TheVariants as types;
 
 use jsgen_fields::InputFault;
-use jsgen_fields::asked::{HoldsDeclaration, HoldsExpression, PlainNode, ReadNode, RowOf};
 use jsgen_fields::fields::boxed;
-use jsgen_fields::kept::{
-    row_of_export_specifier, row_of_hashbang, row_of_import_attribute,
-    row_of_import_default_specifier, row_of_import_namespace_specifier, row_of_import_specifier,
-    row_of_statement, row_of_with_clause,
-};
 use jsgen_fields::list_fields::{
     export_specifier_list, import_attribute_list, optional_import_declaration_specifier_list,
 };
-use jsgen_fields::others::OtherStatement;
 use jsgen_fields::set_fields::{
     needed_binding_identifier, needed_declaration, needed_export_default_declaration_kind,
     needed_import_attribute_key, needed_module_export_name, needed_string_literal,
     optional_module_export_name, optional_with_clause,
 };
+use jsgen_fields::set_rows::row_of_statement;
 use jsgen_fields::values::{field_not_given, needed_text};
 use jsgen_fields::words::{needed_kind_of_import, needed_with_keyword};
+use jsgen_kept::asked::{HoldsDeclaration, HoldsExpression, ReadNode, RowOf};
+use jsgen_kept::kept::{
+    row_of_export_specifier, row_of_hashbang, row_of_import_attribute,
+    row_of_import_default_specifier, row_of_import_namespace_specifier, row_of_import_specifier,
+    row_of_with_clause,
+};
+use jsgen_kept::others::OtherStatement;
 use jsgen_pool::Kept;
 use jsgen_syntax::Span;
 use jsgen_tree::{
     ExportAllDeclaration, ExportDeclaration, ExportDefaultDeclaration, ExportFromDeclaration,
-    ExportNamedDeclaration, ExportSpecifier, Hashbang, ImportAttribute, ImportDeclaration,
+    ExportNamedDeclaration, ExportSpecifier, HasType, Hashbang, ImportAttribute, ImportDeclaration,
     ImportDefaultSpecifier, ImportNamespaceSpecifier, ImportSpecifier, NodeType, Statement,
     WithClause,
 };
@@ -39,7 +40,7 @@ use serde_json::Value;
 use std::alloc::Global;
 
 #[tactic(auto, unfolding(jsgen_fields::specs::Reads::read_node))]
-fn read_hashbang<N: PlainNode + Drop, R: RowOf<N> + Drop>(
+fn read_hashbang<N: HasType + Drop, R: RowOf<N> + Drop>(
     alloc: Global,
     kept: &mut Vec<Kept<R>>,
     number: usize,
@@ -62,7 +63,7 @@ fn read_hashbang<N: PlainNode + Drop, R: RowOf<N> + Drop>(
 }
 
 #[tactic(auto, unfolding(jsgen_fields::specs::Reads::read_node))]
-fn read_import_declaration<N: PlainNode + Drop, R: RowOf<N> + Drop>(
+fn read_import_declaration<N: HasType + Drop, R: RowOf<N> + Drop>(
     alloc: Global,
     kept: &mut Vec<Kept<R>>,
     number: usize,
@@ -125,7 +126,7 @@ fn read_import_declaration<N: PlainNode + Drop, R: RowOf<N> + Drop>(
 }
 
 #[tactic(auto, unfolding(jsgen_fields::specs::Reads::read_node))]
-fn read_import_default_specifier<N: PlainNode + Drop, R: RowOf<N> + Drop>(
+fn read_import_default_specifier<N: HasType + Drop, R: RowOf<N> + Drop>(
     alloc: Global,
     kept: &mut Vec<Kept<R>>,
     number: usize,
@@ -147,7 +148,7 @@ fn read_import_default_specifier<N: PlainNode + Drop, R: RowOf<N> + Drop>(
 }
 
 #[tactic(auto, unfolding(jsgen_fields::specs::Reads::read_node))]
-fn read_import_namespace_specifier<N: PlainNode + Drop, R: RowOf<N> + Drop>(
+fn read_import_namespace_specifier<N: HasType + Drop, R: RowOf<N> + Drop>(
     alloc: Global,
     kept: &mut Vec<Kept<R>>,
     number: usize,
@@ -169,7 +170,7 @@ fn read_import_namespace_specifier<N: PlainNode + Drop, R: RowOf<N> + Drop>(
 }
 
 #[tactic(auto, unfolding(jsgen_fields::specs::Reads::read_node))]
-fn read_import_specifier<N: PlainNode + Drop, R: RowOf<N> + Drop>(
+fn read_import_specifier<N: HasType + Drop, R: RowOf<N> + Drop>(
     alloc: Global,
     kept: &mut Vec<Kept<R>>,
     number: usize,
@@ -206,7 +207,7 @@ fn read_import_specifier<N: PlainNode + Drop, R: RowOf<N> + Drop>(
 }
 
 #[tactic(auto, unfolding(jsgen_fields::specs::Reads::read_node))]
-fn read_with_clause<N: PlainNode + Drop, R: RowOf<N> + Drop>(
+fn read_with_clause<N: HasType + Drop, R: RowOf<N> + Drop>(
     alloc: Global,
     kept: &mut Vec<Kept<R>>,
     number: usize,
@@ -236,7 +237,7 @@ fn read_with_clause<N: PlainNode + Drop, R: RowOf<N> + Drop>(
 }
 
 #[tactic(auto, unfolding(jsgen_fields::specs::Reads::read_node))]
-fn read_import_attribute<N: PlainNode + Drop, R: RowOf<N> + Drop>(
+fn read_import_attribute<N: HasType + Drop, R: RowOf<N> + Drop>(
     alloc: Global,
     kept: &mut Vec<Kept<R>>,
     number: usize,
@@ -289,7 +290,7 @@ fn read_export_declaration<N: HoldsDeclaration + Drop, R: RowOf<N> + Drop>(
 }
 
 #[tactic(auto, unfolding(jsgen_fields::specs::Reads::read_node))]
-fn read_export_named_declaration<N: PlainNode + Drop, R: RowOf<N> + Drop>(
+fn read_export_named_declaration<N: HasType + Drop, R: RowOf<N> + Drop>(
     alloc: Global,
     kept: &mut Vec<Kept<R>>,
     number: usize,
@@ -331,7 +332,7 @@ fn read_export_named_declaration<N: PlainNode + Drop, R: RowOf<N> + Drop>(
 }
 
 #[tactic(auto, unfolding(jsgen_fields::specs::Reads::read_node))]
-fn read_export_from_declaration<N: PlainNode + Drop, R: RowOf<N> + Drop>(
+fn read_export_from_declaration<N: HasType + Drop, R: RowOf<N> + Drop>(
     alloc: Global,
     kept: &mut Vec<Kept<R>>,
     number: usize,
@@ -390,7 +391,7 @@ fn read_export_from_declaration<N: PlainNode + Drop, R: RowOf<N> + Drop>(
 }
 
 #[tactic(auto, unfolding(jsgen_fields::specs::Reads::read_node))]
-fn read_export_specifier<N: PlainNode + Drop, R: RowOf<N> + Drop>(
+fn read_export_specifier<N: HasType + Drop, R: RowOf<N> + Drop>(
     alloc: Global,
     kept: &mut Vec<Kept<R>>,
     number: usize,
@@ -427,7 +428,7 @@ fn read_export_specifier<N: PlainNode + Drop, R: RowOf<N> + Drop>(
 }
 
 #[tactic(auto, unfolding(jsgen_fields::specs::Reads::read_node))]
-fn read_export_all_declaration<N: PlainNode + Drop, R: RowOf<N> + Drop>(
+fn read_export_all_declaration<N: HasType + Drop, R: RowOf<N> + Drop>(
     alloc: Global,
     kept: &mut Vec<Kept<R>>,
     number: usize,

@@ -9,27 +9,26 @@ ghost use Rattle.jsgen_fields.specs.Parts.{is_in_patterns};
 ghost use Rattle.jsgen_tree.specs.declared.types.NodeType.TheVariants as types;
 
 use jsgen_fields::InputFault;
-use jsgen_fields::asked::{HoldsBindingPattern, HoldsExpression, PlainNode, ReadNode, RowOf};
 use jsgen_fields::fields::boxed;
-use jsgen_fields::kept::{
-    row_of_binding_pattern, row_of_binding_property, row_of_binding_rest_element,
-};
 use jsgen_fields::list_fields::{binding_pattern_or_hole_list, binding_property_list};
 use jsgen_fields::set_fields::{
     needed_binding_pattern, needed_expression, needed_property_key, optional_binding_rest_element,
 };
+use jsgen_fields::set_rows::row_of_binding_pattern;
 use jsgen_fields::values::optional_flag;
+use jsgen_kept::asked::{HoldsBindingPattern, HoldsExpression, ReadNode, RowOf};
+use jsgen_kept::kept::{row_of_binding_property, row_of_binding_rest_element};
 use jsgen_pool::Kept;
 use jsgen_syntax::Span;
 use jsgen_tree::{
-    ArrayPattern, AssignmentPattern, BindingPattern, BindingProperty, BindingRestElement, NodeType,
-    ObjectPattern,
+    ArrayPattern, AssignmentPattern, BindingPattern, BindingProperty, BindingRestElement, HasType,
+    NodeType, ObjectPattern,
 };
 use serde_json::Value;
 use std::alloc::Global;
 
 #[tactic(auto, unfolding(jsgen_fields::specs::Reads::read_node))]
-fn read_object_pattern<N: PlainNode + Drop, R: RowOf<N> + Drop>(
+fn read_object_pattern<N: HasType + Drop, R: RowOf<N> + Drop>(
     alloc: Global,
     kept: &mut Vec<Kept<R>>,
     number: usize,

@@ -9,29 +9,29 @@ ghost use Rattle.jsgen_fields.specs.Parts.{is_in_targets};
 ghost use Rattle.jsgen_tree.specs.declared.types.NodeType.TheVariants as types;
 
 use jsgen_fields::InputFault;
-use jsgen_fields::asked::{HoldsAssignmentTarget, HoldsExpression, PlainNode, ReadNode, RowOf};
 use jsgen_fields::fields::boxed;
-use jsgen_fields::kept::{
-    row_of_assignment_target, row_of_assignment_target_property_identifier,
-    row_of_assignment_target_property_property, row_of_assignment_target_rest,
-    row_of_assignment_target_with_default,
-};
 use jsgen_fields::list_fields::{
     assignment_target_maybe_default_or_hole_list, assignment_target_property_list,
 };
-use jsgen_fields::others::OtherAssignmentTarget;
 use jsgen_fields::set_fields::{
     needed_assignment_target, needed_assignment_target_maybe_default, needed_expression,
     needed_identifier_reference, needed_property_key, optional_assignment_target_rest,
     optional_expression,
 };
+use jsgen_fields::set_rows::row_of_assignment_target;
 use jsgen_fields::values::optional_flag;
+use jsgen_kept::asked::{HoldsAssignmentTarget, HoldsExpression, ReadNode, RowOf};
+use jsgen_kept::kept::{
+    row_of_assignment_target_property_identifier, row_of_assignment_target_property_property,
+    row_of_assignment_target_rest, row_of_assignment_target_with_default,
+};
+use jsgen_kept::others::OtherAssignmentTarget;
 use jsgen_pool::Kept;
 use jsgen_syntax::Span;
 use jsgen_tree::{
     ArrayAssignmentTarget, AssignmentTarget, AssignmentTargetPropertyIdentifier,
-    AssignmentTargetPropertyProperty, AssignmentTargetRest, AssignmentTargetWithDefault, NodeType,
-    ObjectAssignmentTarget,
+    AssignmentTargetPropertyProperty, AssignmentTargetRest, AssignmentTargetWithDefault, HasType,
+    NodeType, ObjectAssignmentTarget,
 };
 use serde_json::Value;
 use std::alloc::Global;
@@ -74,7 +74,7 @@ fn read_array_assignment_target<N: HoldsAssignmentTarget + Drop, R: RowOf<N> + D
 }
 
 #[tactic(auto, unfolding(jsgen_fields::specs::Reads::read_node))]
-fn read_object_assignment_target<N: PlainNode + Drop, R: RowOf<N> + Drop>(
+fn read_object_assignment_target<N: HasType + Drop, R: RowOf<N> + Drop>(
     alloc: Global,
     kept: &mut Vec<Kept<R>>,
     number: usize,

@@ -9,7 +9,8 @@ use Rattle.jsgen_fields.specs.declared.InputFault.TheVariants.{Wrong}
 use Rattle.jsgen_fields.specs.Values.{after, at, rows_in}
 use Rattle.jsgen_pool.specs.Pool.{Entry, there}
 use Rattle.jsgen_fields.specs.Reads.{read_row, read_rows, root_of, root_found, read_program}
-use Rattle.jsgen_fields.specs.Meaning.{Mark, fault, use_of, is_used, is_program, found_faults, mark_faults, with_mark, with_marks, faults_in, row_marks, row_tree, root_tree, root_faults, trees_after, faults_after, unless, no_tree, rows_meaning, program_meaning}
+use Rattle.jsgen_fields.specs.Meaning.{Mark, fault, use_of, is_used, found_faults, mark_faults, with_mark, with_marks, faults_in, row_marks, row_tree, root_tree, root_faults, trees_after, faults_after, unless, no_tree, rows_meaning, program_meaning}
+use Rattle.jsgen_kept.specs.Kept.{is_program}
 use Rattle.jsgen_fields.proofs.Listed.{length-last}
 use Rattle.jsgen_rows.proofs.Pool.{pool, seen, pool-length, pool-get, pool-push, other_eq}
 use Rattle.jsgen_rows.proofs.RowSteps.{after-after, row_read}

@@ -5,9 +5,9 @@ use Rattle.jsgen_tree.specs.Tree.{Tree}
 use Rattle.jsgen_fields.specs.Values.{at}
 use Rattle.jsgen_pool.specs.Pool.{Entry}
 use Rattle.jsgen_fields.specs.Reads.{root_of, root_found}
-use Rattle.jsgen_fields.specs.Kept.{entry, entries}
+use Rattle.jsgen_kept.specs.Kept.{entry, entries}
 use Rattle.jsgen_pool.specs.declared.Kept.{Kept}
-use Rattle.jsgen_fields.specs.declared.kept.AnyRow.{AnyRow}
+use Rattle.jsgen_kept.specs.declared.kept.AnyRow.{AnyRow}
 use Rattle.jsgen_fields.proofs.Listed.{slice_get-last, length-last}
 
 at_last : (es : List Entry) (e : Entry) → root_of (es ++ e ∷ []) ≡ root_found (at (length es) 0) (Some e)

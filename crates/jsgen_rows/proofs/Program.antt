@@ -10,9 +10,10 @@ use Rattle.jsgen_fields.specs.declared.At.{At}
 use Rattle.jsgen_fields.specs.declared.InputFault.{InputFault}
 use Rattle.jsgen_fields.specs.declared.InputFault.TheVariants.{Wrong}
 use Rattle.jsgen_fields.specs.Values.{after, options_in, tables_in, rows_in}
-use Rattle.jsgen_fields.specs.Meaning.{is_program, root_tree, root_faults, no_tree, trees_after, faults_after, faults_in, row_marks, row_tree, with_marks, unless, rows_meaning, program_meaning, value_meaning}
+use Rattle.jsgen_fields.specs.Meaning.{root_tree, root_faults, no_tree, trees_after, faults_after, faults_in, row_marks, row_tree, with_marks, unless, rows_meaning, program_meaning, value_meaning}
+use Rattle.jsgen_kept.specs.Kept.{is_program}
 use Rattle.jsgen_rows.specs.Job.{json_of, job_of}
-use Rattle.jsgen_fields.proofs.Sets.{program_type}
+use Rattle.jsgen_kept.proofs.Sets.{program_type}
 
 told : (b : Bool) (a : At) → (if b then [] else Wrong a ∷ []) ≡ [] → b ≡ true
 told true a h = refl

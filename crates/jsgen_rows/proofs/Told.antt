@@ -21,7 +21,8 @@ use Rattle.jsgen_fields.specs.declared.InputFault.{InputFault}
 use Rattle.jsgen_fields.specs.declared.InputFault.TheVariants.{Json, Float, Wrong, Child, Shared, Memory}
 use Rattle.jsgen_fields.specs.Names.{type_named}
 use Rattle.jsgen_fields.specs.Values.{after, or_fault, at, head, field, field_in, not_given, text_in, items_in, digits_in, in_row, is_needed, given_in, whole_number, number_of_bits, unit_in, units_listed, text_or_listed, units_in, value_in, type_given, type_of, offsets, span_given, span_of, choice_given, path_given, legal_named, legal_given, comments_read, char_named, char_given, width_given, level_given, options_given, options_in, texts_in, symbols_given, symbols_in, entry_in, entries_in, references_given, references_in, names_in, class_in, classes_in, private_given, private_in, tables_in, some_rows, rows_listed, rows_given, rows_in}
-use Rattle.jsgen_fields.specs.Meaning.{Mark, fault, use_of, number_marks, child_marks, hole_marks, each, marks_of, sort_marks, given_marks, field_marks, fields_marks, typed_marks, row_marks, row_tree, is_used, is_program, found_faults, mark_faults, with_mark, with_marks, faults_in, root_tree, root_faults, faults_after, unless, rows_meaning, program_meaning, value_meaning}
+use Rattle.jsgen_fields.specs.Meaning.{Mark, fault, use_of, number_marks, child_marks, hole_marks, each, marks_of, sort_marks, given_marks, field_marks, fields_marks, typed_marks, row_marks, row_tree, is_used, found_faults, mark_faults, with_mark, with_marks, faults_in, root_tree, root_faults, faults_after, unless, rows_meaning, program_meaning, value_meaning}
+use Rattle.jsgen_kept.specs.Kept.{is_program}
 use Rattle.jsgen_rows.specs.Job.{json_of, job_of}
 
 -- ---- what is told is not Memory

@@ -14,7 +14,7 @@ use jsgen_expression_rows::functions::read_in_functions;
 use jsgen_expression_rows::operations::read_in_operations;
 use jsgen_expression_rows::templates::read_in_templates;
 use jsgen_fields::InputFault;
-use jsgen_fields::asked::{ReadNode, RowOf};
+use jsgen_kept::asked::{ReadNode, RowOf};
 use jsgen_module_rows::modules::read_in_modules;
 use jsgen_pattern_rows::patterns::read_in_patterns;
 use jsgen_pattern_rows::targets::read_in_targets;

@@ -4,15 +4,15 @@ ghost use Rattle.serde_json.specs.View.{view};
 ghost use Rattle.jsgen_tree.specs.Plain.{node_plain, program_plain};
 ghost use Rattle.jsgen_fields.specs.Values.{Same, at, rows_listed, rows_in};
 ghost use Rattle.jsgen_fields.specs.Reads.{Gives, root_found, read_row, read_rows, root_of};
-ghost use Rattle.jsgen_fields.specs.Kept.{entry, entries, any_row_plain};
+ghost use Rattle.jsgen_kept.specs.Kept.{entry, entries, any_row_plain};
 ghost use Rattle.jsgen_pool.specs.Pool.{entries as entries_of};
 
 use crate::rows::read_typed;
-use jsgen_fields::asked::{ReadNode, RowOf};
 use jsgen_fields::floats::holds_float;
-use jsgen_fields::kept::AnyRow;
 use jsgen_fields::values::{present, span_of, type_of};
 use jsgen_fields::{At, InputFault};
+use jsgen_kept::asked::{ReadNode, RowOf};
+use jsgen_kept::kept::AnyRow;
 use jsgen_pool::Kept;
 use jsgen_tree::Program;
 use serde_json::Value;

@@ -9,22 +9,24 @@ ghost use Rattle.jsgen_fields.specs.Parts.{is_in_choices};
 ghost use Rattle.jsgen_tree.specs.declared.types.NodeType.TheVariants as types;
 
 use jsgen_fields::InputFault;
-use jsgen_fields::asked::{
-    HoldsBindingPattern, HoldsDeclaration, HoldsExpression, HoldsStatement, PlainNode, ReadNode,
-    RowOf,
-};
 use jsgen_fields::fields::boxed;
-use jsgen_fields::kept::{row_of_catch_clause, row_of_statement, row_of_switch_case};
 use jsgen_fields::list_fields::{statement_list, switch_case_list};
-use jsgen_fields::others::OtherStatement;
 use jsgen_fields::set_fields::{
     needed_block_statement, needed_expression, optional_binding_pattern, optional_block_statement,
     optional_catch_clause, optional_expression,
 };
+use jsgen_fields::set_rows::row_of_statement;
 use jsgen_fields::values::field_not_given;
+use jsgen_kept::asked::{
+    HoldsBindingPattern, HoldsDeclaration, HoldsExpression, HoldsStatement, ReadNode, RowOf,
+};
+use jsgen_kept::kept::{row_of_catch_clause, row_of_switch_case};
+use jsgen_kept::others::OtherStatement;
 use jsgen_pool::Kept;
 use jsgen_syntax::Span;
-use jsgen_tree::{CatchClause, NodeType, Statement, SwitchCase, SwitchStatement, TryStatement};
+use jsgen_tree::{
+    CatchClause, HasType, NodeType, Statement, SwitchCase, SwitchStatement, TryStatement,
+};
 use serde_json::Value;
 use std::alloc::Global;
 
@@ -104,7 +106,7 @@ fn read_switch_case<
 }
 
 #[tactic(auto, unfolding(jsgen_fields::specs::Reads::read_node))]
-fn read_try_statement<N: PlainNode + Drop, R: RowOf<N> + Drop>(
+fn read_try_statement<N: HasType + Drop, R: RowOf<N> + Drop>(
     alloc: Global,
     kept: &mut Vec<Kept<R>>,
     number: usize,

@@ -9,24 +9,24 @@ ghost use Rattle.jsgen_fields.specs.Parts.{is_in_loops};
 ghost use Rattle.jsgen_tree.specs.declared.types.NodeType.TheVariants as types;
 
 use jsgen_fields::InputFault;
-use jsgen_fields::asked::{
-    HoldsAssignmentTarget, HoldsDeclaration, HoldsExpression, HoldsStatement, PlainNode, ReadNode,
-    RowOf,
-};
 use jsgen_fields::fields::boxed;
-use jsgen_fields::kept::{row_of_label_identifier, row_of_statement};
-use jsgen_fields::others::OtherStatement;
 use jsgen_fields::set_fields::{
     needed_expression, needed_for_statement_left, needed_label_identifier, needed_statement,
     optional_expression, optional_for_statement_init, optional_label_identifier,
 };
+use jsgen_fields::set_rows::row_of_statement;
 use jsgen_fields::values::{needed_text, optional_flag};
+use jsgen_kept::asked::{
+    HoldsAssignmentTarget, HoldsDeclaration, HoldsExpression, HoldsStatement, ReadNode, RowOf,
+};
+use jsgen_kept::kept::row_of_label_identifier;
+use jsgen_kept::others::OtherStatement;
 use jsgen_pool::Kept;
 use jsgen_syntax::Span;
 use jsgen_tree::{
     BreakStatement, ContinueStatement, DebuggerStatement, DoWhileStatement, ForInStatement,
-    ForOfStatement, ForStatement, LabelIdentifier, LabeledStatement, NodeType, ReturnStatement,
-    Statement, ThrowStatement, WhileStatement,
+    ForOfStatement, ForStatement, HasType, LabelIdentifier, LabeledStatement, NodeType,
+    ReturnStatement, Statement, ThrowStatement, WhileStatement,
 };
 use serde_json::Value;
 use std::alloc::Global;
@@ -239,7 +239,7 @@ fn read_do_while_statement<
 }
 
 #[tactic(auto, unfolding(jsgen_fields::specs::Reads::read_node))]
-fn read_label_identifier<N: PlainNode + Drop, R: RowOf<N> + Drop>(
+fn read_label_identifier<N: HasType + Drop, R: RowOf<N> + Drop>(
     alloc: Global,
     kept: &mut Vec<Kept<R>>,
     number: usize,
@@ -293,7 +293,7 @@ fn read_labeled_statement<N: HoldsDeclaration + HoldsStatement + Drop, R: RowOf<
 }
 
 #[tactic(auto, unfolding(jsgen_fields::specs::Reads::read_node))]
-fn read_continue_statement<N: PlainNode + Drop, R: RowOf<N> + Drop>(
+fn read_continue_statement<N: HasType + Drop, R: RowOf<N> + Drop>(
     alloc: Global,
     kept: &mut Vec<Kept<R>>,
     number: usize,
@@ -320,7 +320,7 @@ fn read_continue_statement<N: PlainNode + Drop, R: RowOf<N> + Drop>(
 }
 
 #[tactic(auto, unfolding(jsgen_fields::specs::Reads::read_node))]
-fn read_break_statement<N: PlainNode + Drop, R: RowOf<N> + Drop>(
+fn read_break_statement<N: HasType + Drop, R: RowOf<N> + Drop>(
     alloc: Global,
     kept: &mut Vec<Kept<R>>,
     number: usize,
@@ -401,7 +401,7 @@ fn read_throw_statement<N: HoldsExpression + Drop, R: RowOf<N> + Drop>(
 }
 
 #[tactic(auto, unfolding(jsgen_fields::specs::Reads::read_node))]
-fn read_debugger_statement<N: PlainNode + Drop, R: RowOf<N> + Drop>(
+fn read_debugger_statement<N: HasType + Drop, R: RowOf<N> + Drop>(
     alloc: Global,
     kept: &mut Vec<Kept<R>>,
     number: usize,

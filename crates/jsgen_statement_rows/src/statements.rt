@@ -9,23 +9,15 @@ ghost use Rattle.jsgen_fields.specs.Parts.{is_in_statements};
 ghost use Rattle.jsgen_tree.specs.declared.types.NodeType.TheVariants as types;
 
 use jsgen_fields::InputFault;
-use jsgen_fields::asked::{
-    HoldsBindingPattern, HoldsDeclaration, HoldsExpression, HoldsStatement, PlainNode, ReadNode,
-    RowOf,
-};
 use jsgen_fields::fields::boxed;
-use jsgen_fields::kept::{
-    row_of_binding_pattern, row_of_comment, row_of_declaration, row_of_directive, row_of_program,
-    row_of_statement, row_of_variable_declarator,
-};
 use jsgen_fields::list_fields::{
     comment_list, directive_list, statement_list, variable_declarator_list,
 };
-use jsgen_fields::others::{OtherDeclaration, OtherStatement};
 use jsgen_fields::set_fields::{
     needed_binding_pattern, needed_expression, needed_statement, optional_expression,
     optional_hashbang, optional_statement,
 };
+use jsgen_fields::set_rows::{row_of_binding_pattern, row_of_declaration, row_of_statement};
 use jsgen_fields::values::{
     field_not_given, needed_number, needed_text, neither_given, optional_flag, optional_number,
     optional_text,
@@ -33,11 +25,18 @@ use jsgen_fields::values::{
 use jsgen_fields::words::{
     needed_content_of_comment, needed_declaration_kind, needed_kind_of_comment, needed_source_kind,
 };
+use jsgen_kept::asked::{
+    HoldsBindingPattern, HoldsDeclaration, HoldsExpression, HoldsStatement, ReadNode, RowOf,
+};
+use jsgen_kept::kept::{
+    row_of_comment, row_of_directive, row_of_program, row_of_variable_declarator,
+};
+use jsgen_kept::others::{OtherDeclaration, OtherStatement};
 use jsgen_pool::Kept;
 use jsgen_syntax::Span;
 use jsgen_tree::{
     BindingIdentifier, BindingPattern, BlockStatement, Comment, Declaration, Directive,
-    EmptyStatement, ExpressionStatement, IfStatement, NodeType, Program, Statement,
+    EmptyStatement, ExpressionStatement, HasType, IfStatement, NodeType, Program, Statement,
     VariableDeclaration, VariableDeclarator,
 };
 use serde_json::Value;
@@ -98,7 +97,7 @@ fn read_program<N: HoldsDeclaration + HoldsStatement + Drop, R: RowOf<N> + Drop>
 }
 
 #[tactic(auto, unfolding(jsgen_fields::specs::Reads::read_node))]
-fn read_comment<N: PlainNode + Drop, R: RowOf<N> + Drop>(
+fn read_comment<N: HasType + Drop, R: RowOf<N> + Drop>(
     alloc: Global,
     kept: &mut Vec<Kept<R>>,
     number: usize,
@@ -149,7 +148,7 @@ fn read_comment<N: PlainNode + Drop, R: RowOf<N> + Drop>(
 }
 
 #[tactic(auto, unfolding(jsgen_fields::specs::Reads::read_node))]
-fn read_directive<N: PlainNode + Drop, R: RowOf<N> + Drop>(
+fn read_directive<N: HasType + Drop, R: RowOf<N> + Drop>(
     alloc: Global,
     kept: &mut Vec<Kept<R>>,
     number: usize,
@@ -172,7 +171,7 @@ fn read_directive<N: PlainNode + Drop, R: RowOf<N> + Drop>(
 }
 
 #[tactic(auto, unfolding(jsgen_fields::specs::Reads::read_node))]
-fn read_variable_declaration<N: PlainNode + Drop, R: RowOf<N> + Drop>(
+fn read_variable_declaration<N: HasType + Drop, R: RowOf<N> + Drop>(
     alloc: Global,
     kept: &mut Vec<Kept<R>>,
     number: usize,
@@ -248,7 +247,7 @@ fn read_variable_declarator<N: HoldsExpression + HoldsBindingPattern + Drop, R: 
 }
 
 #[tactic(auto, unfolding(jsgen_fields::specs::Reads::read_node))]
-fn read_binding_identifier<N: PlainNode + Drop, R: RowOf<N> + Drop>(
+fn read_binding_identifier<N: HasType + Drop, R: RowOf<N> + Drop>(
     alloc: Global,
     kept: &mut Vec<Kept<R>>,
     number: usize,
@@ -372,7 +371,7 @@ fn read_if_statement<
 }
 
 #[tactic(auto, unfolding(jsgen_fields::specs::Reads::read_node))]
-fn read_empty_statement<N: PlainNode + Drop, R: RowOf<N> + Drop>(
+fn read_empty_statement<N: HasType + Drop, R: RowOf<N> + Drop>(
     alloc: Global,
     kept: &mut Vec<Kept<R>>,
     number: usize,

@@ -86,7 +86,7 @@ def answer(goal, said):
 
 def last(table, n, fields):
     s, row = set_of(table, n.name), n.row
-    row = f"({row} g.N.PlainNode.plain)" if table.generic(n.name) else row
+    row = f"({row} g.N.HasType.plain)" if table.generic(n.name) else row
     if not s:
         made = f"c.row_of_{snake(n.name)}"
         return f"passed _ {fields} (gives_node g.R.Typed.plain {made}.result _ {row} _ _ c.in-Ok-boxed.ensures {made}.ensures)"

@@ -1,11 +1,11 @@
-"""The reader's src/child_sets.rt, src/child_nodes.rt, src/child_types.rt, src/members.rt and src/asked.rt: what is made of a row at a place for children of each set; and
-src/set_fields.rt: the readers of fields that hold them."""
+"""jsgen_kept's src/child_sets.rt, src/child_nodes.rt, src/child_types.rt, src/members.rt and src/asked.rt: what is made of a row at a place for children of each set; and
+jsgen_fields' src/set_fields.rt and src/list_fields.rt: the readers of fields that hold them."""
 
 import layout
 from files import rows_kept
 from files.rows_kept import groups, held, holds, inner, kept, large, outer, own, parameter, plain_of_set
 from files.rows_sets import rules_home, rules_of
-from names import READER, SPECS, TYPES, plain_of, row_names
+from names import KEPT, READER, SPECS, TYPES, plain_of, row_names
 from table import snake
 
 CHILD = """ensures {{ IfOk result (λ child. option_map {plain} child
@@ -16,9 +16,9 @@ def write(table):
     of_sets = impls(table, "a member of the set that the place is for, which doesn't nest", [(name, boxed) for name, boxed in places(table) if name in table.sets and not table.sets[name].nests])
     of_nodes = impls(table, "a member of the set that the place is for, which nests", [(name, boxed) for name, boxed in places(table) if name in table.sets and table.sets[name].nests])
     of_types = impls(table, "a node of the type that the place is for", [(name, boxed) for name, boxed in places(table) if name in table.nodes])
-    return {"crates/jsgen_fields/src/child_sets.rt": of_sets, "crates/jsgen_fields/src/child_nodes.rt": of_nodes, "crates/jsgen_fields/src/child_types.rt": of_types, "crates/jsgen_fields/src/members.rt": members(table),
-            "crates/jsgen_fields/src/set_fields.rt": readers(table, False), "crates/jsgen_fields/src/list_fields.rt": readers(table, True), "crates/jsgen_fields/src/kept.rt": rows(table),
-            "crates/jsgen_fields/src/asked.rt": asked(table)}
+    return {"crates/jsgen_kept/src/child_sets.rt": of_sets, "crates/jsgen_kept/src/child_nodes.rt": of_nodes, "crates/jsgen_kept/src/child_types.rt": of_types, "crates/jsgen_kept/src/members.rt": members(table),
+            "crates/jsgen_fields/src/set_fields.rt": readers(table, False), "crates/jsgen_fields/src/list_fields.rt": readers(table, True), "crates/jsgen_kept/src/kept.rt": rows(table),
+            "crates/jsgen_kept/src/asked.rt": asked(table)}
 
 
 def places(table):
@@ -56,12 +56,12 @@ PRELUDE = ["◌≡◌", "IfOk", "Some", "None", "option_map", "if◌then◌else�
 
 def ghosts_of(table):
     return [("Rattle.std.specs.Prelude", PRELUDE), (f"{SPECS}.Tree", ["type_of"]), (f"{SPECS}.Sets", ["in_set"])] \
-        + row_names(table) + [(f"{READER}.specs.Kept", ["row_plain", "any_row_plain"])]
+        + row_names(table) + [(f"{KEPT}.specs.Kept", ["row_plain", "any_row_plain"])]
 
 
 def file_of(table, about, homes, body):
-    tree = list(table.nodes) + list(table.sets) + list(table.words) + [s.name + "Node" for s in table.nesting()] + ["NodeSet"]
-    homes = homes + [("crate::asked", ["Child", "PlainNode"] + [holds(s) for s in table.nesting()]), ("crate::kept", ["Row"]), ("jsgen_tree", tree),
+    tree = list(table.nodes) + list(table.sets) + list(table.words) + [s.name + "Node" for s in table.nesting()] + ["HasType", "NodeSet"]
+    homes = homes + [("crate::asked", ["Child"] + [holds(s) for s in table.nesting()]), ("crate::kept", ["Row"]), ("jsgen_tree", tree),
                      ("crate::others", [kept(table, s) for s in outer(table)]), ("std::alloc", ["AllocError", "Global"])]
     return layout.rust(about, ghosts_of(table), TYPES, homes, body)
 
@@ -106,7 +106,7 @@ def asked_of_node(table, *code):
     """The bounds of a node for which the code makes wrappers, itself or by a function of members.rt."""
     code = "".join(code)
     wrapped = [s for s in table.nesting() if f"N::{snake(s.name)}_node(" in code or f" {snake(s.name)}_of_" in code]
-    return " + ".join([holds(s) for s in wrapped] or ["PlainNode"])
+    return " + ".join([holds(s) for s in wrapped] or ["HasType"])
 
 
 def asked_by(table, fields):
@@ -303,7 +303,7 @@ def readers(table, of_lists):
                (f"{READER}.specs.Reads", ["Gives", "read_children"]), ("Rattle.jsgen_pool.specs.Pool", ["entries"])]
     tree = list(table.nodes) + list(table.sets) + [s.name + "Node" for s in table.nesting()]
     homes = [("crate", ["InputFault"]), ("crate::fields", ["needed_child", "optional_child", "children", "optional_children", "children_or_holes"]),
-             ("crate::asked", ["PlainNode", "RowOf"] + [holds(s) for s in table.nesting()]), ("jsgen_pool", ["Kept"]), ("jsgen_tree", tree)]
+             ("jsgen_kept::asked", ["RowOf"] + [holds(s) for s in table.nesting()]), ("jsgen_pool", ["Kept"]), ("jsgen_tree", ["HasType"] + tree)]
     homes += [("serde_json", ["Value"]), ("std::alloc", ["Global"])]
     about = f"Fields that hold {'lists of' if of_lists else 'single'} children, by set: a row that calls one of these passes no impl of `Child`, which would be " \
             "proved at each call."

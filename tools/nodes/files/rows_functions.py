@@ -75,11 +75,12 @@ def one_file(table, name, text, every):
              ("jsgen_fields::list_fields", [reader_of(f) for n in nodes for f in table.children(n) if f.is_list]),
              ("jsgen_fields::fields", ["boxed"]), ("jsgen_fields::strings", ["needed_units", "optional_units"]), ("jsgen_fields::values", values),
              ("jsgen_fields::words", [f"needed_{w.short}" for w in table.words.values()]),
-             ("jsgen_fields::asked", ["PlainNode", "ReadNode", "RowOf"] + [holds(s) for s in table.nesting()]),
-             ("jsgen_fields::kept", [f"row_of_{snake(s.name)}" for s in sets] + [f"row_of_{snake(n.name)}" for n in nodes]),
-             ("jsgen_fields::others", [kept(table, s) for s in sets if inner(table, s)]),
+             ("jsgen_kept::asked", ["ReadNode", "RowOf"] + [holds(s) for s in table.nesting()]),
+             ("jsgen_fields::set_rows", [f"row_of_{snake(s.name)}" for s in sets]),
+             ("jsgen_kept::kept", [f"row_of_{snake(n.name)}" for n in nodes]),
+             ("jsgen_kept::others", [kept(table, s) for s in sets if inner(table, s)]),
              ("jsgen_fields", ["InputFault"]), ("jsgen_pool", ["Kept"]), ("jsgen_syntax", ["Span"]),
-             ("jsgen_tree", list(dict.fromkeys(["NodeType"] + [n.name for n in nodes] + [s.name for s in sets]))),
+             ("jsgen_tree", list(dict.fromkeys(["HasType", "NodeType"] + [n.name for n in nodes] + [s.name for s in sets]))),
              ("serde_json", ["Value"]), ("std::alloc", ["Global"])]
     homes = [(module, list(dict.fromkeys(names))) for module, names in homes]
     body = "\n\n".join([function(table, n) for n in nodes] + [of_part(table, name, every)])
@@ -209,7 +210,7 @@ def choice(table):
     whole = f"/// The row of a type.\npub fn read_typed{HEAD}{GIVES}{{\n{asked}    read_in_{last}::<N, R>{TYPED}\n}}"
     body = "\n\n".join([test(name, nodes) for name, nodes in tested(table)] + [whole])
     homes = [(f"{table.row_crates[file]}::{name}", [f"read_in_{name}"]) for name, file, _ in parts(table)]
-    homes += [("jsgen_fields::asked", ["ReadNode", "RowOf"]), ("jsgen_fields", ["InputFault"]), ("jsgen_pool", ["Kept"]),
+    homes += [("jsgen_kept::asked", ["ReadNode", "RowOf"]), ("jsgen_fields", ["InputFault"]), ("jsgen_pool", ["Kept"]),
               ("jsgen_syntax", ["Span"]), ("jsgen_tree", ["NodeType"]), ("serde_json", ["Value"]), ("std::alloc", ["Global"])]
     ghosts = ghosts_of([]) + [(f"{READER}.specs.Parts", [f"is_in_{name}" for name, _ in tested(table)])]
     return layout.rust("The rows of a job, by their types.", ghosts, [], homes, body)

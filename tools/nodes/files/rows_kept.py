@@ -1,8 +1,8 @@
-"""The reader's src/kept.rt and specs/Kept.antt: the rows that were read, by the set that they are children of; and src/others.rt and specs/Others.antt: the members of a set whose rows are kept by it, where others are
-kept elsewhere. What the reader asks of a node where trees nest stands in src/asked.rt."""
+"""jsgen_kept's src/kept.rt and specs/Kept.antt: the rows that were read, by the set that they are children of; and src/others.rt and specs/Others.antt: the members of a set whose rows are kept by it, where others are
+kept elsewhere. What the reader asks of a node where trees nest stands in src/asked.rt. jsgen_fields' src/set_rows.rt: the rows of members of sets, which may want memory."""
 
 import layout
-from names import READER, SPECS, TYPES, row_names, sets_in_antt, variants_of_sets
+from names import KEPT, READER, SPECS, TYPES, row_names, sets_in_antt, types_in_antt, variants_of_sets
 from table import snake, spoken
 
 # ---- how each type is kept, for all files of the reader
@@ -67,8 +67,9 @@ def plain_of_set(table, s):
 # ---- src/kept.rt
 
 def write(table):
-    return {"crates/jsgen_fields/specs/Kept.antt": specs(table),
-            "crates/jsgen_fields/src/others.rt": others(table), "crates/jsgen_fields/specs/Others.antt": others_specs(table)}
+    return {"crates/jsgen_kept/specs/Kept.antt": specs(table),
+            "crates/jsgen_fields/src/set_rows.rt": set_rows(table),
+            "crates/jsgen_kept/src/others.rt": others(table), "crates/jsgen_kept/specs/Others.antt": others_specs(table)}
 
 
 def rust(table, ghosts):
@@ -76,9 +77,8 @@ def rust(table, ghosts):
     parts = [rows_enum(table), LET_GO, ANY_ROW, typed(table), AS_CHILD, into_program(), "// ---- rows of nodes"]
     parts += [row_of(table, g) for g in groups(table)]
     plains = [s.plain for s in table.nesting()] + ["program_row"]
-    ghosts = [(m, ns + ["Ok"] if m.endswith("Prelude") else ns + plains if m.endswith("specs.Rows") else ns) for m, ns in ghosts]
-    ghosts += [(f"{READER}.specs.Values", ["Same"]), (f"{READER}.specs.Meaning", ["is_program"])]
-    homes = [("crate::asked", ["Child", "PlainNode", "ReadNode", "RowOf"]), ("jsgen_pool", ["Typed"])] + homes_of(table)
+    ghosts = [(m, ns + plains if m.endswith("specs.Rows") else ns + ["is_program"] if m.endswith("specs.Kept") else ns) for m, ns in ghosts]
+    homes = [("crate::asked", ["Child", "RowOf"]), ("jsgen_pool", ["Typed"])] + homes_of(table)
     about = "The rows that were read, by the set that they are children of."
     return layout.rust(about, ghosts, TYPES, homes, "\n\n".join(parts))
 
@@ -105,7 +105,7 @@ impl<N: Drop> Drop for AnyRow<N> {
 }"""
 
 
-AS_CHILD = """impl<N: ReadNode + Drop> RowOf<N> for AnyRow<N> {
+AS_CHILD = """impl<N: HasType + Drop> RowOf<N> for AnyRow<N> {
     fn into_child<C: Child<N>>(self, alloc: Global) -> Result<Option<C>, AllocError>
         ensures { IfOk result (λ child. option_map C.plain child
             ≡ (if in_set C.of_set (type_of (any_row_plain N.plain self)) then Some (any_row_plain N.plain self) else None)) }
@@ -123,13 +123,13 @@ AS_CHILD = """impl<N: ReadNode + Drop> RowOf<N> for AnyRow<N> {
 
 
 def homes_of(table):
-    tree = list(table.nodes) + list(table.sets) + [s.name + "Node" for s in table.nesting()] + ["Node", "NodeSet", "NodeType"]
-    return [("crate", ["InputFault"]), ("crate::others", [kept(table, s) for s in outer(table)]), ("jsgen_tree", tree),
+    tree = list(table.nodes) + list(table.sets) + [s.name + "Node" for s in table.nesting()] + ["HasType", "Node", "NodeSet", "NodeType"]
+    return [("crate::others", [kept(table, s) for s in outer(table)]), ("jsgen_tree", tree),
             ("std::alloc", ["AllocError", "Global"])]
 
 
 CHILD = """/// What a place for children takes: a set of types, and what is made of a row of one of them.
-pub trait Child<N: PlainNode>: Sized {
+pub trait Child<N: HasType>: Sized {
     ghost use Rattle.jsgen_tree.specs.Tree.{Tree};
     ghost use Rattle.jsgen_tree.specs.declared.types.NodeSet.{NodeSet};
 
@@ -153,12 +153,12 @@ def asked(table, ghosts):
     ghosts = [(m, ns + plains if m.endswith("specs.Rows") else ns) for m, ns in ghosts] + [(f"{SPECS}.Plain", ["node_plain"])]
     about = "What the reader asks of a node where trees nest, of a child, and of a row."
     homes = [("jsgen_pool", ["Typed"]), ("crate::kept", ["Row"])] + homes_of(table)
-    return layout.rust(about, ghosts, TYPES, homes, "\n\n".join([PLAIN_NODE] + [holds_set(table, s) for s in table.nesting()] + [read_node(table), CHILD, ROW]))
+    return layout.rust(about, ghosts, TYPES, homes, "\n\n".join([holds_set(table, s) for s in table.nesting()] + [read_node(table), CHILD, ROW]))
 
 
 ROW = """/// What the reader asks of a row: the child that it is at a place, and to be made of one. Only `AnyRow` implements it; the reader is
 /// generic in it, since a proof of what has to do with `Row` itself looks at all types.
-pub trait RowOf<N: PlainNode>: Typed + Sized {
+pub trait RowOf<N: HasType>: Typed + Sized {
     fn into_child<C: Child<N>>(self, alloc: Global) -> Result<Option<C>, AllocError>
         ensures { IfOk result (λ child. option_map C.plain child
             ≡ (if in_set C.of_set (type_of (Self.plain self)) then Some (Self.plain self) else None)) };
@@ -203,13 +203,6 @@ def wrapped(table, s, body="", using=""):
     return call.replace("BODY", body)
 
 
-def typed_member(table, s, body=""):
-    """The call that tells the type of a member."""
-    name, (member, plain) = snake(s.name), of_set(table, s)
-    call = method(f"fn {name}_type({name}: &{member}) -> NodeType", f"result ≡ type_of ({plain.replace('{}', '[]')} {name}.now)", "BODY" if body else "")
-    return call.replace("BODY", body)
-
-
 def asked_of(call):
     return call.replace("{}", "Self").replace("[]", "Self.plain")
 
@@ -218,24 +211,12 @@ def of_node(call):
     return call.replace("<{}>", "").replace("[]", "node_plain")
 
 
-PLAIN_NODE = """/// A node where trees nest, with what it is as plain data.
-pub trait PlainNode: Sized {
-    ghost use Rattle.jsgen_tree.specs.Tree.{Tree};
-
-    ghost plain: { Self → Tree };
-}
-
-impl PlainNode for Node {
-    ghost plain = { λ n. node_plain n };
-}"""
-
-
 def holds_set(table, s):
     """The trait of a set that nests, and that `Node` has it."""
     name = snake(s.name)
     using = f"    #[tactic(auto, using(jsgen_tree::proofs::Knot::plain_{name}))]\n"
     return f"""/// A node that may be {spoken(s.name)}.
-pub trait {holds(s)}: PlainNode {{
+pub trait {holds(s)}: HasType + Sized {{
 {asked_of(wrapped(table, s))}}}
 
 impl {holds(s)} for Node {{
@@ -243,16 +224,11 @@ impl {holds(s)} for Node {{
 
 
 def read_node(table):
-    typed = [s for s in table.nesting() if table.generic(s.name)]
-    asked = "\n".join(asked_of(typed_member(table, s)) for s in typed)
-    given = "\n".join(of_node(typed_member(table, s, f"{snake(s.name)}.node_type()")) for s in typed)
     every = " + ".join(holds(s) for s in table.nesting())
     return f"""/// What the reader asks of a node where trees nest. Only `Node` implements it.
-pub trait ReadNode: {every} {{
-{asked}}}
+pub trait ReadNode: {every} {{}}
 
-impl ReadNode for Node {{
-{given}}}"""
+impl ReadNode for Node {{}}"""
 
 
 def typed(table):
@@ -260,11 +236,9 @@ def typed(table):
     for g in groups(table):
         if isinstance(g, str):
             arms += f"            Row::{g}(_) => NodeType::{g},\n"
-        elif table.generic(g.name):
-            arms += f"            Row::{g.name}(row) => N::{snake(g.name)}_type(&{held(table, g, '(**row)' if inner(table, g) else '**row')}),\n"
         else:
-            arms += f"            Row::{g.name}(row) => (**row).node_type(),\n"
-    return f"""impl<N: ReadNode> Typed for AnyRow<N> {{
+            arms += f"            Row::{g.name}(row) => {held(table, g, '(**row)')}.node_type(),\n"
+    return f"""impl<N: HasType> Typed for AnyRow<N> {{
     ghost plain = {{ λ row. any_row_plain N.plain row }};
 
     fn node_type(&self) -> NodeType {{
@@ -275,7 +249,7 @@ def typed(table):
 
 
 def into_program():
-    return """impl<N: PlainNode + Drop> AnyRow<N> {
+    return """impl<N: HasType + Drop> AnyRow<N> {
     #[tactic(auto, using(crate::proofs::Sets::takes_programs))]
     pub fn into_program(self) -> Option<Program<N>>
         ensures { option_map (program_row N.plain) result
@@ -298,18 +272,39 @@ def row_of(table, g):
     if isinstance(g, str):
         name, of = snake(g), f"Box<{g}{parameter(table, g)}>"
         row = f"{table.nodes[g].row}{' N.plain' if table.generic(g) else ''} {name}.value"
-        return f"""pub fn row_of_{name}<N: PlainNode + Drop, R: RowOf<N>>({name}: {of}) -> R
+        return f"""pub fn row_of_{name}<N: HasType + Drop, R: RowOf<N>>({name}: {of}) -> R
     ensures {{ R.plain result ≡ {row} }}
 {{
     R::of_row(Row::{g}({name}))
 }}"""
     name, of = snake(g.name), kept(table, g) + parameter(table, g.name)
     given = "other" if inner(table, g) else name
-    return f"""pub fn row_of_{name}<N: PlainNode + Drop, R: RowOf<N>>(alloc: Global, {given}: {of}) -> Result<R, InputFault>
-    ensures {{ Same R.plain result (Ok ({plain_of_set(table, g)} {held(table, g, given)})) }}
+    return f"""pub fn row_of_{name}<N: HasType + Drop, R: RowOf<N>>(alloc: Global, {given}: {of}) -> Result<R, AllocError>
+    ensures {{ IfOk result (λ row. R.plain row ≡ {plain_of_set(table, g)} {held(table, g, given)}) }}
 {{
     let {given} = Box::new(alloc, {given})?;
     Ok(R::of_row(Row::{g.name}({given})))
+}}"""
+
+
+# ---- jsgen_fields' src/set_rows.rt
+
+def set_rows(table):
+    """What makes a row of a member of a set, and answers want of memory as the reader does."""
+    ghosts = [("Rattle.std.specs.Prelude", ["Ok"])] + row_names(table) + [(f"{READER}.specs.Values", ["Same"])]
+    homes = [("crate", ["InputFault"]), ("jsgen_kept", ["kept"]), ("jsgen_kept::asked", ["RowOf"]), ("jsgen_kept::others", [kept(table, s) for s in outer(table)]),
+             ("jsgen_tree", ["HasType"] + list(table.sets)), ("std::alloc", ["Global"])]
+    about = "The rows of members of sets, each in a box; want of memory for one is a fault of the reader."
+    return layout.rust(about, ghosts, [], homes, "\n\n".join(set_row(table, s) for s in large(table)))
+
+
+def set_row(table, s):
+    name, of = snake(s.name), kept(table, s) + parameter(table, s.name)
+    given = "other" if inner(table, s) else name
+    return f"""pub fn row_of_{name}<N: HasType + Drop, R: RowOf<N>>(alloc: Global, {given}: {of}) -> Result<R, InputFault>
+    ensures {{ Same R.plain result (Ok ({plain_of_set(table, s)} {held(table, s, given)})) }}
+{{
+    Ok(kept::row_of_{name}::<N, R>(alloc, {given})?)
 }}"""
 
 
@@ -318,7 +313,7 @@ def row_of(table, g):
 def others(table):
     body = "\n\n".join(other(table, s) for s in outer(table))
     ghosts = [("Rattle.std.specs.Prelude", ["◌≡◌", "true"]),
-              (f"{READER}.specs.Others", ["is_" + snake(kept(table, s)) for s in outer(table)])]
+              (f"{KEPT}.specs.Others", ["is_" + snake(kept(table, s)) for s in outer(table)])]
     homes = [("jsgen_tree", ["Node"] + list(table.sets))]
     return layout.rust("The members of a set whose rows are kept by it.", ghosts, [], homes, body)
 
@@ -353,11 +348,12 @@ abbrev pub entry : {N : Type 0} → (N → Tree) → Kept (AnyRow N) → Entry
 entry plain k = pool.entry (any_row_plain plain) k
 
 abbrev pub entries : {N : Type 0} → (N → Tree) → List (Kept (AnyRow N)) → List Entry
-entries plain ks = pool.entries (any_row_plain plain) ks"""]
-    homes = [("Rattle.std.specs.Prelude", ["List"]), (f"{SPECS}.Tree", ["Tree"])] + row_names(table)
+entries plain ks = pool.entries (any_row_plain plain) ks""",
+             "abbrev pub is_program : NodeType → Bool\nis_program types.Program = true\nis_program other = false"]
+    homes = [("Rattle.std.specs.Prelude", ["List", "Bool", "true", "false"]), (f"{SPECS}.Tree", ["Tree"])] + types_in_antt(table) + row_names(table)
     homes += [("Rattle.jsgen_pool.specs.Pool", ["Entry"]), ("Rattle.jsgen_pool.specs.declared.Kept", ["Kept"])]
-    homes += [(f"{READER}.specs.declared.kept.Row", ["Row"]), (f"{READER}.specs.declared.kept.AnyRow", ["AnyRow"])]
-    aliases = [("Rattle.jsgen_pool.specs.Pool", "pool"), (f"{READER}.specs.declared.kept.Row.TheVariants", "rows")]
+    homes += [(f"{KEPT}.specs.declared.kept.Row", ["Row"]), (f"{KEPT}.specs.declared.kept.AnyRow", ["AnyRow"])]
+    aliases = TYPES + [("Rattle.jsgen_pool.specs.Pool", "pool"), (f"{KEPT}.specs.declared.kept.Row.TheVariants", "rows")]
     return layout.antt("The plain data of what the reader keeps.", homes, aliases, "\n\n".join(parts))
 
 

@@ -1,9 +1,9 @@
-"""The reader's proofs/Sets.antt and proofs/OneType.antt: which of the sets that children are of hold the rows that are kept by their set."""
+"""jsgen_kept's proofs/Sets.antt and proofs/OneType.antt: which of the sets that children are of hold the rows that are kept by their set."""
 
 import layout
 from files.rows_kept import held, inner, kept, large, outer, own
 from files.specs_table import tested
-from names import DECLARED, READER, SPECS, TREE, TYPES, row_names, sets_in_antt, types_in_antt
+from names import DECLARED, KEPT, SPECS, TREE, TYPES, row_names, sets_in_antt, types_in_antt
 from table import snake
 
 
@@ -20,15 +20,15 @@ def write(table):
     others += ["-- ---- which rows a place takes"] + [rules(table, test) for test in of_types]
     homes = [("Rattle.std.proofs.Common", ["◌≡◌", "Bool", "true", "false", "refl"])] + TREE + types_in_antt(table)
     homes += [(f"{SPECS}.Sets", [t for t in tests(table) if t != "is_program"])] + row_names(table)
-    homes += [(f"{READER}.specs.Meaning", ["is_program"])] + sets_in_antt(table)
-    homes += [(f"{READER}.specs.Others", ["is_" + snake(kept(table, s)) for s in outer(table)])]
-    homes += [(f"{READER}.specs.declared.others.{kept(table, s)}", [kept(table, s)]) for s in outer(table)]
+    homes += [(f"{KEPT}.specs.Kept", ["is_program"])] + sets_in_antt(table)
+    homes += [(f"{KEPT}.specs.Others", ["is_" + snake(kept(table, s)) for s in outer(table)])]
+    homes += [(f"{KEPT}.specs.declared.others.{kept(table, s)}", [kept(table, s)]) for s in outer(table)]
     aliases = TYPES + [(f"{DECLARED}.sets.{s.name}.TheVariants", snake(s.name) + "s") for s in large(table)]
     about = "Which of the sets that children are of hold the rows that are kept by their set."
-    each = [(f"{READER}.proofs.Sets", ["of_" + snake(s.name) for s in large(table)])]
+    each = [(f"{KEPT}.proofs.Sets", ["of_" + snake(s.name) for s in large(table)])]
     about_types = "Which of the single types that children are of the rows are that are kept by their set."
-    return {"crates/jsgen_fields/proofs/Sets.antt": layout.antt(about, homes, aliases, "\n\n".join(parts)),
-            "crates/jsgen_fields/proofs/OneType.antt": layout.antt(about_types, homes + each, aliases, "\n\n".join(others))}
+    return {"crates/jsgen_kept/proofs/Sets.antt": layout.antt(about, homes, aliases, "\n\n".join(parts)),
+            "crates/jsgen_kept/proofs/OneType.antt": layout.antt(about_types, homes + each, aliases, "\n\n".join(others))}
 
 
 def tests(table):

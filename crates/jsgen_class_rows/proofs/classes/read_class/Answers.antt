@@ -44,7 +44,7 @@ returns-in-Err-needed_class_body g c = λ told. refused _ (passed _ (passed _ c.
 
 pub returns-in-Ok-boxed : goal.returns-in-Ok-boxed
 unfolding read_node
-returns-in-Ok-boxed g c = passed _ (passed _ (passed _ c.in-Ok.ensures refl) (passed _ (passed _ (passed _ c.in-Ok-field_not_given.ensures refl) (passed _ (passed _ c.in-Ok-optional_binding_identifier.ensures (passed _ (passed _ (passed _ (first_of_two (not_given (at c.args.number 5) (field (codes "declare") (view c.args.row.now))) (not_given (at c.args.number 6) (field (codes "is_abstract") (view c.args.row.now))) c.in-Ok-neither_given.ensures) refl) (passed _ (passed _ (passed _ (second_of_two (not_given (at c.args.number 5) (field (codes "declare") (view c.args.row.now))) (not_given (at c.args.number 6) (field (codes "is_abstract") (view c.args.row.now))) c.in-Ok-neither_given.ensures) refl) (passed _ (passed _ (passed _ c.in-Ok-field_not_given-2.ensures refl) (passed _ (passed _ c.in-Ok-optional_expression.ensures (passed _ (passed _ (passed _ (first_of_two (not_given (at c.args.number 9) (field (codes "heritage_arguments") (view c.args.row.now))) (not_given (at c.args.number 10) (field (codes "implements") (view c.args.row.now))) c.in-Ok-neither_given-2.ensures) refl) (passed _ (passed _ (passed _ (second_of_two (not_given (at c.args.number 9) (field (codes "heritage_arguments") (view c.args.row.now))) (not_given (at c.args.number 10) (field (codes "implements") (view c.args.row.now))) c.in-Ok-neither_given-2.ensures) refl) (passed _ (passed _ c.in-Ok-needed_class_body.ensures refl) refl)) refl)) refl)) refl)) refl)) refl)) refl)) refl)) refl)) (gives_node g.R.Typed.plain c.row_of_class.result _ (class_row g.N.PlainNode.plain) _ _ c.in-Ok-boxed.ensures c.row_of_class.ensures)
+returns-in-Ok-boxed g c = passed _ (passed _ (passed _ c.in-Ok.ensures refl) (passed _ (passed _ (passed _ c.in-Ok-field_not_given.ensures refl) (passed _ (passed _ c.in-Ok-optional_binding_identifier.ensures (passed _ (passed _ (passed _ (first_of_two (not_given (at c.args.number 5) (field (codes "declare") (view c.args.row.now))) (not_given (at c.args.number 6) (field (codes "is_abstract") (view c.args.row.now))) c.in-Ok-neither_given.ensures) refl) (passed _ (passed _ (passed _ (second_of_two (not_given (at c.args.number 5) (field (codes "declare") (view c.args.row.now))) (not_given (at c.args.number 6) (field (codes "is_abstract") (view c.args.row.now))) c.in-Ok-neither_given.ensures) refl) (passed _ (passed _ (passed _ c.in-Ok-field_not_given-2.ensures refl) (passed _ (passed _ c.in-Ok-optional_expression.ensures (passed _ (passed _ (passed _ (first_of_two (not_given (at c.args.number 9) (field (codes "heritage_arguments") (view c.args.row.now))) (not_given (at c.args.number 10) (field (codes "implements") (view c.args.row.now))) c.in-Ok-neither_given-2.ensures) refl) (passed _ (passed _ (passed _ (second_of_two (not_given (at c.args.number 9) (field (codes "heritage_arguments") (view c.args.row.now))) (not_given (at c.args.number 10) (field (codes "implements") (view c.args.row.now))) c.in-Ok-neither_given-2.ensures) refl) (passed _ (passed _ c.in-Ok-needed_class_body.ensures refl) refl)) refl)) refl)) refl)) refl)) refl)) refl)) refl)) refl)) (gives_node g.R.Typed.plain c.row_of_class.result _ (class_row g.N.HasType.plain) _ _ c.in-Ok-boxed.ensures c.row_of_class.ensures)
 
 pub returns-in-Err-boxed : goal.returns-in-Err-boxed
 returns-in-Err-boxed g c = λ told. let h = c.in-Err-boxed.ensures told in cc h

@@ -48,7 +48,7 @@ returns-in-Err-field_not_given-2 g c = λ told. refused _ (passed _ (passed _ c.
 
 pub returns-in-Ok-boxed : goal.returns-in-Ok-boxed
 unfolding read_node
-returns-in-Ok-boxed g c = gives_by _ _ _ (passed _ (passed _ (passed _ c.in-Ok.ensures refl) (passed _ (passed _ (passed _ c.in-Ok-needed_kind_of_method.ensures refl) (passed _ (passed _ c.in-Ok-needed_property_key.ensures (passed _ (passed _ c.in-Ok-needed_function.ensures (passed _ (passed _ (passed _ c.in-Ok-field_not_given.ensures refl) (passed _ (passed _ (passed _ c.in-Ok-optional_flag.ensures refl) (passed _ (passed _ (passed _ c.in-Ok-optional_flag-2.ensures refl) (passed _ (passed _ (passed _ (first_of_two (not_given (at c.args.number 9) (field (codes "is_override") (view c.args.row.now))) (not_given (at c.args.number 10) (field (codes "is_abstract") (view c.args.row.now))) c.in-Ok-neither_given.ensures) refl) (passed _ (passed _ (passed _ (second_of_two (not_given (at c.args.number 9) (field (codes "is_override") (view c.args.row.now))) (not_given (at c.args.number 10) (field (codes "is_abstract") (view c.args.row.now))) c.in-Ok-neither_given.ensures) refl) (passed _ (passed _ (passed _ c.in-Ok-field_not_given-2.ensures refl) refl) refl)) refl)) refl)) refl)) refl)) refl)) refl)) refl)) refl)) refl) (gives_row _ _ _ (method_definition_row g.N.PlainNode.plain) _ _ c.in-Ok-boxed.ensures c.row_of_class_element.ensures)
+returns-in-Ok-boxed g c = gives_by _ _ _ (passed _ (passed _ (passed _ c.in-Ok.ensures refl) (passed _ (passed _ (passed _ c.in-Ok-needed_kind_of_method.ensures refl) (passed _ (passed _ c.in-Ok-needed_property_key.ensures (passed _ (passed _ c.in-Ok-needed_function.ensures (passed _ (passed _ (passed _ c.in-Ok-field_not_given.ensures refl) (passed _ (passed _ (passed _ c.in-Ok-optional_flag.ensures refl) (passed _ (passed _ (passed _ c.in-Ok-optional_flag-2.ensures refl) (passed _ (passed _ (passed _ (first_of_two (not_given (at c.args.number 9) (field (codes "is_override") (view c.args.row.now))) (not_given (at c.args.number 10) (field (codes "is_abstract") (view c.args.row.now))) c.in-Ok-neither_given.ensures) refl) (passed _ (passed _ (passed _ (second_of_two (not_given (at c.args.number 9) (field (codes "is_override") (view c.args.row.now))) (not_given (at c.args.number 10) (field (codes "is_abstract") (view c.args.row.now))) c.in-Ok-neither_given.ensures) refl) (passed _ (passed _ (passed _ c.in-Ok-field_not_given-2.ensures refl) refl) refl)) refl)) refl)) refl)) refl)) refl)) refl)) refl)) refl)) refl) (gives_row _ _ _ (method_definition_row g.N.HasType.plain) _ _ c.in-Ok-boxed.ensures c.row_of_class_element.ensures)
 
 pub returns-in-Err-boxed : goal.returns-in-Err-boxed
 returns-in-Err-boxed g c = λ told. let h = c.in-Err-boxed.ensures told in cc h

@@ -21,7 +21,7 @@ returns-in-Err-needed_private_identifier g c = λ told. refused _ (passed _ c.in
 
 pub returns-in-Ok-boxed : goal.returns-in-Ok-boxed
 unfolding read_node
-returns-in-Ok-boxed g c = passed _ (passed _ c.in-Ok.ensures (passed _ (passed _ (passed _ c.in-Ok-optional_flag.ensures refl) (passed _ (passed _ c.in-Ok-needed_private_identifier.ensures refl) refl)) refl)) (gives_node g.R.Typed.plain c.row_of_private_field_expression.result _ (private_field_expression_row g.N.PlainNode.plain) _ _ c.in-Ok-boxed.ensures c.row_of_private_field_expression.ensures)
+returns-in-Ok-boxed g c = passed _ (passed _ c.in-Ok.ensures (passed _ (passed _ (passed _ c.in-Ok-optional_flag.ensures refl) (passed _ (passed _ c.in-Ok-needed_private_identifier.ensures refl) refl)) refl)) (gives_node g.R.Typed.plain c.row_of_private_field_expression.result _ (private_field_expression_row g.N.HasType.plain) _ _ c.in-Ok-boxed.ensures c.row_of_private_field_expression.ensures)
 
 pub returns-in-Err-boxed : goal.returns-in-Err-boxed
 returns-in-Err-boxed g c = λ told. let h = c.in-Err-boxed.ensures told in cc h

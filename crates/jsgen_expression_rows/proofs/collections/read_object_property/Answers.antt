@@ -33,7 +33,7 @@ returns-in-Err-optional_flag-3 g c = λ told. refused _ (passed _ (passed _ c.in
 
 pub returns-in-Ok-boxed : goal.returns-in-Ok-boxed
 unfolding read_node
-returns-in-Ok-boxed g c = passed _ (passed _ (passed _ c.in-Ok.ensures refl) (passed _ (passed _ c.in-Ok-needed_property_key.ensures (passed _ (passed _ c.in-Ok-needed_expression.ensures (passed _ (passed _ (passed _ c.in-Ok-optional_flag.ensures refl) (passed _ (passed _ (passed _ c.in-Ok-optional_flag-2.ensures refl) (passed _ (passed _ (passed _ c.in-Ok-optional_flag-3.ensures refl) refl) refl)) refl)) refl)) refl)) refl)) (gives_node g.R.Typed.plain c.row_of_object_property.result _ (object_property_row g.N.PlainNode.plain) _ _ c.in-Ok-boxed.ensures c.row_of_object_property.ensures)
+returns-in-Ok-boxed g c = passed _ (passed _ (passed _ c.in-Ok.ensures refl) (passed _ (passed _ c.in-Ok-needed_property_key.ensures (passed _ (passed _ c.in-Ok-needed_expression.ensures (passed _ (passed _ (passed _ c.in-Ok-optional_flag.ensures refl) (passed _ (passed _ (passed _ c.in-Ok-optional_flag-2.ensures refl) (passed _ (passed _ (passed _ c.in-Ok-optional_flag-3.ensures refl) refl) refl)) refl)) refl)) refl)) refl)) (gives_node g.R.Typed.plain c.row_of_object_property.result _ (object_property_row g.N.HasType.plain) _ _ c.in-Ok-boxed.ensures c.row_of_object_property.ensures)
 
 pub returns-in-Err-boxed : goal.returns-in-Err-boxed
 returns-in-Err-boxed g c = λ told. let h = c.in-Err-boxed.ensures told in cc h

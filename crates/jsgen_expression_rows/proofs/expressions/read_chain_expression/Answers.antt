@@ -13,7 +13,7 @@ returns-in-Err g c = λ told. refused _ (refused _ (c.in-Err.ensures told))
 
 pub returns-in-Ok-boxed : goal.returns-in-Ok-boxed
 unfolding read_node
-returns-in-Ok-boxed g c = gives_by _ _ _ (passed _ (passed _ c.in-Ok.ensures refl) refl) (gives_row _ _ _ (chain_expression_row g.N.PlainNode.plain) _ _ c.in-Ok-boxed.ensures c.row_of_expression.ensures)
+returns-in-Ok-boxed g c = gives_by _ _ _ (passed _ (passed _ c.in-Ok.ensures refl) refl) (gives_row _ _ _ (chain_expression_row g.N.HasType.plain) _ _ c.in-Ok-boxed.ensures c.row_of_expression.ensures)
 
 pub returns-in-Err-boxed : goal.returns-in-Err-boxed
 returns-in-Err-boxed g c = λ told. let h = c.in-Err-boxed.ensures told in cc h

@@ -21,7 +21,7 @@ returns-in-Err-needed_identifier_name g c = λ told. refused _ (passed _ c.in-Ok
 
 pub returns-in-Ok-boxed : goal.returns-in-Ok-boxed
 unfolding read_node
-returns-in-Ok-boxed g c = passed _ (passed _ c.in-Ok.ensures (passed _ (passed _ (passed _ c.in-Ok-optional_flag.ensures refl) (passed _ (passed _ c.in-Ok-needed_identifier_name.ensures refl) refl)) refl)) (gives_node g.R.Typed.plain c.row_of_static_member_expression.result _ (static_member_expression_row g.N.PlainNode.plain) _ _ c.in-Ok-boxed.ensures c.row_of_static_member_expression.ensures)
+returns-in-Ok-boxed g c = passed _ (passed _ c.in-Ok.ensures (passed _ (passed _ (passed _ c.in-Ok-optional_flag.ensures refl) (passed _ (passed _ c.in-Ok-needed_identifier_name.ensures refl) refl)) refl)) (gives_node g.R.Typed.plain c.row_of_static_member_expression.result _ (static_member_expression_row g.N.HasType.plain) _ _ c.in-Ok-boxed.ensures c.row_of_static_member_expression.ensures)
 
 pub returns-in-Err-boxed : goal.returns-in-Err-boxed
 returns-in-Err-boxed g c = λ told. let h = c.in-Err-boxed.ensures told in cc h

@@ -21,7 +21,7 @@ returns-in-Err-field_not_given g c = λ told. refused _ (passed _ (passed _ c.in
 
 pub returns-in-Ok-boxed : goal.returns-in-Ok-boxed
 unfolding read_node
-returns-in-Ok-boxed g c = passed _ (passed _ (passed _ c.in-Ok.ensures refl) (passed _ (passed _ c.in-Ok-needed_binding_pattern.ensures (passed _ (passed _ (passed _ c.in-Ok-field_not_given.ensures refl) refl) refl)) refl)) (gives_node g.R.Typed.plain c.row_of_formal_parameter_rest.result _ (formal_parameter_rest_row g.N.PlainNode.plain) _ _ c.in-Ok-boxed.ensures c.row_of_formal_parameter_rest.ensures)
+returns-in-Ok-boxed g c = passed _ (passed _ (passed _ c.in-Ok.ensures refl) (passed _ (passed _ c.in-Ok-needed_binding_pattern.ensures (passed _ (passed _ (passed _ c.in-Ok-field_not_given.ensures refl) refl) refl)) refl)) (gives_node g.R.Typed.plain c.row_of_formal_parameter_rest.result _ (formal_parameter_rest_row g.N.HasType.plain) _ _ c.in-Ok-boxed.ensures c.row_of_formal_parameter_rest.ensures)
 
 pub returns-in-Err-boxed : goal.returns-in-Err-boxed
 returns-in-Err-boxed g c = λ told. let h = c.in-Err-boxed.ensures told in cc h

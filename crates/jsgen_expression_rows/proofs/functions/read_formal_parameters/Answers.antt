@@ -17,7 +17,7 @@ returns-in-Err-optional_formal_parameter_rest g c = λ told. refused _ (passed _
 
 pub returns-in-Ok-boxed : goal.returns-in-Ok-boxed
 unfolding read_node
-returns-in-Ok-boxed g c = passed _ (passed _ c.in-Ok.ensures (passed _ (passed _ c.in-Ok-optional_formal_parameter_rest.ensures refl) refl)) (gives_node g.R.Typed.plain c.row_of_formal_parameters.result _ (formal_parameters_row g.N.PlainNode.plain) _ _ c.in-Ok-boxed.ensures c.row_of_formal_parameters.ensures)
+returns-in-Ok-boxed g c = passed _ (passed _ c.in-Ok.ensures (passed _ (passed _ c.in-Ok-optional_formal_parameter_rest.ensures refl) refl)) (gives_node g.R.Typed.plain c.row_of_formal_parameters.result _ (formal_parameters_row g.N.HasType.plain) _ _ c.in-Ok-boxed.ensures c.row_of_formal_parameters.ensures)
 
 pub returns-in-Err-boxed : goal.returns-in-Err-boxed
 returns-in-Err-boxed g c = λ told. let h = c.in-Err-boxed.ensures told in cc h

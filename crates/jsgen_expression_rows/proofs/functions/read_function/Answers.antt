@@ -56,7 +56,7 @@ returns-in-Err-optional_function_body g c = λ told. refused _ (passed _ (passed
 
 pub returns-in-Ok-boxed : goal.returns-in-Ok-boxed
 unfolding read_node
-returns-in-Ok-boxed g c = passed _ (passed _ (passed _ c.in-Ok.ensures refl) (passed _ (passed _ c.in-Ok-optional_binding_identifier.ensures (passed _ (passed _ (passed _ c.in-Ok-optional_flag.ensures refl) (passed _ (passed _ (passed _ c.in-Ok-optional_flag-2.ensures refl) (passed _ (passed _ (passed _ c.in-Ok-field_not_given.ensures refl) (passed _ (passed _ (passed _ c.in-Ok-optional_flag-3.ensures refl) (passed _ (passed _ (passed _ c.in-Ok-optional_flag-4.ensures refl) (passed _ (passed _ (passed _ (first_of_two (not_given (at c.args.number 9) (field (codes "type_parameters") (view c.args.row.now))) (not_given (at c.args.number 10) (field (codes "this_param") (view c.args.row.now))) c.in-Ok-neither_given.ensures) refl) (passed _ (passed _ (passed _ (second_of_two (not_given (at c.args.number 9) (field (codes "type_parameters") (view c.args.row.now))) (not_given (at c.args.number 10) (field (codes "this_param") (view c.args.row.now))) c.in-Ok-neither_given.ensures) refl) (passed _ (passed _ c.in-Ok-needed_formal_parameters.ensures (passed _ (passed _ (passed _ c.in-Ok-field_not_given-2.ensures refl) (passed _ (passed _ c.in-Ok-optional_function_body.ensures refl) refl)) refl)) refl)) refl)) refl)) refl)) refl)) refl)) refl)) refl)) refl)) (gives_node g.R.Typed.plain c.row_of_function.result _ (function_row g.N.PlainNode.plain) _ _ c.in-Ok-boxed.ensures c.row_of_function.ensures)
+returns-in-Ok-boxed g c = passed _ (passed _ (passed _ c.in-Ok.ensures refl) (passed _ (passed _ c.in-Ok-optional_binding_identifier.ensures (passed _ (passed _ (passed _ c.in-Ok-optional_flag.ensures refl) (passed _ (passed _ (passed _ c.in-Ok-optional_flag-2.ensures refl) (passed _ (passed _ (passed _ c.in-Ok-field_not_given.ensures refl) (passed _ (passed _ (passed _ c.in-Ok-optional_flag-3.ensures refl) (passed _ (passed _ (passed _ c.in-Ok-optional_flag-4.ensures refl) (passed _ (passed _ (passed _ (first_of_two (not_given (at c.args.number 9) (field (codes "type_parameters") (view c.args.row.now))) (not_given (at c.args.number 10) (field (codes "this_param") (view c.args.row.now))) c.in-Ok-neither_given.ensures) refl) (passed _ (passed _ (passed _ (second_of_two (not_given (at c.args.number 9) (field (codes "type_parameters") (view c.args.row.now))) (not_given (at c.args.number 10) (field (codes "this_param") (view c.args.row.now))) c.in-Ok-neither_given.ensures) refl) (passed _ (passed _ c.in-Ok-needed_formal_parameters.ensures (passed _ (passed _ (passed _ c.in-Ok-field_not_given-2.ensures refl) (passed _ (passed _ c.in-Ok-optional_function_body.ensures refl) refl)) refl)) refl)) refl)) refl)) refl)) refl)) refl)) refl)) refl)) refl)) (gives_node g.R.Typed.plain c.row_of_function.result _ (function_row g.N.HasType.plain) _ _ c.in-Ok-boxed.ensures c.row_of_function.ensures)
 
 pub returns-in-Err-boxed : goal.returns-in-Err-boxed
 returns-in-Err-boxed g c = λ told. let h = c.in-Err-boxed.ensures told in cc h

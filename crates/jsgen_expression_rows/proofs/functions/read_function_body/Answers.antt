@@ -17,7 +17,7 @@ returns-in-Err-statement_list g c = λ told. refused _ (passed _ c.in-Ok.ensures
 
 pub returns-in-Ok-boxed : goal.returns-in-Ok-boxed
 unfolding read_node
-returns-in-Ok-boxed g c = passed _ (passed _ c.in-Ok.ensures (passed _ (passed _ c.in-Ok-statement_list.ensures refl) refl)) (gives_node g.R.Typed.plain c.row_of_function_body.result _ (function_body_row g.N.PlainNode.plain) _ _ c.in-Ok-boxed.ensures c.row_of_function_body.ensures)
+returns-in-Ok-boxed g c = passed _ (passed _ c.in-Ok.ensures (passed _ (passed _ c.in-Ok-statement_list.ensures refl) refl)) (gives_node g.R.Typed.plain c.row_of_function_body.result _ (function_body_row g.N.HasType.plain) _ _ c.in-Ok-boxed.ensures c.row_of_function_body.ensures)
 
 pub returns-in-Err-boxed : goal.returns-in-Err-boxed
 returns-in-Err-boxed g c = λ told. let h = c.in-Err-boxed.ensures told in cc h

@@ -17,7 +17,7 @@ returns-in-Err-optional_expression g c = λ told. refused _ (passed _ c.in-Ok.en
 
 pub returns-in-Ok-boxed : goal.returns-in-Ok-boxed
 unfolding read_node
-returns-in-Ok-boxed g c = passed _ (passed _ c.in-Ok.ensures (passed _ (passed _ c.in-Ok-optional_expression.ensures refl) refl)) (gives_node g.R.Typed.plain c.row_of_assignment_target_property_identifier.result _ (assignment_target_property_identifier_row g.N.PlainNode.plain) _ _ c.in-Ok-boxed.ensures c.row_of_assignment_target_property_identifier.ensures)
+returns-in-Ok-boxed g c = passed _ (passed _ c.in-Ok.ensures (passed _ (passed _ c.in-Ok-optional_expression.ensures refl) refl)) (gives_node g.R.Typed.plain c.row_of_assignment_target_property_identifier.result _ (assignment_target_property_identifier_row g.N.HasType.plain) _ _ c.in-Ok-boxed.ensures c.row_of_assignment_target_property_identifier.ensures)
 
 pub returns-in-Err-boxed : goal.returns-in-Err-boxed
 returns-in-Err-boxed g c = λ told. let h = c.in-Err-boxed.ensures told in cc h

@@ -2,7 +2,7 @@ use Rattle.std.proofs.Common.{◌≡◌, [], map, drop}
 use Rattle.serde_json.specs.View.{view}
 use Rattle.jsgen_tree.specs.Plain.{node_plain}
 use Rattle.jsgen_fields.specs.Reads.{read_rows}
-use Rattle.jsgen_fields.specs.Kept.{entries}
+use Rattle.jsgen_kept.specs.Kept.{entries}
 use Rattle.jsgen_rows.proofs.steps.read_rows.Given as goal
 
 -- the rows left, after those that are kept, give the whole

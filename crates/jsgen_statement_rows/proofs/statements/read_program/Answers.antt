@@ -40,7 +40,7 @@ returns-in-Err-statement_list g c = λ told. refused _ (passed _ (passed _ c.in-
 
 pub returns-in-Ok-boxed : goal.returns-in-Ok-boxed
 unfolding read_node
-returns-in-Ok-boxed g c = passed _ (passed _ (passed _ c.in-Ok.ensures refl) (passed _ (passed _ (passed _ c.in-Ok-needed_source_kind.ensures refl) (passed _ (passed _ (passed _ (first_of_two (not_given (at c.args.number 4) (field (codes "jsx") (view c.args.row.now))) (not_given (at c.args.number 5) (field (codes "typescript") (view c.args.row.now))) c.in-Ok-neither_given.ensures) refl) (passed _ (passed _ (passed _ (second_of_two (not_given (at c.args.number 4) (field (codes "jsx") (view c.args.row.now))) (not_given (at c.args.number 5) (field (codes "typescript") (view c.args.row.now))) c.in-Ok-neither_given.ensures) refl) (passed _ (passed _ c.in-Ok-comment_list.ensures (passed _ (passed _ c.in-Ok-optional_hashbang.ensures (passed _ (passed _ c.in-Ok-directive_list.ensures (passed _ (passed _ c.in-Ok-statement_list.ensures refl) refl)) refl)) refl)) refl)) refl)) refl)) refl)) (gives_node g.R.Typed.plain c.row_of_program.result _ (program_row g.N.PlainNode.plain) _ _ c.in-Ok-boxed.ensures c.row_of_program.ensures)
+returns-in-Ok-boxed g c = passed _ (passed _ (passed _ c.in-Ok.ensures refl) (passed _ (passed _ (passed _ c.in-Ok-needed_source_kind.ensures refl) (passed _ (passed _ (passed _ (first_of_two (not_given (at c.args.number 4) (field (codes "jsx") (view c.args.row.now))) (not_given (at c.args.number 5) (field (codes "typescript") (view c.args.row.now))) c.in-Ok-neither_given.ensures) refl) (passed _ (passed _ (passed _ (second_of_two (not_given (at c.args.number 4) (field (codes "jsx") (view c.args.row.now))) (not_given (at c.args.number 5) (field (codes "typescript") (view c.args.row.now))) c.in-Ok-neither_given.ensures) refl) (passed _ (passed _ c.in-Ok-comment_list.ensures (passed _ (passed _ c.in-Ok-optional_hashbang.ensures (passed _ (passed _ c.in-Ok-directive_list.ensures (passed _ (passed _ c.in-Ok-statement_list.ensures refl) refl)) refl)) refl)) refl)) refl)) refl)) refl)) (gives_node g.R.Typed.plain c.row_of_program.result _ (program_row g.N.HasType.plain) _ _ c.in-Ok-boxed.ensures c.row_of_program.ensures)
 
 pub returns-in-Err-boxed : goal.returns-in-Err-boxed
 returns-in-Err-boxed g c = λ told. let h = c.in-Err-boxed.ensures told in cc h

@@ -24,7 +24,7 @@ returns-in-Err-optional_expression g c = λ told. refused _ (passed _ c.in-Ok.en
 
 pub returns-in-Ok-boxed : goal.returns-in-Ok-boxed
 unfolding read_node
-returns-in-Ok-boxed g c = passed _ (passed _ c.in-Ok.ensures (passed _ (passed _ (passed _ (first_of_two (not_given (at c.args.number 3) (field (codes "definite") (view c.args.row.now))) (not_given (at c.args.number 4) (field (codes "type_annotation") (view c.args.row.now))) c.in-Ok-neither_given.ensures) refl) (passed _ (passed _ (passed _ (second_of_two (not_given (at c.args.number 3) (field (codes "definite") (view c.args.row.now))) (not_given (at c.args.number 4) (field (codes "type_annotation") (view c.args.row.now))) c.in-Ok-neither_given.ensures) refl) (passed _ (passed _ c.in-Ok-optional_expression.ensures refl) refl)) refl)) refl)) (gives_node g.R.Typed.plain c.row_of_variable_declarator.result _ (variable_declarator_row g.N.PlainNode.plain) _ _ c.in-Ok-boxed.ensures c.row_of_variable_declarator.ensures)
+returns-in-Ok-boxed g c = passed _ (passed _ c.in-Ok.ensures (passed _ (passed _ (passed _ (first_of_two (not_given (at c.args.number 3) (field (codes "definite") (view c.args.row.now))) (not_given (at c.args.number 4) (field (codes "type_annotation") (view c.args.row.now))) c.in-Ok-neither_given.ensures) refl) (passed _ (passed _ (passed _ (second_of_two (not_given (at c.args.number 3) (field (codes "definite") (view c.args.row.now))) (not_given (at c.args.number 4) (field (codes "type_annotation") (view c.args.row.now))) c.in-Ok-neither_given.ensures) refl) (passed _ (passed _ c.in-Ok-optional_expression.ensures refl) refl)) refl)) refl)) (gives_node g.R.Typed.plain c.row_of_variable_declarator.result _ (variable_declarator_row g.N.HasType.plain) _ _ c.in-Ok-boxed.ensures c.row_of_variable_declarator.ensures)
 
 pub returns-in-Err-boxed : goal.returns-in-Err-boxed
 returns-in-Err-boxed g c = λ told. let h = c.in-Err-boxed.ensures told in cc h

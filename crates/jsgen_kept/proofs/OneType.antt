@@ -6,11 +6,11 @@ use Rattle.jsgen_tree.specs.Sets.{is_comment, is_hashbang, is_directive, is_vari
 use Rattle.jsgen_tree.specs.Rows.{expression_plain, assignment_target_plain, declaration_plain, statement_plain, binding_pattern_plain, class_element_plain}
 use Rattle.jsgen_tree.specs.declared.sets.BindingPattern.{BindingPattern}
 use Rattle.jsgen_tree.specs.declared.sets.ClassElement.{ClassElement}
-use Rattle.jsgen_fields.specs.declared.others.OtherDeclaration.{OtherDeclaration}
-use Rattle.jsgen_fields.specs.declared.others.OtherStatement.{OtherStatement}
-use Rattle.jsgen_fields.specs.declared.others.OtherExpression.{OtherExpression}
-use Rattle.jsgen_fields.specs.declared.others.OtherAssignmentTarget.{OtherAssignmentTarget}
-use Rattle.jsgen_fields.proofs.Sets.{of_declaration, of_binding_pattern, of_statement, of_expression, of_assignment_target, of_class_element}
+use Rattle.jsgen_kept.specs.declared.others.OtherDeclaration.{OtherDeclaration}
+use Rattle.jsgen_kept.specs.declared.others.OtherStatement.{OtherStatement}
+use Rattle.jsgen_kept.specs.declared.others.OtherExpression.{OtherExpression}
+use Rattle.jsgen_kept.specs.declared.others.OtherAssignmentTarget.{OtherAssignmentTarget}
+use Rattle.jsgen_kept.proofs.Sets.{of_declaration, of_binding_pattern, of_statement, of_expression, of_assignment_target, of_class_element}
 
 pub no_declaration_is_a_comment : {N : Type 0} (plain : N → Tree) (r : OtherDeclaration N) → is_comment (type_of (declaration_plain plain r.declaration)) ≡ false
 no_declaration_is_a_comment plain r = of_declaration plain is_comment false refl r.declaration r.other

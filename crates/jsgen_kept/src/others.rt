@@ -1,7 +1,7 @@
 // Generated from tools/nodes/table.txt; edit that and run tools/nodes/generate.
 // The members of a set whose rows are kept by it.
 ghost use Rattle.std.specs.Prelude.{◌≡◌, true};
-ghost use Rattle.jsgen_fields.specs.Others.{is_other_declaration, is_other_statement, is_other_expression, is_other_assignment_target};
+ghost use Rattle.jsgen_kept.specs.Others.{is_other_declaration, is_other_statement, is_other_expression, is_other_assignment_target};
 
 use jsgen_tree::{AssignmentTarget, Declaration, Expression, Node, Statement};
 

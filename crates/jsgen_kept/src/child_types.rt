@@ -4,10 +4,10 @@ ghost use Rattle.std.specs.Prelude.{◌≡◌, IfOk, Some, None, option_map, if�
 ghost use Rattle.jsgen_tree.specs.Tree.{type_of};
 ghost use Rattle.jsgen_tree.specs.Sets.{in_set};
 ghost use Rattle.jsgen_tree.specs.Rows.{comment_row, directive_row, variable_declarator_row, binding_identifier_row, block_statement_row, identifier_reference_row, string_literal_row, identifier_name_row, formal_parameter_row, formal_parameter_rest_row, formal_parameters_row, function_row, function_body_row, template_element_row, template_literal_row, label_identifier_row, switch_case_row, catch_clause_row, binding_property_row, binding_rest_element_row, assignment_target_rest_row, private_identifier_row, class_body_row, hashbang_row, with_clause_row, import_attribute_row, export_specifier_row};
-ghost use Rattle.jsgen_fields.specs.Kept.{row_plain};
+ghost use Rattle.jsgen_kept.specs.Kept.{row_plain};
 ghost use Rattle.jsgen_tree.specs.declared.types.NodeSet.TheVariants as sets;
 
-use crate::asked::{Child, PlainNode};
+use crate::asked::Child;
 use crate::kept::Row;
 use crate::members::{
     binding_identifier_of_binding_pattern_in_box, block_statement_of_statement_in_box,
@@ -16,13 +16,14 @@ use crate::members::{
 use jsgen_tree::{
     AssignmentTargetRest, BindingIdentifier, BindingProperty, BindingRestElement, BlockStatement,
     CatchClause, ClassBody, Comment, Directive, ExportSpecifier, FormalParameter,
-    FormalParameterRest, FormalParameters, Function, FunctionBody, Hashbang, IdentifierName,
-    IdentifierReference, ImportAttribute, LabelIdentifier, NodeSet, PrivateIdentifier,
-    StringLiteral, SwitchCase, TemplateElement, TemplateLiteral, VariableDeclarator, WithClause,
+    FormalParameterRest, FormalParameters, Function, FunctionBody, HasType, Hashbang,
+    IdentifierName, IdentifierReference, ImportAttribute, LabelIdentifier, NodeSet,
+    PrivateIdentifier, StringLiteral, SwitchCase, TemplateElement, TemplateLiteral,
+    VariableDeclarator, WithClause,
 };
 use std::alloc::{AllocError, Global};
 
-impl<N: PlainNode + Drop> Child<N> for Comment {
+impl<N: HasType + Drop> Child<N> for Comment {
     ghost plain = { λ n. comment_row n };
 
     ghost of_set = { sets.Comment };
@@ -47,7 +48,7 @@ impl<N: PlainNode + Drop> Child<N> for Comment {
     }
 }
 
-impl<N: PlainNode + Drop> Child<N> for Box<Hashbang> {
+impl<N: HasType + Drop> Child<N> for Box<Hashbang> {
     ghost plain = { λ n. hashbang_row n.value };
 
     ghost of_set = { sets.Hashbang };
@@ -72,7 +73,7 @@ impl<N: PlainNode + Drop> Child<N> for Box<Hashbang> {
     }
 }
 
-impl<N: PlainNode + Drop> Child<N> for Directive {
+impl<N: HasType + Drop> Child<N> for Directive {
     ghost plain = { λ n. directive_row n };
 
     ghost of_set = { sets.Directive };
@@ -97,7 +98,7 @@ impl<N: PlainNode + Drop> Child<N> for Directive {
     }
 }
 
-impl<N: PlainNode + Drop> Child<N> for VariableDeclarator<N> {
+impl<N: HasType + Drop> Child<N> for VariableDeclarator<N> {
     ghost plain = { λ n. variable_declarator_row N.plain n };
 
     ghost of_set = { sets.VariableDeclarator };
@@ -122,7 +123,7 @@ impl<N: PlainNode + Drop> Child<N> for VariableDeclarator<N> {
     }
 }
 
-impl<N: PlainNode + Drop> Child<N> for Box<IdentifierName> {
+impl<N: HasType + Drop> Child<N> for Box<IdentifierName> {
     ghost plain = { λ n. identifier_name_row n.value };
 
     ghost of_set = { sets.IdentifierName };
@@ -147,7 +148,7 @@ impl<N: PlainNode + Drop> Child<N> for Box<IdentifierName> {
     }
 }
 
-impl<N: PlainNode + Drop> Child<N> for FormalParameter<N> {
+impl<N: HasType + Drop> Child<N> for FormalParameter<N> {
     ghost plain = { λ n. formal_parameter_row N.plain n };
 
     ghost of_set = { sets.FormalParameter };
@@ -172,7 +173,7 @@ impl<N: PlainNode + Drop> Child<N> for FormalParameter<N> {
     }
 }
 
-impl<N: PlainNode + Drop> Child<N> for Box<FormalParameterRest<N>> {
+impl<N: HasType + Drop> Child<N> for Box<FormalParameterRest<N>> {
     ghost plain = { λ n. formal_parameter_rest_row N.plain n.value };
 
     ghost of_set = { sets.FormalParameterRest };
@@ -200,7 +201,7 @@ impl<N: PlainNode + Drop> Child<N> for Box<FormalParameterRest<N>> {
     }
 }
 
-impl<N: PlainNode + Drop> Child<N> for Box<BindingIdentifier> {
+impl<N: HasType + Drop> Child<N> for Box<BindingIdentifier> {
     ghost plain = { λ n. binding_identifier_row n.value };
 
     ghost of_set = { sets.BindingIdentifier };
@@ -227,7 +228,7 @@ impl<N: PlainNode + Drop> Child<N> for Box<BindingIdentifier> {
     }
 }
 
-impl<N: PlainNode + Drop> Child<N> for Box<FormalParameters<N>> {
+impl<N: HasType + Drop> Child<N> for Box<FormalParameters<N>> {
     ghost plain = { λ n. formal_parameters_row N.plain n.value };
 
     ghost of_set = { sets.FormalParameters };
@@ -252,7 +253,7 @@ impl<N: PlainNode + Drop> Child<N> for Box<FormalParameters<N>> {
     }
 }
 
-impl<N: PlainNode + Drop> Child<N> for Box<FunctionBody<N>> {
+impl<N: HasType + Drop> Child<N> for Box<FunctionBody<N>> {
     ghost plain = { λ n. function_body_row N.plain n.value };
 
     ghost of_set = { sets.FunctionBody };
@@ -277,7 +278,7 @@ impl<N: PlainNode + Drop> Child<N> for Box<FunctionBody<N>> {
     }
 }
 
-impl<N: PlainNode + Drop> Child<N> for TemplateElement {
+impl<N: HasType + Drop> Child<N> for TemplateElement {
     ghost plain = { λ n. template_element_row n };
 
     ghost of_set = { sets.TemplateElement };
@@ -302,7 +303,7 @@ impl<N: PlainNode + Drop> Child<N> for TemplateElement {
     }
 }
 
-impl<N: PlainNode + Drop> Child<N> for Box<TemplateLiteral<N>> {
+impl<N: HasType + Drop> Child<N> for Box<TemplateLiteral<N>> {
     ghost plain = { λ n. template_literal_row N.plain n.value };
 
     ghost of_set = { sets.TemplateLiteral };
@@ -327,7 +328,7 @@ impl<N: PlainNode + Drop> Child<N> for Box<TemplateLiteral<N>> {
     }
 }
 
-impl<N: PlainNode + Drop> Child<N> for Box<LabelIdentifier> {
+impl<N: HasType + Drop> Child<N> for Box<LabelIdentifier> {
     ghost plain = { λ n. label_identifier_row n.value };
 
     ghost of_set = { sets.LabelIdentifier };
@@ -352,7 +353,7 @@ impl<N: PlainNode + Drop> Child<N> for Box<LabelIdentifier> {
     }
 }
 
-impl<N: PlainNode + Drop> Child<N> for SwitchCase<N> {
+impl<N: HasType + Drop> Child<N> for SwitchCase<N> {
     ghost plain = { λ n. switch_case_row N.plain n };
 
     ghost of_set = { sets.SwitchCase };
@@ -377,7 +378,7 @@ impl<N: PlainNode + Drop> Child<N> for SwitchCase<N> {
     }
 }
 
-impl<N: PlainNode + Drop> Child<N> for Box<BlockStatement<N>> {
+impl<N: HasType + Drop> Child<N> for Box<BlockStatement<N>> {
     ghost plain = { λ n. block_statement_row N.plain n.value };
 
     ghost of_set = { sets.BlockStatement };
@@ -402,7 +403,7 @@ impl<N: PlainNode + Drop> Child<N> for Box<BlockStatement<N>> {
     }
 }
 
-impl<N: PlainNode + Drop> Child<N> for Box<CatchClause<N>> {
+impl<N: HasType + Drop> Child<N> for Box<CatchClause<N>> {
     ghost plain = { λ n. catch_clause_row N.plain n.value };
 
     ghost of_set = { sets.CatchClause };
@@ -427,7 +428,7 @@ impl<N: PlainNode + Drop> Child<N> for Box<CatchClause<N>> {
     }
 }
 
-impl<N: PlainNode + Drop> Child<N> for BindingProperty<N> {
+impl<N: HasType + Drop> Child<N> for BindingProperty<N> {
     ghost plain = { λ n. binding_property_row N.plain n };
 
     ghost of_set = { sets.BindingProperty };
@@ -452,7 +453,7 @@ impl<N: PlainNode + Drop> Child<N> for BindingProperty<N> {
     }
 }
 
-impl<N: PlainNode + Drop> Child<N> for Box<BindingRestElement<N>> {
+impl<N: HasType + Drop> Child<N> for Box<BindingRestElement<N>> {
     ghost plain = { λ n. binding_rest_element_row N.plain n.value };
 
     ghost of_set = { sets.BindingRestElement };
@@ -480,7 +481,7 @@ impl<N: PlainNode + Drop> Child<N> for Box<BindingRestElement<N>> {
     }
 }
 
-impl<N: PlainNode + Drop> Child<N> for Box<AssignmentTargetRest<N>> {
+impl<N: HasType + Drop> Child<N> for Box<AssignmentTargetRest<N>> {
     ghost plain = { λ n. assignment_target_rest_row N.plain n.value };
 
     ghost of_set = { sets.AssignmentTargetRest };
@@ -508,7 +509,7 @@ impl<N: PlainNode + Drop> Child<N> for Box<AssignmentTargetRest<N>> {
     }
 }
 
-impl<N: PlainNode + Drop> Child<N> for Box<IdentifierReference> {
+impl<N: HasType + Drop> Child<N> for Box<IdentifierReference> {
     ghost plain = { λ n. identifier_reference_row n.value };
 
     ghost of_set = { sets.IdentifierReference };
@@ -533,7 +534,7 @@ impl<N: PlainNode + Drop> Child<N> for Box<IdentifierReference> {
     }
 }
 
-impl<N: PlainNode + Drop> Child<N> for Box<PrivateIdentifier> {
+impl<N: HasType + Drop> Child<N> for Box<PrivateIdentifier> {
     ghost plain = { λ n. private_identifier_row n.value };
 
     ghost of_set = { sets.PrivateIdentifier };
@@ -558,7 +559,7 @@ impl<N: PlainNode + Drop> Child<N> for Box<PrivateIdentifier> {
     }
 }
 
-impl<N: PlainNode + Drop> Child<N> for Box<ClassBody<N>> {
+impl<N: HasType + Drop> Child<N> for Box<ClassBody<N>> {
     ghost plain = { λ n. class_body_row N.plain n.value };
 
     ghost of_set = { sets.ClassBody };
@@ -583,7 +584,7 @@ impl<N: PlainNode + Drop> Child<N> for Box<ClassBody<N>> {
     }
 }
 
-impl<N: PlainNode + Drop> Child<N> for Box<Function<N>> {
+impl<N: HasType + Drop> Child<N> for Box<Function<N>> {
     ghost plain = { λ n. function_row N.plain n.value };
 
     ghost of_set = { sets.Function };
@@ -608,7 +609,7 @@ impl<N: PlainNode + Drop> Child<N> for Box<Function<N>> {
     }
 }
 
-impl<N: PlainNode + Drop> Child<N> for Box<StringLiteral> {
+impl<N: HasType + Drop> Child<N> for Box<StringLiteral> {
     ghost plain = { λ n. string_literal_row n.value };
 
     ghost of_set = { sets.StringLiteral };
@@ -633,7 +634,7 @@ impl<N: PlainNode + Drop> Child<N> for Box<StringLiteral> {
     }
 }
 
-impl<N: PlainNode + Drop> Child<N> for Box<WithClause> {
+impl<N: HasType + Drop> Child<N> for Box<WithClause> {
     ghost plain = { λ n. with_clause_row n.value };
 
     ghost of_set = { sets.WithClause };
@@ -658,7 +659,7 @@ impl<N: PlainNode + Drop> Child<N> for Box<WithClause> {
     }
 }
 
-impl<N: PlainNode + Drop> Child<N> for ImportAttribute {
+impl<N: HasType + Drop> Child<N> for ImportAttribute {
     ghost plain = { λ n. import_attribute_row n };
 
     ghost of_set = { sets.ImportAttribute };
@@ -683,7 +684,7 @@ impl<N: PlainNode + Drop> Child<N> for ImportAttribute {
     }
 }
 
-impl<N: PlainNode + Drop> Child<N> for ExportSpecifier {
+impl<N: HasType + Drop> Child<N> for ExportSpecifier {
     ghost plain = { λ n. export_specifier_row n };
 
     ghost of_set = { sets.ExportSpecifier };

@@ -5,18 +5,18 @@ use Rattle.jsgen_tree.specs.Tree.{Tree, type_of}
 use Rattle.jsgen_tree.specs.declared.types.NodeType.{NodeType}
 use Rattle.jsgen_tree.specs.Sets.{is_statement, is_binding_pattern, is_expression, is_argument, is_chain_element, is_array_expression_element, is_property_key, is_object_property_kind, is_simple_assignment_target, is_assignment_target, is_arrow_function_body, is_for_statement_init, is_for_statement_left, is_assignment_target_maybe_default, is_assignment_target_property, is_class_element, is_import_declaration_specifier, is_module_export_name, is_import_attribute_key, is_declaration, is_export_default_declaration_kind}
 use Rattle.jsgen_tree.specs.Rows.{expression_plain, assignment_target_plain, declaration_plain, statement_plain, binding_pattern_plain, class_element_plain}
-use Rattle.jsgen_fields.specs.Meaning.{is_program}
+use Rattle.jsgen_kept.specs.Kept.{is_program}
 use Rattle.jsgen_tree.specs.declared.sets.Expression.{Expression}
 use Rattle.jsgen_tree.specs.declared.sets.AssignmentTarget.{AssignmentTarget}
 use Rattle.jsgen_tree.specs.declared.sets.Declaration.{Declaration}
 use Rattle.jsgen_tree.specs.declared.sets.Statement.{Statement}
 use Rattle.jsgen_tree.specs.declared.sets.BindingPattern.{BindingPattern}
 use Rattle.jsgen_tree.specs.declared.sets.ClassElement.{ClassElement}
-use Rattle.jsgen_fields.specs.Others.{is_other_declaration, is_other_statement, is_other_expression, is_other_assignment_target}
-use Rattle.jsgen_fields.specs.declared.others.OtherDeclaration.{OtherDeclaration}
-use Rattle.jsgen_fields.specs.declared.others.OtherStatement.{OtherStatement}
-use Rattle.jsgen_fields.specs.declared.others.OtherExpression.{OtherExpression}
-use Rattle.jsgen_fields.specs.declared.others.OtherAssignmentTarget.{OtherAssignmentTarget}
+use Rattle.jsgen_kept.specs.Others.{is_other_declaration, is_other_statement, is_other_expression, is_other_assignment_target}
+use Rattle.jsgen_kept.specs.declared.others.OtherDeclaration.{OtherDeclaration}
+use Rattle.jsgen_kept.specs.declared.others.OtherStatement.{OtherStatement}
+use Rattle.jsgen_kept.specs.declared.others.OtherExpression.{OtherExpression}
+use Rattle.jsgen_kept.specs.declared.others.OtherAssignmentTarget.{OtherAssignmentTarget}
 use Rattle.jsgen_tree.specs.declared.types.NodeType.TheVariants as types
 use Rattle.jsgen_tree.specs.declared.sets.Declaration.TheVariants as declarations
 use Rattle.jsgen_tree.specs.declared.sets.BindingPattern.TheVariants as binding_patterns

@@ -6,14 +6,15 @@ ghost use Rattle.jsgen_tree.specs.Sets.{in_set};
 ghost use Rattle.jsgen_tree.specs.Rows.{in_expression, in_argument, in_array_expression_element, in_chain_element, in_assignment_target, in_assignment_target_maybe_default, in_arrow_function_body, in_for_statement_init, in_for_statement_left, in_property_key, in_declaration, in_statement, in_module_export_name, in_import_attribute_key, in_export_default_declaration_kind, binding_identifier_row, block_statement_row, string_literal_row, function_row, template_literal_row, class_row, expression_plain, declaration_plain, statement_plain, binding_pattern_plain};
 ghost use Rattle.jsgen_tree.specs.declared.types.NodeSet.TheVariants as sets;
 
-use crate::asked::{HoldsExpression, HoldsStatement, PlainNode};
+use crate::asked::{HoldsExpression, HoldsStatement};
 use crate::others::{OtherDeclaration, OtherExpression, OtherStatement};
 use jsgen_tree::{
     Argument, ArrayExpressionElement, ArrowFunctionBody, AssignmentTargetMaybeDefault,
     AssignmentTargetNode, BindingIdentifier, BindingPattern, BlockStatement, ChainElement, Class,
     ClassKind, Declaration, DeclarationNode, ExportDefaultDeclarationKind, Expression,
-    ExpressionNode, ForStatementInit, ForStatementLeft, Function, FunctionKind, ImportAttributeKey,
-    ModuleExportName, PropertyKey, Statement, StatementNode, StringLiteral, TemplateLiteral,
+    ExpressionNode, ForStatementInit, ForStatementLeft, Function, FunctionKind, HasType,
+    ImportAttributeKey, ModuleExportName, PropertyKey, Statement, StatementNode, StringLiteral,
+    TemplateLiteral,
 };
 use std::alloc::{AllocError, Global};
 
@@ -29,7 +30,7 @@ pub fn statement_of_declaration<N: HoldsStatement + Drop>(
     Ok(Some(N::statement_node(Statement::Declaration(declaration))))
 }
 
-pub fn argument_of_expression<N: PlainNode + Drop>(
+pub fn argument_of_expression<N: HasType + Drop>(
     alloc: Global,
     expression: ExpressionNode<N>,
 ) -> Result<Option<Argument<N>>, AllocError>
@@ -39,7 +40,7 @@ pub fn argument_of_expression<N: PlainNode + Drop>(
     Ok(Some(Argument::Expression(expression)))
 }
 
-pub fn array_expression_element_of_expression<N: PlainNode + Drop>(
+pub fn array_expression_element_of_expression<N: HasType + Drop>(
     alloc: Global,
     expression: ExpressionNode<N>,
 ) -> Result<Option<ArrayExpressionElement<N>>, AllocError>
@@ -49,7 +50,7 @@ pub fn array_expression_element_of_expression<N: PlainNode + Drop>(
     Ok(Some(ArrayExpressionElement::Expression(expression)))
 }
 
-pub fn property_key_of_expression<N: PlainNode + Drop>(
+pub fn property_key_of_expression<N: HasType + Drop>(
     alloc: Global,
     expression: ExpressionNode<N>,
 ) -> Result<Option<PropertyKey<N>>, AllocError>
@@ -59,7 +60,7 @@ pub fn property_key_of_expression<N: PlainNode + Drop>(
     Ok(Some(PropertyKey::Expression(expression)))
 }
 
-pub fn arrow_function_body_of_expression<N: PlainNode + Drop>(
+pub fn arrow_function_body_of_expression<N: HasType + Drop>(
     alloc: Global,
     expression: ExpressionNode<N>,
 ) -> Result<Option<ArrowFunctionBody<N>>, AllocError>
@@ -69,7 +70,7 @@ pub fn arrow_function_body_of_expression<N: PlainNode + Drop>(
     Ok(Some(ArrowFunctionBody::Expression(expression)))
 }
 
-pub fn for_statement_init_of_expression<N: PlainNode + Drop>(
+pub fn for_statement_init_of_expression<N: HasType + Drop>(
     alloc: Global,
     expression: ExpressionNode<N>,
 ) -> Result<Option<ForStatementInit<N>>, AllocError>
@@ -79,7 +80,7 @@ pub fn for_statement_init_of_expression<N: PlainNode + Drop>(
     Ok(Some(ForStatementInit::Expression(expression)))
 }
 
-pub fn for_statement_left_of_assignment_target<N: PlainNode + Drop>(
+pub fn for_statement_left_of_assignment_target<N: HasType + Drop>(
     alloc: Global,
     assignment_target: AssignmentTargetNode<N>,
 ) -> Result<Option<ForStatementLeft<N>>, AllocError>
@@ -89,7 +90,7 @@ pub fn for_statement_left_of_assignment_target<N: PlainNode + Drop>(
     Ok(Some(ForStatementLeft::AssignmentTarget(assignment_target)))
 }
 
-pub fn assignment_target_maybe_default_of_assignment_target<N: PlainNode + Drop>(
+pub fn assignment_target_maybe_default_of_assignment_target<N: HasType + Drop>(
     alloc: Global,
     assignment_target: AssignmentTargetNode<N>,
 ) -> Result<Option<AssignmentTargetMaybeDefault<N>>, AllocError>
@@ -99,7 +100,7 @@ pub fn assignment_target_maybe_default_of_assignment_target<N: PlainNode + Drop>
     Ok(Some(AssignmentTargetMaybeDefault::AssignmentTarget(assignment_target)))
 }
 
-pub fn export_default_declaration_kind_of_expression<N: PlainNode + Drop>(
+pub fn export_default_declaration_kind_of_expression<N: HasType + Drop>(
     alloc: Global,
     expression: ExpressionNode<N>,
 ) -> Result<Option<ExportDefaultDeclarationKind<N>>, AllocError>
@@ -143,7 +144,7 @@ pub fn export_default_declaration_kind_of_class<N: HoldsExpression + Drop>(
 
 // ---- a place that takes some types of a set
 
-pub fn chain_element_of_expression<N: PlainNode + Drop>(
+pub fn chain_element_of_expression<N: HasType + Drop>(
     row: OtherExpression<N>,
 ) -> Option<ChainElement<N>>
     ensures { option_map (in_chain_element N.plain) result
@@ -159,7 +160,7 @@ pub fn chain_element_of_expression<N: PlainNode + Drop>(
     }
 }
 
-pub fn binding_identifier_of_binding_pattern_in_box<N: PlainNode + Drop>(
+pub fn binding_identifier_of_binding_pattern_in_box<N: HasType + Drop>(
     row: BindingPattern<N>,
 ) -> Option<Box<BindingIdentifier>>
     ensures { option_map (λ b. binding_identifier_row b.value) result
@@ -174,7 +175,7 @@ pub fn binding_identifier_of_binding_pattern_in_box<N: PlainNode + Drop>(
     }
 }
 
-pub fn template_literal_of_expression_in_box<N: PlainNode + Drop>(
+pub fn template_literal_of_expression_in_box<N: HasType + Drop>(
     row: OtherExpression<N>,
 ) -> Option<Box<TemplateLiteral<N>>>
     ensures { option_map (λ b. template_literal_row N.plain b.value) result
@@ -190,7 +191,7 @@ pub fn template_literal_of_expression_in_box<N: PlainNode + Drop>(
     }
 }
 
-pub fn for_statement_init_of_declaration<N: PlainNode + Drop>(
+pub fn for_statement_init_of_declaration<N: HasType + Drop>(
     row: OtherDeclaration<N>,
 ) -> Option<ForStatementInit<N>>
     ensures { option_map (in_for_statement_init N.plain) result
@@ -206,7 +207,7 @@ pub fn for_statement_init_of_declaration<N: PlainNode + Drop>(
     }
 }
 
-pub fn for_statement_left_of_declaration<N: PlainNode + Drop>(
+pub fn for_statement_left_of_declaration<N: HasType + Drop>(
     row: OtherDeclaration<N>,
 ) -> Option<ForStatementLeft<N>>
     ensures { option_map (in_for_statement_left N.plain) result
@@ -222,7 +223,7 @@ pub fn for_statement_left_of_declaration<N: PlainNode + Drop>(
     }
 }
 
-pub fn block_statement_of_statement_in_box<N: PlainNode + Drop>(
+pub fn block_statement_of_statement_in_box<N: HasType + Drop>(
     row: OtherStatement<N>,
 ) -> Option<Box<BlockStatement<N>>>
     ensures { option_map (λ b. block_statement_row N.plain b.value) result
@@ -238,7 +239,7 @@ pub fn block_statement_of_statement_in_box<N: PlainNode + Drop>(
     }
 }
 
-pub fn string_literal_of_expression_in_box<N: PlainNode + Drop>(
+pub fn string_literal_of_expression_in_box<N: HasType + Drop>(
     row: OtherExpression<N>,
 ) -> Option<Box<StringLiteral>>
     ensures { option_map (λ b. string_literal_row b.value) result
@@ -254,7 +255,7 @@ pub fn string_literal_of_expression_in_box<N: PlainNode + Drop>(
     }
 }
 
-pub fn module_export_name_of_expression<N: PlainNode + Drop>(
+pub fn module_export_name_of_expression<N: HasType + Drop>(
     row: OtherExpression<N>,
 ) -> Option<ModuleExportName>
     ensures { option_map in_module_export_name result
@@ -270,7 +271,7 @@ pub fn module_export_name_of_expression<N: PlainNode + Drop>(
     }
 }
 
-pub fn import_attribute_key_of_expression<N: PlainNode + Drop>(
+pub fn import_attribute_key_of_expression<N: HasType + Drop>(
     row: OtherExpression<N>,
 ) -> Option<ImportAttributeKey>
     ensures { option_map in_import_attribute_key result

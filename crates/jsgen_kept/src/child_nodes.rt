@@ -4,7 +4,7 @@ ghost use Rattle.std.specs.Prelude.{◌≡◌, IfOk, Some, None, option_map, if�
 ghost use Rattle.jsgen_tree.specs.Tree.{type_of};
 ghost use Rattle.jsgen_tree.specs.Sets.{in_set};
 ghost use Rattle.jsgen_tree.specs.Rows.{in_expression, in_assignment_target, in_declaration, in_statement, in_binding_pattern, in_class_element};
-ghost use Rattle.jsgen_fields.specs.Kept.{row_plain};
+ghost use Rattle.jsgen_kept.specs.Kept.{row_plain};
 ghost use Rattle.jsgen_tree.specs.declared.types.NodeSet.TheVariants as sets;
 
 use crate::asked::{

@@ -4,7 +4,7 @@ ghost use Rattle.std.specs.Prelude.{◌≡◌, IfOk, Some, None, option_map, if�
 ghost use Rattle.jsgen_tree.specs.Tree.{type_of};
 ghost use Rattle.jsgen_tree.specs.Sets.{in_set};
 ghost use Rattle.jsgen_tree.specs.Rows.{in_expression, in_assignment_target, in_declaration, in_statement, in_binding_pattern, in_class_element, expression_plain, assignment_target_plain, declaration_plain, statement_plain, binding_pattern_plain, class_element_plain, expression_plain, assignment_target_plain, declaration_plain, statement_plain, binding_pattern_plain, class_element_plain, in_expression, in_assignment_target, in_declaration, in_statement, in_binding_pattern, in_class_element};
-ghost use Rattle.jsgen_fields.specs.Kept.{row_plain};
+ghost use Rattle.jsgen_kept.specs.Kept.{row_plain};
 ghost use Rattle.jsgen_tree.specs.Plain.{node_plain};
 ghost use Rattle.jsgen_tree.specs.declared.types.NodeType.TheVariants as types;
 
@@ -12,24 +12,13 @@ use crate::kept::Row;
 use jsgen_pool::Typed;
 use jsgen_tree::{
     AssignmentTarget, AssignmentTargetNode, BindingPattern, BindingPatternNode, ClassElement,
-    ClassElementNode, Declaration, DeclarationNode, Expression, ExpressionNode, Node, NodeSet,
-    NodeType, Statement, StatementNode,
+    ClassElementNode, Declaration, DeclarationNode, Expression, ExpressionNode, HasType, Node,
+    NodeSet, Statement, StatementNode,
 };
 use std::alloc::{AllocError, Global};
 
-/// A node where trees nest, with what it is as plain data.
-pub trait PlainNode: Sized {
-    ghost use Rattle.jsgen_tree.specs.Tree.{Tree};
-
-    ghost plain: { Self → Tree };
-}
-
-impl PlainNode for Node {
-    ghost plain = { λ n. node_plain n };
-}
-
 /// A node that may be an expression.
-pub trait HoldsExpression: PlainNode {
+pub trait HoldsExpression: HasType + Sized {
     fn expression_node(expression: Expression<Self>) -> ExpressionNode<Self>
         ensures { in_expression Self.plain result ≡ expression_plain Self.plain expression };
 }
@@ -44,7 +33,7 @@ impl HoldsExpression for Node {
 }
 
 /// A node that may be an assignment target.
-pub trait HoldsAssignmentTarget: PlainNode {
+pub trait HoldsAssignmentTarget: HasType + Sized {
     fn assignment_target_node(
         assignment_target: AssignmentTarget<Self>,
     ) -> AssignmentTargetNode<Self>
@@ -61,7 +50,7 @@ impl HoldsAssignmentTarget for Node {
 }
 
 /// A node that may be a declaration.
-pub trait HoldsDeclaration: PlainNode {
+pub trait HoldsDeclaration: HasType + Sized {
     fn declaration_node(declaration: Declaration<Self>) -> DeclarationNode<Self>
         ensures { in_declaration Self.plain result ≡ declaration_plain Self.plain declaration };
 }
@@ -76,7 +65,7 @@ impl HoldsDeclaration for Node {
 }
 
 /// A node that may be a statement.
-pub trait HoldsStatement: PlainNode {
+pub trait HoldsStatement: HasType + Sized {
     fn statement_node(statement: Statement<Self>) -> StatementNode<Self>
         ensures { in_statement Self.plain result ≡ statement_plain Self.plain statement };
 }
@@ -91,7 +80,7 @@ impl HoldsStatement for Node {
 }
 
 /// A node that may be a binding pattern.
-pub trait HoldsBindingPattern: PlainNode {
+pub trait HoldsBindingPattern: HasType + Sized {
     fn binding_pattern_node(binding_pattern: BindingPattern<Self>) -> BindingPatternNode<Self>
         ensures { in_binding_pattern Self.plain result ≡ binding_pattern_plain Self.plain binding_pattern };
 }
@@ -106,7 +95,7 @@ impl HoldsBindingPattern for Node {
 }
 
 /// A node that may be a class element.
-pub trait HoldsClassElement: PlainNode {
+pub trait HoldsClassElement: HasType + Sized {
     fn class_element_node(class_element: ClassElement<Self>) -> ClassElementNode<Self>
         ensures { in_class_element Self.plain result ≡ class_element_plain Self.plain class_element };
 }
@@ -126,66 +115,12 @@ pub trait ReadNode: HoldsExpression
     + HoldsDeclaration
     + HoldsStatement
     + HoldsBindingPattern
-    + HoldsClassElement {
-    fn expression_type(expression: &Expression<Self>) -> NodeType
-        ensures { result ≡ type_of (expression_plain Self.plain expression.now) };
+    + HoldsClassElement {}
 
-    fn assignment_target_type(assignment_target: &AssignmentTarget<Self>) -> NodeType
-        ensures { result ≡ type_of (assignment_target_plain Self.plain assignment_target.now) };
-
-    fn declaration_type(declaration: &Declaration<Self>) -> NodeType
-        ensures { result ≡ type_of (declaration_plain Self.plain declaration.now) };
-
-    fn statement_type(statement: &Statement<Self>) -> NodeType
-        ensures { result ≡ type_of (statement_plain Self.plain statement.now) };
-
-    fn binding_pattern_type(binding_pattern: &BindingPattern<Self>) -> NodeType
-        ensures { result ≡ type_of (binding_pattern_plain Self.plain binding_pattern.now) };
-
-    fn class_element_type(class_element: &ClassElement<Self>) -> NodeType
-        ensures { result ≡ type_of (class_element_plain Self.plain class_element.now) };
-}
-
-impl ReadNode for Node {
-    fn expression_type(expression: &Expression) -> NodeType
-        ensures { result ≡ type_of (expression_plain node_plain expression.now) }
-    {
-        expression.node_type()
-    }
-
-    fn assignment_target_type(assignment_target: &AssignmentTarget) -> NodeType
-        ensures { result ≡ type_of (assignment_target_plain node_plain assignment_target.now) }
-    {
-        assignment_target.node_type()
-    }
-
-    fn declaration_type(declaration: &Declaration) -> NodeType
-        ensures { result ≡ type_of (declaration_plain node_plain declaration.now) }
-    {
-        declaration.node_type()
-    }
-
-    fn statement_type(statement: &Statement) -> NodeType
-        ensures { result ≡ type_of (statement_plain node_plain statement.now) }
-    {
-        statement.node_type()
-    }
-
-    fn binding_pattern_type(binding_pattern: &BindingPattern) -> NodeType
-        ensures { result ≡ type_of (binding_pattern_plain node_plain binding_pattern.now) }
-    {
-        binding_pattern.node_type()
-    }
-
-    fn class_element_type(class_element: &ClassElement) -> NodeType
-        ensures { result ≡ type_of (class_element_plain node_plain class_element.now) }
-    {
-        class_element.node_type()
-    }
-}
+impl ReadNode for Node {}
 
 /// What a place for children takes: a set of types, and what is made of a row of one of them.
-pub trait Child<N: PlainNode>: Sized {
+pub trait Child<N: HasType>: Sized {
     ghost use Rattle.jsgen_tree.specs.Tree.{Tree};
     ghost use Rattle.jsgen_tree.specs.declared.types.NodeSet.{NodeSet};
 
@@ -204,7 +139,7 @@ pub trait Child<N: PlainNode>: Sized {
 
 /// What the reader asks of a row: the child that it is at a place, and to be made of one. Only `AnyRow` implements it; the reader is
 /// generic in it, since a proof of what has to do with `Row` itself looks at all types.
-pub trait RowOf<N: PlainNode>: Typed + Sized {
+pub trait RowOf<N: HasType>: Typed + Sized {
     fn into_child<C: Child<N>>(self, alloc: Global) -> Result<Option<C>, AllocError>
         ensures { IfOk result (λ child. option_map C.plain child
             ≡ (if in_set C.of_set (type_of (Self.plain self)) then Some (Self.plain self) else None)) };

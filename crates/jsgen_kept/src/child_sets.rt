@@ -4,10 +4,10 @@ ghost use Rattle.std.specs.Prelude.{◌≡◌, IfOk, Some, None, option_map, if�
 ghost use Rattle.jsgen_tree.specs.Tree.{type_of};
 ghost use Rattle.jsgen_tree.specs.Sets.{in_set};
 ghost use Rattle.jsgen_tree.specs.Rows.{in_argument, in_array_expression_element, in_chain_element, in_simple_assignment_target, in_assignment_target_maybe_default, in_assignment_target_property, in_arrow_function_body, in_for_statement_init, in_for_statement_left, in_object_property_kind, in_property_key, in_module_export_name, in_import_declaration_specifier, in_import_attribute_key, in_export_default_declaration_kind};
-ghost use Rattle.jsgen_fields.specs.Kept.{row_plain};
+ghost use Rattle.jsgen_kept.specs.Kept.{row_plain};
 ghost use Rattle.jsgen_tree.specs.declared.types.NodeSet.TheVariants as sets;
 
-use crate::asked::{Child, HoldsAssignmentTarget, HoldsExpression, PlainNode};
+use crate::asked::{Child, HoldsAssignmentTarget, HoldsExpression};
 use crate::kept::Row;
 use crate::members::{
     argument_of_expression, array_expression_element_of_expression,
@@ -22,7 +22,7 @@ use crate::members::{
 use jsgen_tree::{
     Argument, ArrayExpressionElement, ArrowFunctionBody, AssignmentTarget,
     AssignmentTargetMaybeDefault, AssignmentTargetProperty, ChainElement,
-    ExportDefaultDeclarationKind, Expression, ForStatementInit, ForStatementLeft,
+    ExportDefaultDeclarationKind, Expression, ForStatementInit, ForStatementLeft, HasType,
     ImportAttributeKey, ImportDeclarationSpecifier, ModuleExportName, NodeSet, ObjectPropertyKind,
     PropertyKey, SimpleAssignmentTarget,
 };
@@ -80,7 +80,7 @@ impl<N: HoldsExpression + Drop> Child<N> for Argument<N> {
     }
 }
 
-impl<N: PlainNode + Drop> Child<N> for ChainElement<N> {
+impl<N: HasType + Drop> Child<N> for ChainElement<N> {
     ghost plain = { λ n. in_chain_element N.plain n };
 
     ghost of_set = { sets.ChainElement };
@@ -215,7 +215,7 @@ impl<N: HoldsExpression + Drop> Child<N> for PropertyKey<N> {
     }
 }
 
-impl<N: PlainNode + Drop> Child<N> for ObjectPropertyKind<N> {
+impl<N: HasType + Drop> Child<N> for ObjectPropertyKind<N> {
     ghost plain = { λ n. in_object_property_kind N.plain n };
 
     ghost of_set = { sets.ObjectPropertyKind };
@@ -241,7 +241,7 @@ impl<N: PlainNode + Drop> Child<N> for ObjectPropertyKind<N> {
     }
 }
 
-impl<N: PlainNode + Drop> Child<N> for SimpleAssignmentTarget<N> {
+impl<N: HasType + Drop> Child<N> for SimpleAssignmentTarget<N> {
     ghost plain = { λ n. in_simple_assignment_target N.plain n };
 
     ghost of_set = { sets.SimpleAssignmentTarget };
@@ -477,7 +477,7 @@ impl<N: HoldsAssignmentTarget + Drop> Child<N> for AssignmentTargetMaybeDefault<
     }
 }
 
-impl<N: PlainNode + Drop> Child<N> for AssignmentTargetProperty<N> {
+impl<N: HasType + Drop> Child<N> for AssignmentTargetProperty<N> {
     ghost plain = { λ n. in_assignment_target_property N.plain n };
 
     ghost of_set = { sets.AssignmentTargetProperty };
@@ -510,7 +510,7 @@ impl<N: PlainNode + Drop> Child<N> for AssignmentTargetProperty<N> {
     }
 }
 
-impl<N: PlainNode + Drop> Child<N> for ImportDeclarationSpecifier {
+impl<N: HasType + Drop> Child<N> for ImportDeclarationSpecifier {
     ghost plain = { λ n. in_import_declaration_specifier n };
 
     ghost of_set = { sets.ImportDeclarationSpecifier };
@@ -544,7 +544,7 @@ impl<N: PlainNode + Drop> Child<N> for ImportDeclarationSpecifier {
     }
 }
 
-impl<N: PlainNode + Drop> Child<N> for ModuleExportName {
+impl<N: HasType + Drop> Child<N> for ModuleExportName {
     ghost plain = { λ n. in_module_export_name n };
 
     ghost of_set = { sets.ModuleExportName };
@@ -571,7 +571,7 @@ impl<N: PlainNode + Drop> Child<N> for ModuleExportName {
     }
 }
 
-impl<N: PlainNode + Drop> Child<N> for ImportAttributeKey {
+impl<N: HasType + Drop> Child<N> for ImportAttributeKey {
     ghost plain = { λ n. in_import_attribute_key n };
 
     ghost of_set = { sets.ImportAttributeKey };

@@ -1,14 +1,16 @@
 -- Generated from tools/nodes/table.txt; edit that and run tools/nodes/generate.
 -- The plain data of what the reader keeps.
-use Rattle.std.specs.Prelude.{List}
+use Rattle.std.specs.Prelude.{List, Bool, true, false}
 use Rattle.jsgen_tree.specs.Tree.{Tree}
+use Rattle.jsgen_tree.specs.declared.types.NodeType.{NodeType}
 use Rattle.jsgen_tree.specs.Rows.{program_row, comment_row, directive_row, variable_declarator_row, identifier_reference_row, identifier_name_row, static_member_expression_row, computed_member_expression_row, spread_element_row, object_property_row, formal_parameter_row, formal_parameter_rest_row, formal_parameters_row, function_row, function_body_row, template_element_row, label_identifier_row, switch_case_row, catch_clause_row, binding_property_row, binding_rest_element_row, assignment_target_with_default_row, assignment_target_property_identifier_row, assignment_target_property_property_row, assignment_target_rest_row, private_identifier_row, private_field_expression_row, class_row, class_body_row, hashbang_row, import_default_specifier_row, import_namespace_specifier_row, import_specifier_row, with_clause_row, import_attribute_row, export_specifier_row, expression_plain, assignment_target_plain, declaration_plain, statement_plain, binding_pattern_plain, class_element_plain}
 use Rattle.jsgen_pool.specs.Pool.{Entry}
 use Rattle.jsgen_pool.specs.declared.Kept.{Kept}
-use Rattle.jsgen_fields.specs.declared.kept.Row.{Row}
-use Rattle.jsgen_fields.specs.declared.kept.AnyRow.{AnyRow}
+use Rattle.jsgen_kept.specs.declared.kept.Row.{Row}
+use Rattle.jsgen_kept.specs.declared.kept.AnyRow.{AnyRow}
+use Rattle.jsgen_tree.specs.declared.types.NodeType.TheVariants as types
 use Rattle.jsgen_pool.specs.Pool as pool
-use Rattle.jsgen_fields.specs.declared.kept.Row.TheVariants as rows
+use Rattle.jsgen_kept.specs.declared.kept.Row.TheVariants as rows
 
 abbrev pub row_plain : {N : Type 0} → (N → Tree) → Row N → Tree
 row_plain plain (rows.Program b) = program_row plain b.value
@@ -62,3 +64,7 @@ entry plain k = pool.entry (any_row_plain plain) k
 
 abbrev pub entries : {N : Type 0} → (N → Tree) → List (Kept (AnyRow N)) → List Entry
 entries plain ks = pool.entries (any_row_plain plain) ks
+
+abbrev pub is_program : NodeType → Bool
+is_program types.Program = true
+is_program other = false
