@@ -16,6 +16,7 @@ ghost use Rattle.std.specs.Str.{chars};
 ghost use Rattle.jsgen_model.specs.Plain.{IsCore, IsPlain, IsQuiet};
 ghost use Rattle.jsgen_model.specs.Reading.{HasReading, IsReadAs, IsReadOnlyAs};
 ghost use Rattle.jsgen_model.specs.Valid.{job_breaches, expression_breaches, IsValid, IsValidExpression, Judges};
+ghost use Rattle.jsgen_alone.specs.Alone.{alone};
 ghost use Rattle.jsgen_check.specs.Verdict.{told};
 ghost use Rattle.jsgen_printer.specs.Printer.{pen_of, by_tables, name_written, unless_empty};
 ghost use Rattle.jsgen_place.specs.Place.{free, at_level};
@@ -335,7 +336,7 @@ impl<'a> Codegen<'a> {
         context: Context,
     ) -> Result<(), CodegenError>
         requires unfailed { has_failed self.old ≡ false }
-        ensures { Prints self.old self.new (lay (T.alone node.now (context_at context)) (pen_at self.old)) result }
+        ensures { Prints self.old self.new (lay (alone T.how (T.plain node.now) (context_at context)) (pen_at self.old)) result }
     {
         self.has_printed = true;
         node.print_alone(&mut self.printer, place_context(context));

@@ -1,10 +1,8 @@
 // Generated from tools/nodes/table.txt; edit that and run tools/nodes/generate.
 // What is printed by itself, or at a level.
 ghost use Rattle.jsgen_tree.specs.Rows.{switch_statement_row, switch_case_row, try_statement_row, catch_clause_row};
-ghost use Rattle.jsgen_syntax.specs.declared.precedence.Precedence.TheVariants.{Lowest};
-ghost use Rattle.jsgen_place.specs.Place.{at_level, among_statements};
-ghost use Rattle.jsgen_model.specs.Items.{◌⊕◌, due_semicolon};
-ghost use Rattle.jsgen_model.specs.Spell.{spell};
+ghost use Rattle.jsgen_alone.specs.Alone.{of_type};
+ghost use Rattle.jsgen_tree.specs.declared.types.NodeType.TheVariants as types;
 
 use crate::PrintAlone;
 use jsgen_nodes::PrintNode;
@@ -17,7 +15,9 @@ use jsgen_syntax::Precedence;
 use jsgen_tree::{CatchClause, SwitchCase, SwitchStatement, TryStatement};
 
 impl<N: PrintNode> PrintAlone for SwitchStatement<N> {
-    ghost alone = { λ n context. spell (switch_statement_row N.plain n) among_statements };
+    ghost plain = { switch_statement_row N.plain };
+
+    ghost how = { of_type types.SwitchStatement };
 
     fn print_alone(&self, p: &mut Printer<'_>, context: Context) {
         let _ = context;
@@ -26,7 +26,9 @@ impl<N: PrintNode> PrintAlone for SwitchStatement<N> {
 }
 
 impl<N: PrintNode> PrintAlone for SwitchCase<N> {
-    ghost alone = { λ n context. due_semicolon ⊕ spell (switch_case_row N.plain n) among_statements };
+    ghost plain = { switch_case_row N.plain };
+
+    ghost how = { of_type types.SwitchCase };
 
     fn print_alone(&self, p: &mut Printer<'_>, context: Context) {
         let _ = context;
@@ -36,7 +38,9 @@ impl<N: PrintNode> PrintAlone for SwitchCase<N> {
 }
 
 impl<N: PrintNode> PrintAlone for TryStatement<N> {
-    ghost alone = { λ n context. spell (try_statement_row N.plain n) among_statements };
+    ghost plain = { try_statement_row N.plain };
+
+    ghost how = { of_type types.TryStatement };
 
     fn print_alone(&self, p: &mut Printer<'_>, context: Context) {
         let _ = context;
@@ -45,7 +49,9 @@ impl<N: PrintNode> PrintAlone for TryStatement<N> {
 }
 
 impl<N: PrintNode> PrintAlone for CatchClause<N> {
-    ghost alone = { λ n context. spell (catch_clause_row N.plain n) (at_level Lowest context) };
+    ghost plain = { catch_clause_row N.plain };
+
+    ghost how = { of_type types.CatchClause };
 
     fn print_alone(&self, p: &mut Printer<'_>, context: Context) {
         print_catch_clause(self, p, Place::at_level(Precedence::Lowest, context));

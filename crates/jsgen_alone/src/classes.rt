@@ -1,9 +1,8 @@
 // Generated from tools/nodes/table.txt; edit that and run tools/nodes/generate.
 // What is printed by itself, or at a level.
 ghost use Rattle.jsgen_tree.specs.Rows.{private_identifier_row, private_field_expression_row, private_in_expression_row, class_row, class_body_row, static_block_row, method_definition_row, property_definition_row};
-ghost use Rattle.jsgen_syntax.specs.declared.precedence.Precedence.TheVariants.{Lowest};
-ghost use Rattle.jsgen_place.specs.Place.{at_level};
-ghost use Rattle.jsgen_model.specs.Spell.{spell};
+ghost use Rattle.jsgen_alone.specs.Alone.{of_type};
+ghost use Rattle.jsgen_tree.specs.declared.types.NodeType.TheVariants as types;
 
 use crate::{PrintAlone, PrintAtLevel};
 use jsgen_classes::{
@@ -21,7 +20,9 @@ use jsgen_tree::{
 };
 
 impl PrintAlone for PrivateIdentifier {
-    ghost alone = { λ n context. spell (private_identifier_row n) (at_level Lowest context) };
+    ghost plain = { private_identifier_row };
+
+    ghost how = { of_type types.PrivateIdentifier };
 
     fn print_alone(&self, p: &mut Printer<'_>, context: Context) {
         print_private_identifier(self, p, Place::at_level(Precedence::Lowest, context));
@@ -45,7 +46,9 @@ impl<N: PrintNode> PrintAtLevel for PrivateInExpression<N> {
 }
 
 impl<N: PrintNode> PrintAlone for Class<N> {
-    ghost alone = { λ n context. spell (class_row N.plain n) (at_level Lowest context) };
+    ghost plain = { class_row N.plain };
+
+    ghost how = { of_type types.Class };
 
     fn print_alone(&self, p: &mut Printer<'_>, context: Context) {
         print_class::<_, Inside>(self, p, Place::at_level(Precedence::Lowest, context));
@@ -53,7 +56,9 @@ impl<N: PrintNode> PrintAlone for Class<N> {
 }
 
 impl<N: PrintNode> PrintAlone for ClassBody<N> {
-    ghost alone = { λ n context. spell (class_body_row N.plain n) (at_level Lowest context) };
+    ghost plain = { class_body_row N.plain };
+
+    ghost how = { of_type types.ClassBody };
 
     fn print_alone(&self, p: &mut Printer<'_>, context: Context) {
         print_class_body::<_, Inside>(self, p, Place::at_level(Precedence::Lowest, context));
@@ -61,7 +66,9 @@ impl<N: PrintNode> PrintAlone for ClassBody<N> {
 }
 
 impl<N: PrintNode> PrintAlone for StaticBlock<N> {
-    ghost alone = { λ n context. spell (static_block_row N.plain n) (at_level Lowest context) };
+    ghost plain = { static_block_row N.plain };
+
+    ghost how = { of_type types.StaticBlock };
 
     fn print_alone(&self, p: &mut Printer<'_>, context: Context) {
         print_static_block::<_, InClass>(self, p, Place::at_level(Precedence::Lowest, context));
@@ -69,7 +76,9 @@ impl<N: PrintNode> PrintAlone for StaticBlock<N> {
 }
 
 impl<N: PrintNode> PrintAlone for MethodDefinition<N> {
-    ghost alone = { λ n context. spell (method_definition_row N.plain n) (at_level Lowest context) };
+    ghost plain = { method_definition_row N.plain };
+
+    ghost how = { of_type types.MethodDefinition };
 
     fn print_alone(&self, p: &mut Printer<'_>, context: Context) {
         print_method_definition::<_, InClass>(
@@ -81,7 +90,9 @@ impl<N: PrintNode> PrintAlone for MethodDefinition<N> {
 }
 
 impl<N: PrintNode> PrintAlone for PropertyDefinition<N> {
-    ghost alone = { λ n context. spell (property_definition_row N.plain n) (at_level Lowest context) };
+    ghost plain = { property_definition_row N.plain };
+
+    ghost how = { of_type types.PropertyDefinition };
 
     fn print_alone(&self, p: &mut Printer<'_>, context: Context) {
         print_property_definition::<_, InClass>(

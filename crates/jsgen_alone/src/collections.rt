@@ -1,9 +1,8 @@
 // Generated from tools/nodes/table.txt; edit that and run tools/nodes/generate.
 // What is printed by itself, or at a level.
 ghost use Rattle.jsgen_tree.specs.Rows.{spread_element_row, array_expression_row, object_property_row, object_expression_row};
-ghost use Rattle.jsgen_syntax.specs.declared.precedence.Precedence.TheVariants.{Lowest, Comma};
-ghost use Rattle.jsgen_place.specs.Place.{at_level, in_brackets};
-ghost use Rattle.jsgen_model.specs.Spell.{spell};
+ghost use Rattle.jsgen_alone.specs.Alone.{of_type};
+ghost use Rattle.jsgen_tree.specs.declared.types.NodeType.TheVariants as types;
 
 use crate::{PrintAlone, PrintAtLevel};
 use jsgen_nodes::collections::{
@@ -17,7 +16,9 @@ use jsgen_syntax::Precedence;
 use jsgen_tree::{ArrayExpression, ObjectExpression, ObjectProperty, SpreadElement};
 
 impl<N: PrintNode> PrintAlone for SpreadElement<N> {
-    ghost alone = { λ n context. spell (spread_element_row N.plain n) (at_level Lowest context) };
+    ghost plain = { spread_element_row N.plain };
+
+    ghost how = { of_type types.SpreadElement };
 
     fn print_alone(&self, p: &mut Printer<'_>, context: Context) {
         print_spread_element::<_, Inside>(self, p, Place::at_level(Precedence::Lowest, context));
@@ -25,7 +26,9 @@ impl<N: PrintNode> PrintAlone for SpreadElement<N> {
 }
 
 impl<N: PrintNode> PrintAlone for ArrayExpression<N> {
-    ghost alone = { λ n context. spell (array_expression_row N.plain n) (at_level Lowest context) };
+    ghost plain = { array_expression_row N.plain };
+
+    ghost how = { of_type types.ArrayExpression };
 
     fn print_alone(&self, p: &mut Printer<'_>, context: Context) {
         print_array_expression(self, p, Place::at_level(Precedence::Lowest, context));
@@ -33,7 +36,9 @@ impl<N: PrintNode> PrintAlone for ArrayExpression<N> {
 }
 
 impl<N: PrintNode> PrintAlone for ObjectProperty<N> {
-    ghost alone = { λ n context. spell (object_property_row N.plain n) (in_brackets Comma) };
+    ghost plain = { object_property_row N.plain };
+
+    ghost how = { of_type types.ObjectProperty };
 
     fn print_alone(&self, p: &mut Printer<'_>, context: Context) {
         let _ = context;

@@ -1,9 +1,8 @@
 // Generated from tools/nodes/table.txt; edit that and run tools/nodes/generate.
 // What is printed by itself, or at a level.
 ghost use Rattle.jsgen_tree.specs.Rows.{identifier_reference_row, this_expression_row, null_literal_row, boolean_literal_row, numeric_literal_row, big_int_literal_row, string_literal_row, reg_exp_literal_row, parenthesized_expression_row, binary_expression_row, logical_expression_row, identifier_name_row, static_member_expression_row, computed_member_expression_row, call_expression_row, chain_expression_row};
-ghost use Rattle.jsgen_syntax.specs.declared.precedence.Precedence.TheVariants.{Lowest};
-ghost use Rattle.jsgen_place.specs.Place.{at_level};
-ghost use Rattle.jsgen_model.specs.Spell.{spell};
+ghost use Rattle.jsgen_alone.specs.Alone.{of_type};
+ghost use Rattle.jsgen_tree.specs.declared.types.NodeType.TheVariants as types;
 
 use crate::{PrintAlone, PrintAtLevel};
 use jsgen_inside::print_identifier_reference;
@@ -28,7 +27,9 @@ use jsgen_tree::{
 };
 
 impl PrintAlone for IdentifierReference {
-    ghost alone = { λ n context. spell (identifier_reference_row n) (at_level Lowest context) };
+    ghost plain = { identifier_reference_row };
+
+    ghost how = { of_type types.IdentifierReference };
 
     fn print_alone(&self, p: &mut Printer<'_>, context: Context) {
         print_identifier_reference(self, p, Place::at_level(Precedence::Lowest, context));
@@ -36,7 +37,9 @@ impl PrintAlone for IdentifierReference {
 }
 
 impl PrintAlone for ThisExpression {
-    ghost alone = { λ n context. spell (this_expression_row n) (at_level Lowest context) };
+    ghost plain = { this_expression_row };
+
+    ghost how = { of_type types.ThisExpression };
 
     fn print_alone(&self, p: &mut Printer<'_>, context: Context) {
         print_this_expression(self, p, Place::at_level(Precedence::Lowest, context));
@@ -44,7 +47,9 @@ impl PrintAlone for ThisExpression {
 }
 
 impl PrintAlone for NullLiteral {
-    ghost alone = { λ n context. spell (null_literal_row n) (at_level Lowest context) };
+    ghost plain = { null_literal_row };
+
+    ghost how = { of_type types.NullLiteral };
 
     fn print_alone(&self, p: &mut Printer<'_>, context: Context) {
         print_null_literal(self, p, Place::at_level(Precedence::Lowest, context));
@@ -52,7 +57,9 @@ impl PrintAlone for NullLiteral {
 }
 
 impl PrintAlone for BooleanLiteral {
-    ghost alone = { λ n context. spell (boolean_literal_row n) (at_level Lowest context) };
+    ghost plain = { boolean_literal_row };
+
+    ghost how = { of_type types.BooleanLiteral };
 
     fn print_alone(&self, p: &mut Printer<'_>, context: Context) {
         print_boolean_literal(self, p, Place::at_level(Precedence::Lowest, context));
@@ -76,7 +83,9 @@ impl PrintAtLevel for BigIntLiteral {
 }
 
 impl PrintAlone for StringLiteral {
-    ghost alone = { λ n context. spell (string_literal_row n) (at_level Lowest context) };
+    ghost plain = { string_literal_row };
+
+    ghost how = { of_type types.StringLiteral };
 
     fn print_alone(&self, p: &mut Printer<'_>, context: Context) {
         print_string_literal(self, p, Place::at_level(Precedence::Lowest, context));
@@ -84,7 +93,9 @@ impl PrintAlone for StringLiteral {
 }
 
 impl PrintAlone for RegExpLiteral {
-    ghost alone = { λ n context. spell (reg_exp_literal_row n) (at_level Lowest context) };
+    ghost plain = { reg_exp_literal_row };
+
+    ghost how = { of_type types.RegExpLiteral };
 
     fn print_alone(&self, p: &mut Printer<'_>, context: Context) {
         print_reg_exp_literal(self, p, Place::at_level(Precedence::Lowest, context));
@@ -116,7 +127,9 @@ impl<N: PrintNode> PrintAtLevel for LogicalExpression<N> {
 }
 
 impl PrintAlone for IdentifierName {
-    ghost alone = { λ n context. spell (identifier_name_row n) (at_level Lowest context) };
+    ghost plain = { identifier_name_row };
+
+    ghost how = { of_type types.IdentifierName };
 
     fn print_alone(&self, p: &mut Printer<'_>, context: Context) {
         print_identifier_name(self, p, Place::at_level(Precedence::Lowest, context));

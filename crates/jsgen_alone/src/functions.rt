@@ -1,9 +1,8 @@
 // Generated from tools/nodes/table.txt; edit that and run tools/nodes/generate.
 // What is printed by itself, or at a level.
 ghost use Rattle.jsgen_tree.specs.Rows.{formal_parameter_row, formal_parameter_rest_row, formal_parameters_row, function_row, function_body_row, arrow_function_expression_row, await_expression_row, yield_expression_row};
-ghost use Rattle.jsgen_syntax.specs.declared.precedence.Precedence.TheVariants.{Lowest};
-ghost use Rattle.jsgen_place.specs.Place.{at_level};
-ghost use Rattle.jsgen_model.specs.Spell.{spell};
+ghost use Rattle.jsgen_alone.specs.Alone.{of_type};
+ghost use Rattle.jsgen_tree.specs.declared.types.NodeType.TheVariants as types;
 
 use crate::{PrintAlone, PrintAtLevel};
 use jsgen_nodes::functions::{
@@ -23,7 +22,9 @@ use jsgen_tree::{
 };
 
 impl<N: PrintNode> PrintAlone for FormalParameter<N> {
-    ghost alone = { λ n context. spell (formal_parameter_row N.plain n) (at_level Lowest context) };
+    ghost plain = { formal_parameter_row N.plain };
+
+    ghost how = { of_type types.FormalParameter };
 
     fn print_alone(&self, p: &mut Printer<'_>, context: Context) {
         print_formal_parameter::<_, Inside>(self, p, Place::at_level(Precedence::Lowest, context));
@@ -31,7 +32,9 @@ impl<N: PrintNode> PrintAlone for FormalParameter<N> {
 }
 
 impl<N: PrintNode> PrintAlone for FormalParameterRest<N> {
-    ghost alone = { λ n context. spell (formal_parameter_rest_row N.plain n) (at_level Lowest context) };
+    ghost plain = { formal_parameter_rest_row N.plain };
+
+    ghost how = { of_type types.FormalParameterRest };
 
     fn print_alone(&self, p: &mut Printer<'_>, context: Context) {
         print_formal_parameter_rest::<_, Inside>(
@@ -43,7 +46,9 @@ impl<N: PrintNode> PrintAlone for FormalParameterRest<N> {
 }
 
 impl<N: PrintNode> PrintAlone for FormalParameters<N> {
-    ghost alone = { λ n context. spell (formal_parameters_row N.plain n) (at_level Lowest context) };
+    ghost plain = { formal_parameters_row N.plain };
+
+    ghost how = { of_type types.FormalParameters };
 
     fn print_alone(&self, p: &mut Printer<'_>, context: Context) {
         print_formal_parameters(self, p, Place::at_level(Precedence::Lowest, context));
@@ -51,7 +56,9 @@ impl<N: PrintNode> PrintAlone for FormalParameters<N> {
 }
 
 impl<N: PrintNode> PrintAlone for Function<N> {
-    ghost alone = { λ n context. spell (function_row N.plain n) (at_level Lowest context) };
+    ghost plain = { function_row N.plain };
+
+    ghost how = { of_type types.Function };
 
     fn print_alone(&self, p: &mut Printer<'_>, context: Context) {
         print_function(self, p, Place::at_level(Precedence::Lowest, context));
@@ -59,7 +66,9 @@ impl<N: PrintNode> PrintAlone for Function<N> {
 }
 
 impl<N: PrintNode> PrintAlone for FunctionBody<N> {
-    ghost alone = { λ n context. spell (function_body_row N.plain n) (at_level Lowest context) };
+    ghost plain = { function_body_row N.plain };
+
+    ghost how = { of_type types.FunctionBody };
 
     fn print_alone(&self, p: &mut Printer<'_>, context: Context) {
         print_function_body(self, p, Place::at_level(Precedence::Lowest, context));

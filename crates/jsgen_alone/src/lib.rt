@@ -19,17 +19,18 @@ mod templates;
 use jsgen_place::{Context, Place};
 use jsgen_printer::Printer;
 
-/// What is printed by itself, at a place that its type says.
+/// What is printed by itself, as specs/Alone.antt says of its type, or of the set of which it is a member.
 pub trait PrintAlone {
-    ghost use Rattle.jsgen_place.specs.declared.place.Context.{Context};
-    ghost use Rattle.jsgen_model.specs.Items.{Items};
+    ghost use Rattle.jsgen_tree.specs.Tree.{Tree};
     ghost use Rattle.jsgen_printer.specs.Steps.{Lays};
+    ghost use Rattle.jsgen_alone.specs.Alone.{How, alone};
 
-    // Its items, in this context.
-    ghost alone: { Self → Context → Items };
+    ghost plain: { Self → Tree };
+
+    ghost how: { How };
 
     fn print_alone(&self, p: &mut Printer<'_>, context: Context)
-        ensures { Lays p.old p.new (alone self.now context) };
+        ensures { Lays p.old p.new (alone how (plain self.now) context) };
 }
 
 /// What is printed at a level, which decides whether parentheses stand round it.

@@ -1,9 +1,8 @@
 // Generated from tools/nodes/table.txt; edit that and run tools/nodes/generate.
 // What is printed by itself, or at a level.
 ghost use Rattle.jsgen_tree.specs.Rows.{for_statement_row, for_in_statement_row, for_of_statement_row, while_statement_row, do_while_statement_row, label_identifier_row, labeled_statement_row, continue_statement_row, break_statement_row, return_statement_row, throw_statement_row, debugger_statement_row};
-ghost use Rattle.jsgen_syntax.specs.declared.precedence.Precedence.TheVariants.{Lowest};
-ghost use Rattle.jsgen_place.specs.Place.{at_level, among_statements};
-ghost use Rattle.jsgen_model.specs.Spell.{spell};
+ghost use Rattle.jsgen_alone.specs.Alone.{of_type};
+ghost use Rattle.jsgen_tree.specs.declared.types.NodeType.TheVariants as types;
 
 use crate::PrintAlone;
 use jsgen_nodes::loops::{
@@ -25,7 +24,9 @@ use jsgen_tree::{
 };
 
 impl<N: PrintNode> PrintAlone for ForStatement<N> {
-    ghost alone = { λ n context. spell (for_statement_row N.plain n) among_statements };
+    ghost plain = { for_statement_row N.plain };
+
+    ghost how = { of_type types.ForStatement };
 
     fn print_alone(&self, p: &mut Printer<'_>, context: Context) {
         let _ = context;
@@ -34,7 +35,9 @@ impl<N: PrintNode> PrintAlone for ForStatement<N> {
 }
 
 impl<N: PrintNode> PrintAlone for ForInStatement<N> {
-    ghost alone = { λ n context. spell (for_in_statement_row N.plain n) among_statements };
+    ghost plain = { for_in_statement_row N.plain };
+
+    ghost how = { of_type types.ForInStatement };
 
     fn print_alone(&self, p: &mut Printer<'_>, context: Context) {
         let _ = context;
@@ -43,7 +46,9 @@ impl<N: PrintNode> PrintAlone for ForInStatement<N> {
 }
 
 impl<N: PrintNode> PrintAlone for ForOfStatement<N> {
-    ghost alone = { λ n context. spell (for_of_statement_row N.plain n) among_statements };
+    ghost plain = { for_of_statement_row N.plain };
+
+    ghost how = { of_type types.ForOfStatement };
 
     fn print_alone(&self, p: &mut Printer<'_>, context: Context) {
         let _ = context;
@@ -52,7 +57,9 @@ impl<N: PrintNode> PrintAlone for ForOfStatement<N> {
 }
 
 impl<N: PrintNode> PrintAlone for WhileStatement<N> {
-    ghost alone = { λ n context. spell (while_statement_row N.plain n) among_statements };
+    ghost plain = { while_statement_row N.plain };
+
+    ghost how = { of_type types.WhileStatement };
 
     fn print_alone(&self, p: &mut Printer<'_>, context: Context) {
         let _ = context;
@@ -61,7 +68,9 @@ impl<N: PrintNode> PrintAlone for WhileStatement<N> {
 }
 
 impl<N: PrintNode> PrintAlone for DoWhileStatement<N> {
-    ghost alone = { λ n context. spell (do_while_statement_row N.plain n) among_statements };
+    ghost plain = { do_while_statement_row N.plain };
+
+    ghost how = { of_type types.DoWhileStatement };
 
     fn print_alone(&self, p: &mut Printer<'_>, context: Context) {
         let _ = context;
@@ -70,7 +79,9 @@ impl<N: PrintNode> PrintAlone for DoWhileStatement<N> {
 }
 
 impl PrintAlone for LabelIdentifier {
-    ghost alone = { λ n context. spell (label_identifier_row n) (at_level Lowest context) };
+    ghost plain = { label_identifier_row };
+
+    ghost how = { of_type types.LabelIdentifier };
 
     fn print_alone(&self, p: &mut Printer<'_>, context: Context) {
         print_label_identifier(self, p, Place::at_level(Precedence::Lowest, context));
@@ -78,7 +89,9 @@ impl PrintAlone for LabelIdentifier {
 }
 
 impl<N: PrintNode> PrintAlone for LabeledStatement<N> {
-    ghost alone = { λ n context. spell (labeled_statement_row N.plain n) among_statements };
+    ghost plain = { labeled_statement_row N.plain };
+
+    ghost how = { of_type types.LabeledStatement };
 
     fn print_alone(&self, p: &mut Printer<'_>, context: Context) {
         let _ = context;
@@ -87,7 +100,9 @@ impl<N: PrintNode> PrintAlone for LabeledStatement<N> {
 }
 
 impl PrintAlone for ContinueStatement {
-    ghost alone = { λ n context. spell (continue_statement_row n) among_statements };
+    ghost plain = { continue_statement_row };
+
+    ghost how = { of_type types.ContinueStatement };
 
     fn print_alone(&self, p: &mut Printer<'_>, context: Context) {
         let _ = context;
@@ -96,7 +111,9 @@ impl PrintAlone for ContinueStatement {
 }
 
 impl PrintAlone for BreakStatement {
-    ghost alone = { λ n context. spell (break_statement_row n) among_statements };
+    ghost plain = { break_statement_row };
+
+    ghost how = { of_type types.BreakStatement };
 
     fn print_alone(&self, p: &mut Printer<'_>, context: Context) {
         let _ = context;
@@ -105,7 +122,9 @@ impl PrintAlone for BreakStatement {
 }
 
 impl<N: PrintNode> PrintAlone for ReturnStatement<N> {
-    ghost alone = { λ n context. spell (return_statement_row N.plain n) among_statements };
+    ghost plain = { return_statement_row N.plain };
+
+    ghost how = { of_type types.ReturnStatement };
 
     fn print_alone(&self, p: &mut Printer<'_>, context: Context) {
         let _ = context;
@@ -114,7 +133,9 @@ impl<N: PrintNode> PrintAlone for ReturnStatement<N> {
 }
 
 impl<N: PrintNode> PrintAlone for ThrowStatement<N> {
-    ghost alone = { λ n context. spell (throw_statement_row N.plain n) among_statements };
+    ghost plain = { throw_statement_row N.plain };
+
+    ghost how = { of_type types.ThrowStatement };
 
     fn print_alone(&self, p: &mut Printer<'_>, context: Context) {
         let _ = context;
@@ -123,7 +144,9 @@ impl<N: PrintNode> PrintAlone for ThrowStatement<N> {
 }
 
 impl PrintAlone for DebuggerStatement {
-    ghost alone = { λ n context. spell (debugger_statement_row n) among_statements };
+    ghost plain = { debugger_statement_row };
+
+    ghost how = { of_type types.DebuggerStatement };
 
     fn print_alone(&self, p: &mut Printer<'_>, context: Context) {
         let _ = context;

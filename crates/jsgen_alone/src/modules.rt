@@ -1,9 +1,8 @@
 // Generated from tools/nodes/table.txt; edit that and run tools/nodes/generate.
 // What is printed by itself, or at a level.
 ghost use Rattle.jsgen_tree.specs.Rows.{hashbang_row, import_declaration_row, with_clause_row, import_attribute_row, export_declaration_row, export_named_declaration_row, export_from_declaration_row, export_specifier_row, export_all_declaration_row, export_default_declaration_row};
-ghost use Rattle.jsgen_syntax.specs.declared.precedence.Precedence.TheVariants.{Lowest};
-ghost use Rattle.jsgen_place.specs.Place.{at_level};
-ghost use Rattle.jsgen_model.specs.Spell.{spell};
+ghost use Rattle.jsgen_alone.specs.Alone.{of_type};
+ghost use Rattle.jsgen_tree.specs.declared.types.NodeType.TheVariants as types;
 
 use crate::PrintAlone;
 use jsgen_modules::{
@@ -23,7 +22,9 @@ use jsgen_tree::{
 };
 
 impl PrintAlone for Hashbang {
-    ghost alone = { λ n context. spell (hashbang_row n) (at_level Lowest context) };
+    ghost plain = { hashbang_row };
+
+    ghost how = { of_type types.Hashbang };
 
     fn print_alone(&self, p: &mut Printer<'_>, context: Context) {
         print_hashbang(self, p, Place::at_level(Precedence::Lowest, context));
@@ -31,7 +32,9 @@ impl PrintAlone for Hashbang {
 }
 
 impl PrintAlone for ImportDeclaration {
-    ghost alone = { λ n context. spell (import_declaration_row n) (at_level Lowest context) };
+    ghost plain = { import_declaration_row };
+
+    ghost how = { of_type types.ImportDeclaration };
 
     fn print_alone(&self, p: &mut Printer<'_>, context: Context) {
         print_import_declaration(self, p, Place::at_level(Precedence::Lowest, context));
@@ -39,7 +42,9 @@ impl PrintAlone for ImportDeclaration {
 }
 
 impl PrintAlone for WithClause {
-    ghost alone = { λ n context. spell (with_clause_row n) (at_level Lowest context) };
+    ghost plain = { with_clause_row };
+
+    ghost how = { of_type types.WithClause };
 
     fn print_alone(&self, p: &mut Printer<'_>, context: Context) {
         print_with_clause(self, p, Place::at_level(Precedence::Lowest, context));
@@ -47,7 +52,9 @@ impl PrintAlone for WithClause {
 }
 
 impl PrintAlone for ImportAttribute {
-    ghost alone = { λ n context. spell (import_attribute_row n) (at_level Lowest context) };
+    ghost plain = { import_attribute_row };
+
+    ghost how = { of_type types.ImportAttribute };
 
     fn print_alone(&self, p: &mut Printer<'_>, context: Context) {
         print_import_attribute(self, p, Place::at_level(Precedence::Lowest, context));
@@ -55,7 +62,9 @@ impl PrintAlone for ImportAttribute {
 }
 
 impl<N: PrintNode> PrintAlone for ExportDeclaration<N> {
-    ghost alone = { λ n context. spell (export_declaration_row N.plain n) (at_level Lowest context) };
+    ghost plain = { export_declaration_row N.plain };
+
+    ghost how = { of_type types.ExportDeclaration };
 
     fn print_alone(&self, p: &mut Printer<'_>, context: Context) {
         print_export_declaration::<_, Inside>(
@@ -67,7 +76,9 @@ impl<N: PrintNode> PrintAlone for ExportDeclaration<N> {
 }
 
 impl PrintAlone for ExportNamedDeclaration {
-    ghost alone = { λ n context. spell (export_named_declaration_row n) (at_level Lowest context) };
+    ghost plain = { export_named_declaration_row };
+
+    ghost how = { of_type types.ExportNamedDeclaration };
 
     fn print_alone(&self, p: &mut Printer<'_>, context: Context) {
         print_export_named_declaration(self, p, Place::at_level(Precedence::Lowest, context));
@@ -75,7 +86,9 @@ impl PrintAlone for ExportNamedDeclaration {
 }
 
 impl PrintAlone for ExportFromDeclaration {
-    ghost alone = { λ n context. spell (export_from_declaration_row n) (at_level Lowest context) };
+    ghost plain = { export_from_declaration_row };
+
+    ghost how = { of_type types.ExportFromDeclaration };
 
     fn print_alone(&self, p: &mut Printer<'_>, context: Context) {
         print_export_from_declaration(self, p, Place::at_level(Precedence::Lowest, context));
@@ -83,7 +96,9 @@ impl PrintAlone for ExportFromDeclaration {
 }
 
 impl PrintAlone for ExportSpecifier {
-    ghost alone = { λ n context. spell (export_specifier_row n) (at_level Lowest context) };
+    ghost plain = { export_specifier_row };
+
+    ghost how = { of_type types.ExportSpecifier };
 
     fn print_alone(&self, p: &mut Printer<'_>, context: Context) {
         print_export_specifier(self, p, Place::at_level(Precedence::Lowest, context));
@@ -91,7 +106,9 @@ impl PrintAlone for ExportSpecifier {
 }
 
 impl PrintAlone for ExportAllDeclaration {
-    ghost alone = { λ n context. spell (export_all_declaration_row n) (at_level Lowest context) };
+    ghost plain = { export_all_declaration_row };
+
+    ghost how = { of_type types.ExportAllDeclaration };
 
     fn print_alone(&self, p: &mut Printer<'_>, context: Context) {
         print_export_all_declaration(self, p, Place::at_level(Precedence::Lowest, context));
@@ -99,7 +116,9 @@ impl PrintAlone for ExportAllDeclaration {
 }
 
 impl<N: PrintNode> PrintAlone for ExportDefaultDeclaration<N> {
-    ghost alone = { λ n context. spell (export_default_declaration_row N.plain n) (at_level Lowest context) };
+    ghost plain = { export_default_declaration_row N.plain };
+
+    ghost how = { of_type types.ExportDefaultDeclaration };
 
     fn print_alone(&self, p: &mut Printer<'_>, context: Context) {
         print_export_default_declaration(self, p, Place::at_level(Precedence::Lowest, context));

@@ -1,9 +1,8 @@
 // Generated from tools/nodes/table.txt; edit that and run tools/nodes/generate.
 // What is printed by itself, or at a level.
 ghost use Rattle.jsgen_tree.specs.Rows.{unary_expression_row, new_target_row, update_expression_row, new_expression_row, super_row, import_meta_row};
-ghost use Rattle.jsgen_syntax.specs.declared.precedence.Precedence.TheVariants.{Lowest};
-ghost use Rattle.jsgen_place.specs.Place.{at_level};
-ghost use Rattle.jsgen_model.specs.Spell.{spell};
+ghost use Rattle.jsgen_alone.specs.Alone.{of_type};
+ghost use Rattle.jsgen_tree.specs.declared.types.NodeType.TheVariants as types;
 
 use crate::{PrintAlone, PrintAtLevel};
 use jsgen_nodes::operations::{print_new_expression, print_update_expression};
@@ -23,7 +22,9 @@ impl<N: PrintNode> PrintAtLevel for UnaryExpression<N> {
 }
 
 impl PrintAlone for NewTarget {
-    ghost alone = { λ n context. spell (new_target_row n) (at_level Lowest context) };
+    ghost plain = { new_target_row };
+
+    ghost how = { of_type types.NewTarget };
 
     fn print_alone(&self, p: &mut Printer<'_>, context: Context) {
         print_new_target(self, p, Place::at_level(Precedence::Lowest, context));
@@ -47,7 +48,9 @@ impl<N: PrintNode> PrintAtLevel for NewExpression<N> {
 }
 
 impl PrintAlone for Super {
-    ghost alone = { λ n context. spell (super_row n) (at_level Lowest context) };
+    ghost plain = { super_row };
+
+    ghost how = { of_type types.Super };
 
     fn print_alone(&self, p: &mut Printer<'_>, context: Context) {
         print_super(self, p, Place::at_level(Precedence::Lowest, context));
@@ -55,7 +58,9 @@ impl PrintAlone for Super {
 }
 
 impl PrintAlone for ImportMeta {
-    ghost alone = { λ n context. spell (import_meta_row n) (at_level Lowest context) };
+    ghost plain = { import_meta_row };
+
+    ghost how = { of_type types.ImportMeta };
 
     fn print_alone(&self, p: &mut Printer<'_>, context: Context) {
         print_import_meta(self, p, Place::at_level(Precedence::Lowest, context));

@@ -1,9 +1,8 @@
 // Generated from tools/nodes/table.txt; edit that and run tools/nodes/generate.
 // What is printed by itself, or at a level.
 ghost use Rattle.jsgen_tree.specs.Rows.{object_pattern_row, binding_property_row, binding_rest_element_row, array_pattern_row, assignment_pattern_row};
-ghost use Rattle.jsgen_syntax.specs.declared.precedence.Precedence.TheVariants.{Lowest};
-ghost use Rattle.jsgen_place.specs.Place.{at_level};
-ghost use Rattle.jsgen_model.specs.Spell.{spell};
+ghost use Rattle.jsgen_alone.specs.Alone.{of_type};
+ghost use Rattle.jsgen_tree.specs.declared.types.NodeType.TheVariants as types;
 
 use crate::PrintAlone;
 use jsgen_nodes::patterns::{print_array_pattern, print_binding_property, print_object_pattern};
@@ -17,7 +16,9 @@ use jsgen_tree::{
 };
 
 impl<N: PrintNode> PrintAlone for ObjectPattern<N> {
-    ghost alone = { λ n context. spell (object_pattern_row N.plain n) (at_level Lowest context) };
+    ghost plain = { object_pattern_row N.plain };
+
+    ghost how = { of_type types.ObjectPattern };
 
     fn print_alone(&self, p: &mut Printer<'_>, context: Context) {
         print_object_pattern(self, p, Place::at_level(Precedence::Lowest, context));
@@ -25,7 +26,9 @@ impl<N: PrintNode> PrintAlone for ObjectPattern<N> {
 }
 
 impl<N: PrintNode> PrintAlone for BindingProperty<N> {
-    ghost alone = { λ n context. spell (binding_property_row N.plain n) (at_level Lowest context) };
+    ghost plain = { binding_property_row N.plain };
+
+    ghost how = { of_type types.BindingProperty };
 
     fn print_alone(&self, p: &mut Printer<'_>, context: Context) {
         print_binding_property(self, p, Place::at_level(Precedence::Lowest, context));
@@ -33,7 +36,9 @@ impl<N: PrintNode> PrintAlone for BindingProperty<N> {
 }
 
 impl<N: PrintNode> PrintAlone for BindingRestElement<N> {
-    ghost alone = { λ n context. spell (binding_rest_element_row N.plain n) (at_level Lowest context) };
+    ghost plain = { binding_rest_element_row N.plain };
+
+    ghost how = { of_type types.BindingRestElement };
 
     fn print_alone(&self, p: &mut Printer<'_>, context: Context) {
         print_binding_rest_element::<_, Inside>(
@@ -45,7 +50,9 @@ impl<N: PrintNode> PrintAlone for BindingRestElement<N> {
 }
 
 impl<N: PrintNode> PrintAlone for ArrayPattern<N> {
-    ghost alone = { λ n context. spell (array_pattern_row N.plain n) (at_level Lowest context) };
+    ghost plain = { array_pattern_row N.plain };
+
+    ghost how = { of_type types.ArrayPattern };
 
     fn print_alone(&self, p: &mut Printer<'_>, context: Context) {
         print_array_pattern(self, p, Place::at_level(Precedence::Lowest, context));
@@ -53,7 +60,9 @@ impl<N: PrintNode> PrintAlone for ArrayPattern<N> {
 }
 
 impl<N: PrintNode> PrintAlone for AssignmentPattern<N> {
-    ghost alone = { λ n context. spell (assignment_pattern_row N.plain n) (at_level Lowest context) };
+    ghost plain = { assignment_pattern_row N.plain };
+
+    ghost how = { of_type types.AssignmentPattern };
 
     fn print_alone(&self, p: &mut Printer<'_>, context: Context) {
         print_assignment_pattern::<_, Inside>(

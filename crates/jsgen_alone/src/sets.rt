@@ -1,11 +1,8 @@
 // Generated from tools/nodes/table.txt; edit that and run tools/nodes/generate.
 // What is printed by itself, or at a level.
-ghost use Rattle.jsgen_tree.specs.Tree.{type_of};
 ghost use Rattle.jsgen_tree.specs.Rows.{in_argument, in_array_expression_element, in_member_expression, in_simple_assignment_target, in_assignment_target_pattern, in_assignment_target_maybe_default, in_assignment_target_property, in_for_statement_init, in_for_statement_left, in_object_property_kind, in_property_key, in_module_export_name, in_export_default_declaration_kind, expression_plain, assignment_target_plain, statement_plain, binding_pattern_plain, class_element_plain};
-ghost use Rattle.jsgen_syntax.specs.declared.precedence.Precedence.TheVariants.{Lowest, Comma};
-ghost use Rattle.jsgen_place.specs.Place.{at_level, in_brackets, among_statements, within_statement, loop_head, plainly};
-ghost use Rattle.jsgen_model.specs.Items.{◌⊕◌};
-ghost use Rattle.jsgen_model.specs.Spell.{spell, key_text, left_place, element_end, default_items, is_declared};
+ghost use Rattle.jsgen_alone.specs.Alone.{by_itself, of_set};
+ghost use Rattle.jsgen_tree.specs.declared.types.NodeSet.TheVariants as sets;
 
 use crate::{PrintAlone, PrintAtLevel};
 use jsgen_modules::print_module_export_name;
@@ -43,7 +40,9 @@ impl<N: PrintNode> PrintAtLevel for Expression<N> {
 }
 
 impl<N: PrintNode> PrintAlone for Argument<N> {
-    ghost alone = { λ n context. spell (in_argument N.plain n) (in_brackets Comma) };
+    ghost plain = { in_argument N.plain };
+
+    ghost how = { of_set sets.Argument };
 
     fn print_alone(&self, p: &mut Printer<'_>, context: Context) {
         let _ = context;
@@ -56,7 +55,9 @@ impl<N: PrintNode> PrintAlone for Argument<N> {
 }
 
 impl<N: PrintNode> PrintAlone for ArrayExpressionElement<N> {
-    ghost alone = { λ n context. spell (in_array_expression_element N.plain n) (in_brackets Comma) };
+    ghost plain = { in_array_expression_element N.plain };
+
+    ghost how = { of_set sets.ArrayExpressionElement };
 
     fn print_alone(&self, p: &mut Printer<'_>, context: Context) {
         let _ = context;
@@ -87,7 +88,9 @@ impl<N: PrintNode> PrintAtLevel for SimpleAssignmentTarget<N> {
 }
 
 impl<N: PrintNode> PrintAlone for AssignmentTargetPattern<N> {
-    ghost alone = { λ n context. spell (in_assignment_target_pattern N.plain n) (at_level Lowest context) };
+    ghost plain = { in_assignment_target_pattern N.plain };
+
+    ghost how = { by_itself };
 
     fn print_alone(&self, p: &mut Printer<'_>, context: Context) {
         let place = Place::at_level(Precedence::Lowest, context);
@@ -103,7 +106,9 @@ impl<N: PrintNode> PrintAlone for AssignmentTargetPattern<N> {
 }
 
 impl<N: PrintNode> PrintAlone for AssignmentTarget<N> {
-    ghost alone = { λ n context. spell (assignment_target_plain N.plain n) (in_brackets Comma) };
+    ghost plain = { assignment_target_plain N.plain };
+
+    ghost how = { of_set sets.AssignmentTarget };
 
     fn print_alone(&self, p: &mut Printer<'_>, context: Context) {
         let _ = context;
@@ -112,7 +117,9 @@ impl<N: PrintNode> PrintAlone for AssignmentTarget<N> {
 }
 
 impl<N: PrintNode> PrintAlone for AssignmentTargetMaybeDefault<N> {
-    ghost alone = { λ n context. spell (in_assignment_target_maybe_default N.plain n) (in_brackets Comma) };
+    ghost plain = { in_assignment_target_maybe_default N.plain };
+
+    ghost how = { of_set sets.AssignmentTargetMaybeDefault };
 
     fn print_alone(&self, p: &mut Printer<'_>, context: Context) {
         let _ = context;
@@ -126,7 +133,9 @@ impl<N: PrintNode> PrintAlone for AssignmentTargetMaybeDefault<N> {
 }
 
 impl<N: PrintNode> PrintAlone for AssignmentTargetProperty<N> {
-    ghost alone = { λ n context. spell (in_assignment_target_property N.plain n) (at_level Lowest context) };
+    ghost plain = { in_assignment_target_property N.plain };
+
+    ghost how = { of_set sets.AssignmentTargetProperty };
 
     fn print_alone(&self, p: &mut Printer<'_>, context: Context) {
         let place = Place::at_level(Precedence::Lowest, context);
@@ -140,7 +149,9 @@ impl<N: PrintNode> PrintAlone for AssignmentTargetProperty<N> {
 }
 
 impl<N: PrintNode> PrintAlone for ForStatementInit<N> {
-    ghost alone = { λ n context. spell (in_for_statement_init N.plain n) loop_head };
+    ghost plain = { in_for_statement_init N.plain };
+
+    ghost how = { of_set sets.ForStatementInit };
 
     fn print_alone(&self, p: &mut Printer<'_>, context: Context) {
         let _ = context;
@@ -155,7 +166,9 @@ impl<N: PrintNode> PrintAlone for ForStatementInit<N> {
 }
 
 impl<N: PrintNode> PrintAlone for ForStatementLeft<N> {
-    ghost alone = { λ n context. spell (in_for_statement_left N.plain n) (left_place (type_of (in_for_statement_left N.plain n))) };
+    ghost plain = { in_for_statement_left N.plain };
+
+    ghost how = { of_set sets.ForStatementLeft };
 
     fn print_alone(&self, p: &mut Printer<'_>, context: Context) {
         let _ = context;
@@ -164,7 +177,9 @@ impl<N: PrintNode> PrintAlone for ForStatementLeft<N> {
 }
 
 impl<N: PrintNode> PrintAlone for ObjectPropertyKind<N> {
-    ghost alone = { λ n context. spell (in_object_property_kind N.plain n) (in_brackets Comma) };
+    ghost plain = { in_object_property_kind N.plain };
+
+    ghost how = { of_set sets.ObjectPropertyKind };
 
     fn print_alone(&self, p: &mut Printer<'_>, context: Context) {
         let _ = context;
@@ -179,7 +194,9 @@ impl<N: PrintNode> PrintAlone for ObjectPropertyKind<N> {
 }
 
 impl<N: PrintNode> PrintAlone for PropertyKey<N> {
-    ghost alone = { λ n context. key_text (in_property_key N.plain n) (spell (in_property_key N.plain n) (in_brackets Comma)) };
+    ghost plain = { in_property_key N.plain };
+
+    ghost how = { of_set sets.PropertyKey };
 
     fn print_alone(&self, p: &mut Printer<'_>, context: Context) {
         let _ = context;
@@ -188,7 +205,9 @@ impl<N: PrintNode> PrintAlone for PropertyKey<N> {
 }
 
 impl<N: PrintNode> PrintAlone for Statement<N> {
-    ghost alone = { λ n context. spell (statement_plain N.plain n) among_statements };
+    ghost plain = { statement_plain N.plain };
+
+    ghost how = { of_set sets.Statement };
 
     fn print_alone(&self, p: &mut Printer<'_>, context: Context) {
         let _ = context;
@@ -197,7 +216,9 @@ impl<N: PrintNode> PrintAlone for Statement<N> {
 }
 
 impl<N: PrintNode> PrintAlone for BindingPattern<N> {
-    ghost alone = { λ n context. spell (binding_pattern_plain N.plain n) (at_level Lowest context) };
+    ghost plain = { binding_pattern_plain N.plain };
+
+    ghost how = { of_set sets.BindingPattern };
 
     fn print_alone(&self, p: &mut Printer<'_>, context: Context) {
         print_binding_pattern(self, p, Place::at_level(Precedence::Lowest, context));
@@ -205,7 +226,9 @@ impl<N: PrintNode> PrintAlone for BindingPattern<N> {
 }
 
 impl<N: PrintNode> PrintAlone for ClassElement<N> {
-    ghost alone = { λ n context. spell (class_element_plain N.plain n) (at_level Lowest context) ⊕ element_end (type_of (class_element_plain N.plain n)) };
+    ghost plain = { class_element_plain N.plain };
+
+    ghost how = { of_set sets.ClassElement };
 
     fn print_alone(&self, p: &mut Printer<'_>, context: Context) {
         let _ = context;
@@ -214,7 +237,9 @@ impl<N: PrintNode> PrintAlone for ClassElement<N> {
 }
 
 impl PrintAlone for ModuleExportName {
-    ghost alone = { λ n context. spell (in_module_export_name n) plainly };
+    ghost plain = { in_module_export_name };
+
+    ghost how = { of_set sets.ModuleExportName };
 
     fn print_alone(&self, p: &mut Printer<'_>, context: Context) {
         let _ = context;
@@ -223,7 +248,9 @@ impl PrintAlone for ModuleExportName {
 }
 
 impl<N: PrintNode> PrintAlone for ExportDefaultDeclarationKind<N> {
-    ghost alone = { λ n context. default_items (is_declared (in_export_default_declaration_kind N.plain n)) (spell (in_export_default_declaration_kind N.plain n) within_statement) (spell (in_export_default_declaration_kind N.plain n) (in_brackets Comma)) };
+    ghost plain = { in_export_default_declaration_kind N.plain };
+
+    ghost how = { of_set sets.ExportDefaultDeclarationKind };
 
     fn print_alone(&self, p: &mut Printer<'_>, context: Context) {
         let _ = context;

@@ -1,9 +1,8 @@
 // Generated from tools/nodes/table.txt; edit that and run tools/nodes/generate.
 // What is printed by itself, or at a level.
 ghost use Rattle.jsgen_tree.specs.Rows.{program_row, directive_row, variable_declaration_row, variable_declarator_row, binding_identifier_row, expression_statement_row, block_statement_row, if_statement_row, empty_statement_row};
-ghost use Rattle.jsgen_syntax.specs.declared.precedence.Precedence.TheVariants.{Lowest};
-ghost use Rattle.jsgen_place.specs.Place.{at_level, among_statements};
-ghost use Rattle.jsgen_model.specs.Spell.{spell};
+ghost use Rattle.jsgen_alone.specs.Alone.{of_type};
+ghost use Rattle.jsgen_tree.specs.declared.types.NodeType.TheVariants as types;
 
 use crate::PrintAlone;
 use jsgen_inside::print_binding_identifier;
@@ -24,7 +23,9 @@ use jsgen_tree::{
 };
 
 impl<N: PrintNode> PrintAlone for Program<N> {
-    ghost alone = { λ n context. spell (program_row N.plain n) among_statements };
+    ghost plain = { program_row N.plain };
+
+    ghost how = { of_type types.Program };
 
     fn print_alone(&self, p: &mut Printer<'_>, context: Context) {
         let _ = context;
@@ -33,7 +34,9 @@ impl<N: PrintNode> PrintAlone for Program<N> {
 }
 
 impl PrintAlone for Directive {
-    ghost alone = { λ n context. spell (directive_row n) among_statements };
+    ghost plain = { directive_row };
+
+    ghost how = { of_type types.Directive };
 
     fn print_alone(&self, p: &mut Printer<'_>, context: Context) {
         let _ = context;
@@ -42,7 +45,9 @@ impl PrintAlone for Directive {
 }
 
 impl<N: PrintNode> PrintAlone for VariableDeclaration<N> {
-    ghost alone = { λ n context. spell (variable_declaration_row N.plain n) (at_level Lowest context) };
+    ghost plain = { variable_declaration_row N.plain };
+
+    ghost how = { of_type types.VariableDeclaration };
 
     fn print_alone(&self, p: &mut Printer<'_>, context: Context) {
         print_variable_declaration::<_, Inside>(
@@ -54,7 +59,9 @@ impl<N: PrintNode> PrintAlone for VariableDeclaration<N> {
 }
 
 impl<N: PrintNode> PrintAlone for VariableDeclarator<N> {
-    ghost alone = { λ n context. spell (variable_declarator_row N.plain n) (at_level Lowest context) };
+    ghost plain = { variable_declarator_row N.plain };
+
+    ghost how = { of_type types.VariableDeclarator };
 
     fn print_alone(&self, p: &mut Printer<'_>, context: Context) {
         print_variable_declarator::<_, Inside>(
@@ -66,7 +73,9 @@ impl<N: PrintNode> PrintAlone for VariableDeclarator<N> {
 }
 
 impl PrintAlone for BindingIdentifier {
-    ghost alone = { λ n context. spell (binding_identifier_row n) (at_level Lowest context) };
+    ghost plain = { binding_identifier_row };
+
+    ghost how = { of_type types.BindingIdentifier };
 
     fn print_alone(&self, p: &mut Printer<'_>, context: Context) {
         print_binding_identifier(self, p, Place::at_level(Precedence::Lowest, context));
@@ -74,7 +83,9 @@ impl PrintAlone for BindingIdentifier {
 }
 
 impl<N: PrintNode> PrintAlone for ExpressionStatement<N> {
-    ghost alone = { λ n context. spell (expression_statement_row N.plain n) among_statements };
+    ghost plain = { expression_statement_row N.plain };
+
+    ghost how = { of_type types.ExpressionStatement };
 
     fn print_alone(&self, p: &mut Printer<'_>, context: Context) {
         let _ = context;
@@ -83,7 +94,9 @@ impl<N: PrintNode> PrintAlone for ExpressionStatement<N> {
 }
 
 impl<N: PrintNode> PrintAlone for BlockStatement<N> {
-    ghost alone = { λ n context. spell (block_statement_row N.plain n) among_statements };
+    ghost plain = { block_statement_row N.plain };
+
+    ghost how = { of_type types.BlockStatement };
 
     fn print_alone(&self, p: &mut Printer<'_>, context: Context) {
         let _ = context;
@@ -92,7 +105,9 @@ impl<N: PrintNode> PrintAlone for BlockStatement<N> {
 }
 
 impl<N: PrintNode> PrintAlone for IfStatement<N> {
-    ghost alone = { λ n context. spell (if_statement_row N.plain n) among_statements };
+    ghost plain = { if_statement_row N.plain };
+
+    ghost how = { of_type types.IfStatement };
 
     fn print_alone(&self, p: &mut Printer<'_>, context: Context) {
         let _ = context;
@@ -101,7 +116,9 @@ impl<N: PrintNode> PrintAlone for IfStatement<N> {
 }
 
 impl PrintAlone for EmptyStatement {
-    ghost alone = { λ n context. spell (empty_statement_row n) among_statements };
+    ghost plain = { empty_statement_row };
+
+    ghost how = { of_type types.EmptyStatement };
 
     fn print_alone(&self, p: &mut Printer<'_>, context: Context) {
         let _ = context;

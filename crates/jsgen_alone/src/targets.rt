@@ -1,9 +1,8 @@
 // Generated from tools/nodes/table.txt; edit that and run tools/nodes/generate.
 // What is printed by itself, or at a level.
 ghost use Rattle.jsgen_tree.specs.Rows.{array_assignment_target_row, object_assignment_target_row, assignment_target_with_default_row, assignment_target_property_identifier_row, assignment_target_property_property_row, assignment_target_rest_row};
-ghost use Rattle.jsgen_syntax.specs.declared.precedence.Precedence.TheVariants.{Lowest};
-ghost use Rattle.jsgen_place.specs.Place.{at_level};
-ghost use Rattle.jsgen_model.specs.Spell.{spell};
+ghost use Rattle.jsgen_alone.specs.Alone.{of_type};
+ghost use Rattle.jsgen_tree.specs.declared.types.NodeType.TheVariants as types;
 
 use crate::PrintAlone;
 use jsgen_nodes::targets::{
@@ -21,7 +20,9 @@ use jsgen_tree::{
 };
 
 impl<N: PrintNode> PrintAlone for ArrayAssignmentTarget<N> {
-    ghost alone = { λ n context. spell (array_assignment_target_row N.plain n) (at_level Lowest context) };
+    ghost plain = { array_assignment_target_row N.plain };
+
+    ghost how = { of_type types.ArrayAssignmentTarget };
 
     fn print_alone(&self, p: &mut Printer<'_>, context: Context) {
         print_array_assignment_target(self, p, Place::at_level(Precedence::Lowest, context));
@@ -29,7 +30,9 @@ impl<N: PrintNode> PrintAlone for ArrayAssignmentTarget<N> {
 }
 
 impl<N: PrintNode> PrintAlone for ObjectAssignmentTarget<N> {
-    ghost alone = { λ n context. spell (object_assignment_target_row N.plain n) (at_level Lowest context) };
+    ghost plain = { object_assignment_target_row N.plain };
+
+    ghost how = { of_type types.ObjectAssignmentTarget };
 
     fn print_alone(&self, p: &mut Printer<'_>, context: Context) {
         print_object_assignment_target(self, p, Place::at_level(Precedence::Lowest, context));
@@ -37,7 +40,9 @@ impl<N: PrintNode> PrintAlone for ObjectAssignmentTarget<N> {
 }
 
 impl<N: PrintNode> PrintAlone for AssignmentTargetWithDefault<N> {
-    ghost alone = { λ n context. spell (assignment_target_with_default_row N.plain n) (at_level Lowest context) };
+    ghost plain = { assignment_target_with_default_row N.plain };
+
+    ghost how = { of_type types.AssignmentTargetWithDefault };
 
     fn print_alone(&self, p: &mut Printer<'_>, context: Context) {
         print_assignment_target_with_default::<_, Inside>(
@@ -49,7 +54,9 @@ impl<N: PrintNode> PrintAlone for AssignmentTargetWithDefault<N> {
 }
 
 impl<N: PrintNode> PrintAlone for AssignmentTargetPropertyIdentifier<N> {
-    ghost alone = { λ n context. spell (assignment_target_property_identifier_row N.plain n) (at_level Lowest context) };
+    ghost plain = { assignment_target_property_identifier_row N.plain };
+
+    ghost how = { of_type types.AssignmentTargetPropertyIdentifier };
 
     fn print_alone(&self, p: &mut Printer<'_>, context: Context) {
         print_assignment_target_property_identifier(
@@ -61,7 +68,9 @@ impl<N: PrintNode> PrintAlone for AssignmentTargetPropertyIdentifier<N> {
 }
 
 impl<N: PrintNode> PrintAlone for AssignmentTargetPropertyProperty<N> {
-    ghost alone = { λ n context. spell (assignment_target_property_property_row N.plain n) (at_level Lowest context) };
+    ghost plain = { assignment_target_property_property_row N.plain };
+
+    ghost how = { of_type types.AssignmentTargetPropertyProperty };
 
     fn print_alone(&self, p: &mut Printer<'_>, context: Context) {
         print_assignment_target_property_property(
@@ -73,7 +82,9 @@ impl<N: PrintNode> PrintAlone for AssignmentTargetPropertyProperty<N> {
 }
 
 impl<N: PrintNode> PrintAlone for AssignmentTargetRest<N> {
-    ghost alone = { λ n context. spell (assignment_target_rest_row N.plain n) (at_level Lowest context) };
+    ghost plain = { assignment_target_rest_row N.plain };
+
+    ghost how = { of_type types.AssignmentTargetRest };
 
     fn print_alone(&self, p: &mut Printer<'_>, context: Context) {
         print_assignment_target_rest::<_, Inside>(

@@ -1,9 +1,8 @@
 // Generated from tools/nodes/table.txt; edit that and run tools/nodes/generate.
 // What is printed by itself, or at a level.
 ghost use Rattle.jsgen_tree.specs.Rows.{template_literal_row, tagged_template_expression_row, import_expression_row};
-ghost use Rattle.jsgen_syntax.specs.declared.precedence.Precedence.TheVariants.{Lowest};
-ghost use Rattle.jsgen_place.specs.Place.{at_level};
-ghost use Rattle.jsgen_model.specs.Spell.{spell};
+ghost use Rattle.jsgen_alone.specs.Alone.{of_type};
+ghost use Rattle.jsgen_tree.specs.declared.types.NodeType.TheVariants as types;
 
 use crate::{PrintAlone, PrintAtLevel};
 use jsgen_nodes::PrintNode;
@@ -16,7 +15,9 @@ use jsgen_syntax::Precedence;
 use jsgen_tree::{ImportExpression, TaggedTemplateExpression, TemplateLiteral};
 
 impl<N: PrintNode> PrintAlone for TemplateLiteral<N> {
-    ghost alone = { λ n context. spell (template_literal_row N.plain n) (at_level Lowest context) };
+    ghost plain = { template_literal_row N.plain };
+
+    ghost how = { of_type types.TemplateLiteral };
 
     fn print_alone(&self, p: &mut Printer<'_>, context: Context) {
         print_template_literal(self, p, Place::at_level(Precedence::Lowest, context));

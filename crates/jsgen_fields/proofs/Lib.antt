@@ -2,7 +2,5 @@ pub mod Digits
 pub mod FieldSteps
 pub mod Gives
 pub mod Listed
-pub mod OneType
-pub mod Sets
 pub mod WordLengths
 pub mod WordReads

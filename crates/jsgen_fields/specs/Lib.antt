@@ -1,7 +1,5 @@
-pub mod Kept
 pub mod Meaning
 pub mod Names
-pub mod Others
 pub mod Parts
 pub mod Reads
 pub mod Texts

@@ -4,7 +4,7 @@ at a level, which is said by its name; and the answers of those that have childr
 import layout
 from files.nodes_sets import chosen, print_functions, printed, turbofish
 from files.rows_functions import parts as parts_of_rows
-from names import row_names
+from names import SPECS, TYPES, row_names, types_in_antt
 from table import snake
 
 # What is printed at a level: the types and sets whose names end so, but some, and these.
@@ -22,11 +22,15 @@ STATEMENTS, OTHER_STATEMENTS = "Statement", ("Program", "Directive", "SwitchCase
 MEMBERS = ("Argument", "ArrayExpressionElement", "ObjectPropertyKind", "ObjectProperty", "PropertyKey", "AssignmentTarget",
            "AssignmentTargetMaybeDefault")
 
-# Each place: in a definition, in Rust, and the call that gives it.
-PLACES = {"itself": ("(at_level Lowest context)", "Place::at_level(Precedence::Lowest, context)", "at_level"),
-          "member": ("(in_brackets Comma)", "Place::in_brackets(Precedence::Comma)", "in_brackets"),
-          "statement": ("among_statements", "Place::among_statements()", "among_statements"),
-          "head": ("loop_head", "Place::loop_head()", "loop_head")}
+# How it is printed: the word of specs/Alone.antt, its place in Rust, and the call that gives that.
+PLACES = {"by_itself": ("Place::at_level(Precedence::Lowest, context)", "at_level"),
+          "list_member": ("Place::in_brackets(Precedence::Comma)", "in_brackets"),
+          "statement": ("Place::among_statements()", "among_statements"),
+          "loop_init": ("Place::loop_head()", "loop_head")}
+
+# What is printed in a way of its own.
+OWN = {"ForStatementInit": "loop_init", "ForStatementLeft": "loop_left", "PropertyKey": "key", "SwitchCase": "switch_case",
+       "ClassElement": "class_member", "ModuleExportName": "export_name", "ExportDefaultDeclarationKind": "default_export"}
 
 # What is printed by itself by a function of another form; and what has no children but a label.
 OTHERWISE = ("PropertyKey", "ForStatementLeft", "SwitchCase", "ClassElement", "ModuleExportName", "ExportDefaultDeclarationKind")
@@ -37,24 +41,84 @@ def at_level(name):
     return name in LEVELLED or name.endswith(ENDING) and name not in BUT
 
 
-def place(name):
-    if name == "ForStatementInit":
-        return "head"
+def how(name):
+    """How it is printed by itself."""
+    if name in OWN:
+        return OWN[name]
     if name.endswith(STATEMENTS) or name in OTHER_STATEMENTS:
         return "statement"
-    return "member" if name in MEMBERS else "itself"
+    return "list_member" if name in MEMBERS else "by_itself"
+
+
+def place(name):
+    """Its place, as a key of PLACES."""
+    return {"switch_case": "statement", "key": "list_member"}.get(how(name), how(name) if how(name) in PLACES else "by_itself")
 
 
 def write(table):
     files = {name: [n.name for n in nodes] for name, _, nodes in parts_of_rows(table)}
     files["sets"] = list(table.sets)
-    given = {}
+    given = {"crates/jsgen_alone/specs/Alone.antt": specs(table)}
     for name, types in files.items():
         given[f"crates/jsgen_alone/src/{name}.rt"] = of_file(table, [t for t in types if t not in NEVER])
         for t in types:
             if has_answers(table, t):
                 given[f"crates/jsgen_alone/proofs/{name}/{t}PrintAlone/print_alone/Answers.antt"] = answers(table, name, t)
     return given
+
+
+# ---- specs/Alone.antt
+
+ALONE = """-- as what holds it prints it, with nothing round it
+pub data How : Type 0 where
+  -- at the lowest level, in the context that is given
+  by_itself : How
+  -- as a member of a list, and as a statement among statements, whatever the context is
+  list_member : How
+  statement : How
+  -- as what stands first in the head of a loop, and as what gives it values
+  loop_init : How
+  loop_left : How
+  -- as the key of a property, as a case, as a member of a class, as a name of an import or export, and behind `export default`
+  key : How
+  switch_case : How
+  class_member : How
+  export_name : How
+  default_export : How
+
+-- the items of a tree that is printed so
+abbrev pub alone : How → Tree → Context → Items
+alone by_itself t context = spell t (at_level Lowest context)
+alone list_member t context = spell t (in_brackets Comma)
+alone statement t context = spell t among_statements
+alone loop_init t context = spell t loop_head
+alone loop_left t context = spell t (left_place (type_of t))
+alone key t context = key_text t (spell t (in_brackets Comma))
+alone switch_case t context = due_semicolon ⊕ spell t among_statements
+alone class_member t context = spell t (at_level Lowest context) ⊕ element_end (type_of t)
+alone export_name t context = spell t plainly
+alone default_export t context = default_items (is_declared t) (spell t within_statement) (spell t (in_brackets Comma))"""
+
+
+def specs(table):
+    """How each type and each set is printed by itself. What is printed at a level isn't in it."""
+    types = clauses("of_type", "types", [n for n in table.nodes if not at_level(n) and n not in NEVER])
+    sets = clauses("of_set", "sets", [s for s in table.sets if not at_level(s) and s not in NEVER])
+    parts = [ALONE, "-- ---- by type, and by the set of which it is a member", f"abbrev pub of_type : NodeType → How\n{types}of_type type = by_itself",
+             f"abbrev pub of_set : NodeSet → How\n{sets}of_set set = by_itself"]
+    homes = types_in_antt(table) + [(f"{SPECS}.Tree", ["Tree", "type_of"]), ("Rattle.jsgen_place.specs.declared.place.Context", ["Context"])]
+    homes += ITEMS
+    return layout.antt("What is printed of a node by itself.", homes, TYPES, "\n\n".join(parts))
+
+
+def clauses(name, alias, every):
+    return "".join(f"{name} {alias}.{x} = {how(x)}\n" for x in every if how(x) != "by_itself")
+
+
+ITEMS = [("Rattle.jsgen_syntax.specs.declared.precedence.Precedence.TheVariants", ["Lowest", "Comma"]),
+         ("Rattle.jsgen_place.specs.Place", ["at_level", "in_brackets", "among_statements", "within_statement", "loop_head", "plainly"]),
+         ("Rattle.jsgen_model.specs.Items", ["Items", "◌⊕◌", "due_semicolon"]),
+         ("Rattle.jsgen_model.specs.Spell", ["spell", "key_text", "left_place", "element_end", "default_items", "is_declared"])]
 
 
 # ---- answers
@@ -67,7 +131,7 @@ def has_answers(table, name):
 def answers(table, file, name):
     """It is printed by itself as it is at its place."""
     home = f"Rattle.jsgen_alone.proofs.{file}.{name}PrintAlone.print_alone.Goals"
-    called, given = PLACES[place(name)][2], "g c" if table.generic(name) else "c"
+    called, given = PLACES[place(name)][1], "g c" if table.generic(name) else "c"
     if not is_chosen_here(table, name):
         each = [answer("returns", given, printed_there(f"print_{snake(name)}", f"{row(table, name)} c.args.self.now", called))]
     else:
@@ -104,18 +168,14 @@ def is_chosen_here(table, name):
 # ---- the trait's impls
 
 def of_file(table, types):
-    ghosts = [("Rattle.jsgen_tree.specs.Tree", ["type_of"])] + row_names(table)
-    ghosts += [("Rattle.jsgen_syntax.specs.declared.precedence.Precedence.TheVariants", ["Lowest", "Comma"]),
-               ("Rattle.jsgen_place.specs.Place", ["at_level", "in_brackets", "among_statements", "within_statement", "loop_head", "plainly"]),
-               ("Rattle.jsgen_model.specs.Items", ["◌⊕◌", "due_semicolon"]),
-               ("Rattle.jsgen_model.specs.Spell", ["spell", "key_text", "left_place", "element_end", "default_items", "is_declared"])]
+    ghosts = row_names(table) + [("Rattle.jsgen_alone.specs.Alone", ["by_itself", "of_type", "of_set"])]
     homes = print_functions(table, "jsgen_nodes")
     homes += [("jsgen_nodes::sets", [f"print_{snake(s.name)}" for s in table.nesting() + chosen(table)]),
               ("crate", ["PrintAlone", "PrintAtLevel"]), ("jsgen_nodes", ["InClass", "Inside", "PrintNode"]),
               ("jsgen_place", ["Context", "Place"]), ("jsgen_printer", ["Printer"]),
               ("jsgen_syntax", ["Precedence"]), ("jsgen_tree", list(table.nodes) + list(table.sets))]
     body = "\n\n".join(of_type(table, t) for t in types)
-    return layout.rust("What is printed by itself, or at a level.", ghosts, [], homes, body)
+    return layout.rust("What is printed by itself, or at a level.", ghosts, TYPES, homes, body)
 
 
 def head(table, trait, name):
@@ -137,10 +197,12 @@ def of_type(table, name):
         {body(table, name, 'place')}
     }}
 }}"""
-    at = PLACES[place(name)][1]
+    at = PLACES[place(name)][0]
     unused = "" if "context" in at and name not in OTHERWISE else "        let _ = context;\n"
     return f"""{head(table, 'PrintAlone', name)} {{
-    ghost alone = {{ λ n context. {spelled(table, name)} }};
+    ghost plain = {{ {plain(table, name)} }};
+
+    ghost how = {{ {asked_how(table, name)} }};
 
     fn print_alone(
         &self,
@@ -152,20 +214,11 @@ def of_type(table, name):
 }}"""
 
 
-def spelled(table, name):
-    tree = f"({plain(table, name)} n)"
-    if name == "ForStatementLeft":
-        return f"spell {tree} (left_place (type_of {tree}))"
-    items = f"spell {tree} {PLACES[place(name)][0]}"
-    if name == "SwitchCase":
-        return f"due_semicolon ⊕ {items}"
-    if name == "ClassElement":
-        return f"{items} ⊕ element_end (type_of {tree})"
-    if name == "ModuleExportName":
-        return f"spell {tree} plainly"
-    if name == "ExportDefaultDeclarationKind":
-        return f"default_items (is_declared {tree}) (spell {tree} within_statement) (spell {tree} (in_brackets Comma))"
-    return f"key_text {tree} ({items})" if name == "PropertyKey" else items
+def asked_how(table, name):
+    """How it is printed, by its type or set; a set of which nothing has children isn't told apart from others."""
+    if name in table.nodes:
+        return f"of_type types.{name}"
+    return f"of_set sets.{name}" if name in table.child_sets() else "by_itself"
 
 
 def body(table, name, at):

@@ -1,0 +1,2 @@
+pub mod OneType
+pub mod Sets
