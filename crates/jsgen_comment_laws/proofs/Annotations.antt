@@ -43,7 +43,7 @@ module _ (k a : List Waiting) where
     };
   }
   annotates_by (c ∷ cs) kind o p s e = record {
-    goes = keeps_texts (record { text = w.adds.text; code = w.adds.code; store = w.adds.store });
+    goes = keeps_texts (record { text = w.adds.text; code = w.adds.code; style = w.adds.style; store = w.adds.store });
     weaves = λ h sound. record {
       text = w.adds.text;
       code = w.adds.code;

@@ -11,6 +11,7 @@ use Rattle.jsgen_tree.specs.Nodes as tree
 use Rattle.jsgen_tree.specs.Values.{comment_attached_to}
 use Rattle.jsgen_model.specs.Comments.{Comment, Groups, Store, empty_store, there, without, with_group, outlives, is_outliving, comment_at, with_offset, kept_at, with_rows, kept, with_annotations, kept_annotations}
 use Rattle.jsgen_model.specs.Ends.{rows_of}
+use Rattle.jsgen_model.specs.Groups.{is_dark}
 use Rattle.jsgen_comment_laws.specs.Stand.{Waiting, one_if, count, is_kept, is_kept_annotation, waiting_row}
 use Rattle.jsgen_syntax.specs.Buffer.{indent_code}
 use Rattle.jsgen_syntax.specs.declared.buffer.IndentChar.{IndentChar}
@@ -162,3 +163,7 @@ all_annotations o source rows = every_annotation (Contains (map (waiting_row sou
 pub indent_is_white : (c : IndentChar) → is_white (indent_code c) ≡ true
 indent_is_white indents.Tab = refl
 indent_is_white indents.Space = refl
+
+pub indent_is_blank : (c : IndentChar) → is_dark (indent_code c) ≡ false
+indent_is_blank indents.Tab = refl
+indent_is_blank indents.Space = refl

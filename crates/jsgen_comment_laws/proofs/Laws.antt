@@ -25,7 +25,7 @@ use Rattle.jsgen_comment_laws.proofs.Stores.{Sound, outlives_at, none_below}
 use Rattle.jsgen_comment_laws.proofs.Weaves.{Held}
 use Rattle.jsgen_comment_laws.proofs.Steps.{lay_does, lay_goes}
 use Rattle.jsgen_comment_laws.proofs.Alike.{alike}
-use Rattle.jsgen_comment_laws.proofs.Kept.{kept_is_sound, kept_are, all_kept, all_annotations, indent_is_white}
+use Rattle.jsgen_comment_laws.proofs.Kept.{kept_is_sound, kept_are, all_kept, all_annotations, indent_is_white, indent_is_blank}
 use Rattle.jsgen_comment_laws.proofs.Takes.{stays_gone, takes_comments, count_either, none_passes, body_taken, directives_taken}
 use Rattle.jsgen_comment_laws.proofs.Members.{members}
 
@@ -158,7 +158,7 @@ comments_stand job formed valid =
       is = end.code ∙ ap (λ x. x ++ end.text) a.code;
       ends = (q, end.code);
       comments = a.printed;
-      stand = a.stand;
+      stand = a.stand (indent_is_blank job.options.indent_char);
       once = λ test. let all = a.all test in let kept = kept_are test o source rows in omega (arith, all, kept);
       all = λ test.
           let asked = λ (w : Waiting). has_to_stand job.program w && test w in

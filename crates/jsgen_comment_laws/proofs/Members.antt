@@ -1,7 +1,7 @@
 -- The directives and the statements of a valid program: each is of its set.
 use Rattle.std.proofs.Common.{◌≡◌, ℕ, Bool, true, false, not, ◌&&◌, ◌++◌, List, [], ◌∷◌, refl}
 use Rattle.std.proofs.lemmas.Bool.{and_parts}
-use Rattle.jsgen_tree.specs.Tree.{Tree, node, Maybe, Trees, no_trees, more, hole, Atoms, type_of, span_of}
+use Rattle.jsgen_tree.specs.Tree.{Tree, node, Maybe, Trees, no_trees, more, hole, Atoms, type_of}
 use Rattle.jsgen_tree.specs.Nodes as tree
 use Rattle.jsgen_tree.specs.Sets.{in_set}
 use Rattle.jsgen_tree.specs.Everywhere.{Everywhere, EverywhereInTrees}

@@ -6,9 +6,9 @@ use Rattle.std.proofs.lemmas.List.{map-append}
 use Rattle.jsgen_model.specs.Comments.{Comment, Groups, Store, there, taken, is_outliving, outliving, without_outliving, orphans_at, left_at, orphans_below, left_below}
 use Rattle.jsgen_model.specs.Groups.{group_at, without_group, with_store, ending_at, without_ending}
 use Rattle.jsgen_model.specs.Layout.{Pen}
-use Rattle.jsgen_comment_laws.specs.Stand.{Waiting, CommentPlaces, count}
+use Rattle.jsgen_comment_laws.specs.Stand.{Waiting, CommentPlaces, IsIndentedByBlanks, count}
 use Rattle.jsgen_comment_laws.proofs.Counts.{waiting_at, waiting_in, is_at, count_append, From, from_without, from_without_outliving, count_taken, count_without_outliving, none_outlives}
-use Rattle.jsgen_comment_laws.proofs.Writes.{Adds, Writes, stand_both}
+use Rattle.jsgen_comment_laws.proofs.Writes.{Adds, Writes, still_indented, stand_both}
 
 -- ---- stores
 
@@ -116,8 +116,9 @@ leaves n m (o ∷ os) gs h r k = by (leaves n (1 + o) os (without_outliving o gs
 pub record Accounts (p q : Pen) : Type 0 where
   pub text : List ℕ
   pub code : q.code ≡ p.code ++ text
+  pub style : q.style ≡ p.style
   pub printed : List Waiting
-  pub stand : CommentPlaces text (comments_of printed)
+  pub stand : IsIndentedByBlanks p → CommentPlaces text (comments_of printed)
   pub all : (test : Waiting → Bool) → count test (waiting_in p.store.groups) ≡ count test (waiting_in q.store.groups) + count test printed
   pub sound : Sound q.store
 
@@ -131,8 +132,9 @@ goes_then {p} {q} {r} a b h = joined (a h) (b (a h).sound)
     joined a b = record {
       text = a.text ++ b.text;
       code = b.code ∙ (ap (λ x. x ++ b.text) a.code ∙ append_assoc p.code a.text b.text);
+      style = b.style ∙ a.style;
       printed = a.printed ++ b.printed;
-      stand = subst (λ cs. CommentPlaces (a.text ++ b.text) cs) (sym (comments_both a.printed b.printed)) (stand_both a.text b.text (comments_of a.printed) (comments_of b.printed) a.stand b.stand);
+      stand = λ h. subst (λ cs. CommentPlaces (a.text ++ b.text) cs) (sym (comments_both a.printed b.printed)) (stand_both a.text b.text (comments_of a.printed) (comments_of b.printed) (a.stand h) (b.stand (still_indented p q a.style h)));
       all = λ test. let x = a.all test in let y = b.all test in let z = count_append test a.printed b.printed in omega (arith, x, y, z);
       sound = b.sound;
     }
@@ -141,20 +143,22 @@ goes_then {p} {q} {r} a b h = joined (a h) (b (a h).sound)
 pub record Texts (p q : Pen) : Type 0 where
   pub text : List ℕ
   pub code : q.code ≡ p.code ++ text
+  pub style : q.style ≡ p.style
   pub store : q.store ≡ p.store
 
 abbrev pub keeps_texts : {p q : Pen} → Texts p q → Goes p q
 keeps_texts {p} {q} w h = record {
   text = w.text;
   code = w.code;
+  style = w.style;
   printed = [];
-  stand = tt;
+  stand = λ h. tt;
   all = λ test. let same = ap (λ s. count test (waiting_in s.groups)) w.store in omega (arith, same);
   sound = subst Sound (sym w.store) h;
 }
 
 abbrev pub keeps_adds : {p q : Pen} → Adds p q → Goes p q
-keeps_adds w = keeps_texts (record { text = w.text; code = w.code; store = w.store })
+keeps_adds w = keeps_texts (record { text = w.text; code = w.code; style = w.style; store = w.store })
 
 abbrev pub keeps : {p q : Pen} → Writes [] p q → Goes p q
 keeps w = keeps_adds w.adds
@@ -164,8 +168,9 @@ abbrev pub prints_taken : (o : ℕ) (p q : Pen) → Writes (group_at o p) (witho
 prints_taken o p q w h = record {
   text = w.adds.text;
   code = w.adds.code;
+  style = w.adds.style;
   printed = waiting_at o (group_at o p);
-  stand = subst (λ cs. CommentPlaces w.adds.text cs) (sym (comments_at_offset o (group_at o p))) w.stand;
+  stand = λ h. subst (λ cs. CommentPlaces w.adds.text cs) (sym (comments_at_offset o (group_at o p))) (w.stand h);
   all = λ test. let left = ap (λ s. count test (waiting_in s.groups)) w.adds.store in let all = count_taken test o p.store.groups in omega (arith, left, all);
   sound = subst Sound (sym w.adds.store) (sound_taken o p.store h);
 }
@@ -178,8 +183,9 @@ prints_orphans o p q w h =
     record {
       text = w.adds.text;
       code = w.adds.code;
+      style = w.adds.style;
       printed = found;
-      stand = subst (λ cs. CommentPlaces w.adds.text cs) (sym (found_are o p.store.orphans p.store.groups)) w.stand;
+      stand = λ h. subst (λ cs. CommentPlaces w.adds.text cs) (sym (found_are o p.store.orphans p.store.groups)) (w.stand h);
       all = λ test. let same = ap (λ s. count test (waiting_in s.groups)) w.adds.store in let all = left.all test in omega (arith, same, all);
       sound = subst Sound (sym w.adds.store) left.sound;
     }
@@ -196,8 +202,9 @@ holds o p q r a w h = held (a (sound_taken o p.store h))
     held a = record {
       text = a.text ++ w.adds.text;
       code = w.adds.code ∙ (ap (λ x. x ++ w.adds.text) a.code ∙ append_assoc p.code a.text w.adds.text);
+      style = w.adds.style ∙ a.style;
       printed = a.printed ++ waiting_at o (group_at o p);
-      stand = subst (λ cs. CommentPlaces (a.text ++ w.adds.text) cs) (sym (comments_both a.printed (waiting_at o (group_at o p)) ∙ ap (λ cs. comments_of a.printed ++ cs) (comments_at_offset o (group_at o p)))) (stand_both a.text w.adds.text (comments_of a.printed) (group_at o p) a.stand w.stand);
+      stand = λ h. subst (λ cs. CommentPlaces (a.text ++ w.adds.text) cs) (sym (comments_both a.printed (waiting_at o (group_at o p)) ∙ ap (λ cs. comments_of a.printed ++ cs) (comments_at_offset o (group_at o p)))) (stand_both a.text w.adds.text (comments_of a.printed) (group_at o p) (a.stand h) (w.stand (still_indented (without_group o p) q a.style h)));
       all = λ test.
           let same = ap (λ s. count test (waiting_in s.groups)) w.adds.store in
           let taken = count_taken test o p.store.groups in

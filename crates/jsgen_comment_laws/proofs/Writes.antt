@@ -10,10 +10,10 @@ use Rattle.jsgen_tree.specs.declared.statements.CommentKind.TheVariants as kinds
 use Rattle.jsgen_tree.specs.Options.{Legal, left_out, inline, at_end, linked, external}
 use Rattle.jsgen_model.specs.Items.{Manner, all_of_them, then_space, with_due_space, before_it, annotation_before_it, with_key_annotation, none_of_them, Lead, to_block, to_body, to_empty}
 use Rattle.jsgen_model.specs.Comments.{Comment}
-use Rattle.jsgen_model.specs.Groups.{line_ended, indented_here, softly_spaced, with_pending_space, used_up_if, used_up, lines_of, opens_block, closes_block, indented_if, block_line, block_lines, is_mid_line, html_close, text_written, comment_written, last_of, on_new_line, at_line_start, before_first, is_legal, before_later, is_line, ends_its_line, behind_last, behind_comment, group, code_ends_in, before_group, behind_group, closing_group, each_on_line, broken_by, soft_line_ended}
+use Rattle.jsgen_model.specs.Groups.{is_dark, line_ended, indented_here, softly_spaced, with_pending_space, used_up_if, used_up, lines_of, opens_block, closes_block, indented_if, block_line, block_lines, is_mid_line, html_close, text_written, comment_written, last_of, on_new_line, at_line_start, before_first, is_legal, before_later, is_line, ends_its_line, behind_last, behind_comment, group, code_ends_in, before_group, behind_group, closing_group, each_on_line, broken_by, soft_line_ended}
 use Rattle.jsgen_model.specs.Ends.{each_written, licensed, reference}
 use Rattle.jsgen_model.specs.Layout.{Pen, Ending, other_end, written, written_if, text_if, indented, indent_or_space, at_indentation, end_statement, led, white_if, begun_at}
-use Rattle.jsgen_comment_laws.specs.Stand.{CommentPlaces}
+use Rattle.jsgen_comment_laws.specs.Stand.{CommentPlaces, IsIndentedByBlanks}
 use Rattle.jsgen_comment_laws.specs.Woven.{is_white, dark_of, InTwo, IsDarkTextOf}
 
 -- ---- places in longer texts
@@ -82,10 +82,10 @@ pub record Adds (p q : Pen) : Type 0 where
   pub style : q.style ≡ p.style
   pub annotations : q.annotations ≡ p.annotations
 
--- text behind the code, in which the comments stand, and what else there is is white
+-- text behind the code, in which the comments stand where levels are indented by blanks, and what else there is is white
 pub record Writes (cs : List Comment) (p q : Pen) : Type 0 where
   pub adds : Adds p q
-  pub stand : CommentPlaces adds.text cs
+  pub stand : IsIndentedByBlanks p → CommentPlaces adds.text cs
   pub dark : is_white p.style.indent ≡ true → DarkTexts cs (dark_of adds.text)
 
 abbrev pub adds_then : {p q r : Pen} → Adds p q → Adds q r → Adds p r
@@ -97,10 +97,14 @@ adds_then {p} a b = record {
   annotations = b.annotations ∙ a.annotations;
 }
 
+-- levels are indented by blanks where the style is kept
+pub still_indented : (p q : Pen) → q.style ≡ p.style → IsIndentedByBlanks p → IsIndentedByBlanks q
+still_indented p q e h = ap (λ st. is_dark st.indent) e ∙ h
+
 pub both : {cs ds : List Comment} {p q r : Pen} → Writes cs p q → Writes ds q r → Writes (cs ++ ds) p r
-both {cs} {ds} {p} a b = record {
+both {cs} {ds} {p} {q} a b = record {
   adds = adds_then a.adds b.adds;
-  stand = stand_both a.adds.text b.adds.text cs ds a.stand b.stand;
+  stand = λ h. stand_both a.adds.text b.adds.text cs ds (a.stand h) (b.stand (still_indented p q a.adds.style h));
   dark = λ w. subst (λ x. DarkTexts (cs ++ ds) x) (sym (dark_both a.adds.text b.adds.text)) (dark_texts_both cs ds (dark_of a.adds.text) (dark_of b.adds.text) (a.dark w) (b.dark (ap (λ st. is_white st.indent) a.adds.style ∙ w)));
 }
 
@@ -109,7 +113,7 @@ pub ended_by : {cs : List Comment} {p q r : Pen} → Writes cs p q → Writes []
 ended_by {cs} {p} {q} {r} a b = subst (λ ds. Writes ds p r) (append-nil cs) (both a b)
 
 abbrev pub stays : (p q : Pen) → q.code ≡ p.code → q.store ≡ p.store → q.style ≡ p.style → q.annotations ≡ p.annotations → Writes [] p q
-stays p q e f g h = record { adds = record { text = []; code = e ∙ sym (append-nil p.code); store = f; style = g; annotations = h }; stand = tt; dark = λ w. refl }
+stays p q e f g h = record { adds = record { text = []; code = e ∙ sym (append-nil p.code); store = f; style = g; annotations = h }; stand = λ h. tt; dark = λ w. refl }
 
 abbrev pub none : (p : Pen) → Writes [] p p
 none p = stays p p refl refl refl refl
@@ -123,18 +127,18 @@ adds_if test t p = record { text = text_if test t; code = refl; store = refl; st
 
 -- white text
 pub writes : (t : List ℕ) (e : Ending) (p : Pen) → dark_of t ≡ [] → Writes [] p (written t e p)
-writes t e p w = record { adds = adds t e p; stand = tt; dark = λ h. w }
+writes t e p w = record { adds = adds t e p; stand = λ h. tt; dark = λ h. w }
 
 pub writes_if : (test : Bool) (t : List ℕ) (p : Pen) → dark_of t ≡ [] → Writes [] p (written_if test t p)
-writes_if true t p w = record { adds = adds_if true t p; stand = tt; dark = λ h. w }
-writes_if false t p w = record { adds = adds_if false t p; stand = tt; dark = λ h. refl }
+writes_if true t p w = record { adds = adds_if true t p; stand = λ h. tt; dark = λ h. w }
+writes_if false t p w = record { adds = adds_if false t p; stand = λ h. tt; dark = λ h. refl }
 
 -- the same, behind which begins what did before it
 whitens : (test : Bool) (t : List ℕ) (p : Pen) → dark_of t ≡ [] → Writes [] p (white_if test t p)
 whitens test t p w = ended_by (writes_if test t p w) (stays (written_if test t p) (white_if test t p) refl refl refl refl)
 
 pub nothing_written : (t : List ℕ) (p : Pen) → Writes [] p (written_if false t p)
-nothing_written t p = record { adds = adds_if false t p; stand = tt; dark = λ h. refl }
+nothing_written t p = record { adds = adds_if false t p; stand = λ h. tt; dark = λ h. refl }
 
 pub one_of : {cs : List Comment} (test : Bool) {p a b : Pen} → Writes cs p a → Writes cs p b → Writes cs p (if test then a else b)
 one_of true h k = h
@@ -151,10 +155,10 @@ indented_dark [] p e = refl
 indented_dark (c ∷ cs) p e = e
 
 or_space : (pending : Bool) (p : Pen) → Writes [] p (indent_or_space pending p)
-or_space true p = record { adds = record { text = codes " "; code = refl; store = refl; style = refl; annotations = refl }; stand = tt; dark = λ w. refl }
+or_space true p = record { adds = record { text = codes " "; code = refl; store = refl; style = refl; annotations = refl }; stand = λ h. tt; dark = λ w. refl }
 or_space false p =
     let t = replicate (p.depth * p.style.width) p.style.indent in
-    record { adds = indented_adds t p; stand = tt; dark = λ w. indented_dark t p (dark_replicate (p.depth * p.style.width) p.style.indent w) }
+    record { adds = indented_adds t p; stand = λ h. tt; dark = λ w. indented_dark t p (dark_replicate (p.depth * p.style.width) p.style.indent w) }
 
 pub indents_by : (minified : Bool) (p : Pen) → Writes [] p (at_indentation minified p)
 indents_by true p = none p
@@ -213,7 +217,7 @@ writes_comment c p =
     let w = text_adds c.kind c.text p in
     record {
       adds = w;
-      stand = (record { before = []; own = w.text; rest = []; is = sym (append-nil w.text); its = (p, w.code) }, tt);
+      stand = λ h. (record { before = []; own = w.text; rest = []; is = sym (append-nil w.text); its = (p, (h, w.code)) }, tt);
       dark = λ h. record { first = dark_of w.text; second = []; is = sym (append-nil (dark_of w.text)); one = (w.text, ((p, w.code), refl)); other = refl };
     }
 

@@ -8,7 +8,7 @@ use Rattle.jsgen_tree.specs.Nodes as tree
 use Rattle.jsgen_tree.specs.Values.{comment_content, comment_leading, comment_attached_to}
 use Rattle.jsgen_model.specs.Comments.{Comment, comment_at, is_wanted, is_outliving, is_annotation}
 use Rattle.jsgen_model.specs.Ends.{rows_of}
-use Rattle.jsgen_model.specs.Groups.{comment_written}
+use Rattle.jsgen_model.specs.Groups.{is_dark, comment_written}
 use Rattle.jsgen_model.specs.Layout.{Pen}
 use Rattle.jsgen_model.specs.Spell.{comments_in, source_bytes}
 
@@ -54,13 +54,21 @@ count test (w ∷ ws) = one_if (test w) + count test ws
 abbrev pub IsTextOf : Comment → List ℕ → Type 0
 IsTextOf c text = (pen : Pen) × ((comment_written c pen).code ≡ pen.code ++ text)
 
+-- the levels of the pen are indented by spaces or by tabs
+abbrev pub IsIndentedByBlanks : Pen → Type 0
+IsIndentedByBlanks pen = is_dark pen.style.indent ≡ false
+
+-- what a comment adds to the code of some pen that is indented so
+abbrev pub IsTextInPlace : Comment → List ℕ → Type 0
+IsTextInPlace c text = (pen : Pen) × (IsIndentedByBlanks pen × ((comment_written c pen).code ≡ pen.code ++ text))
+
 -- a place in a text, and the comment's own text there
 pub record CommentPlace (text : List ℕ) (c : Comment) : Type 0 where
   pub before : List ℕ
   pub own : List ℕ
   pub rest : List ℕ
   pub is : text ≡ before ++ (own ++ rest)
-  pub its : IsTextOf c own
+  pub its : IsTextInPlace c own
 
 -- a place for each of some comments, each behind the one before
 abbrev pub CommentPlaces : List ℕ → List Comment → Type 0

@@ -9,7 +9,6 @@ use Rattle.jsgen_syntax.specs.Raw.{tag_free, tag_free_after}
 use Rattle.jsgen_model.specs.LineEnds.{is_line_terminator}
 use Rattle.jsgen_model.specs.Tokens.{has_line_end}
 use Rattle.jsgen_model.specs.Groups.{closes_block, onto, lines_behind, lines_of}
-use Rattle.jsgen_model.specs.Layout.{text_if}
 use Rattle.jsgen_model.specs.Valid.{begins_with_mark, ends_at_close}
 use Rattle.jsgen_comment_text_laws.specs.Law.{bare_lines, begins_closed}
 use Rattle.jsgen_comment_text_laws.proofs.Lines.{is_blank, AsLine, AsLines}

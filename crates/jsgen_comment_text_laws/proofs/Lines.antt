@@ -6,7 +6,7 @@ use Rattle.std.proofs.lemmas.Bool.{false≢true, and_from}
 use Rattle.jsgen_syntax.specs.Raw.{tag_free}
 use Rattle.jsgen_model.specs.Groups.{opens_block, closes_block, indented_if, block_line, block_lines, is_dark}
 use Rattle.jsgen_model.specs.Layout.{Pen, text_if, indented, indent_or_space, at_indentation}
-use Rattle.jsgen_comment_text_laws.specs.Law.{IsIndentedByBlanks}
+use Rattle.jsgen_comment_laws.specs.Stand.{IsIndentedByBlanks}
 
 -- a space or a tab
 abbrev pub is_blank : ℕ → Bool

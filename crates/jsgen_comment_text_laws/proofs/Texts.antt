@@ -1,18 +1,18 @@
 -- What a comment adds to the code of a pen.
-use Rattle.std.proofs.Common.{◌≡◌, ℕ, Bool, true, false, ◌&&◌, List, ◌++◌, codes, drop, map, refl, ap, sym, subst, ◌∙◌, append_assoc}
+use Rattle.std.proofs.Common.{◌≡◌, inl, inr, ℕ, Bool, true, false, ◌&&◌, List, ◌++◌, codes, drop, map, refl, ap, sym, subst, ◌∙◌, append_assoc}
 use Rattle.std.proofs.lemmas.Bool.{false≢true, both_ways, and_parts, and_from}
 use Rattle.std.proofs.lemmas.List.{append_cancel_left}
-use Rattle.jsgen_syntax.specs.Buffer.{indent_code}
-use Rattle.jsgen_syntax.specs.declared.buffer.IndentChar.{IndentChar}
-use Rattle.jsgen_syntax.specs.declared.buffer.IndentChar.TheVariants as indents
 use Rattle.jsgen_syntax.specs.Raw.{tag_free, tag_free_after}
 use Rattle.jsgen_tree.specs.declared.statements.CommentKind.{CommentKind}
 use Rattle.jsgen_tree.specs.declared.statements.CommentKind.TheVariants as kinds
-use Rattle.jsgen_model.specs.Groups.{is_dark, lines_of, is_mid_line, html_close, text_written, block_lines}
+use Rattle.jsgen_model.specs.Comments.{Comment}
+use Rattle.jsgen_model.specs.Groups.{lines_of, is_mid_line, html_close, text_written, comment_written, block_lines}
 use Rattle.jsgen_model.specs.Layout.{Pen, other_end, written}
 use Rattle.jsgen_model.specs.Tokens.{has_line_end}
 use Rattle.jsgen_model.specs.Valid.{begins_with_mark, ends_at_close, is_comment}
-use Rattle.jsgen_comment_text_laws.specs.Law.{JobsIndentByBlanks, OwnTextsOnOneLine, bare_lines, begins_closed, kind_in_place, text_in_place, is_printed_comment, is_on_one_line, dark_of, IsIndentedByBlanks, CommentsKeepTexts}
+use Rattle.jsgen_comment_laws.specs.Stand.{IsIndentedByBlanks}
+use Rattle.jsgen_comment_laws.proofs.Kept.{indent_is_blank}
+use Rattle.jsgen_comment_text_laws.specs.Law.{JobsIndentByBlanks, OwnText, OwnTexts, bare_lines, begins_closed, kind_in_place, text_in_place, is_printed_comment, is_on_one_line, dark_of, CommentsKeepTexts}
 use Rattle.jsgen_comment_text_laws.proofs.Lines.{AsLines, printed_lines}
 use Rattle.jsgen_comment_text_laws.proofs.Darks.{darks_of_block}
 use Rattle.jsgen_comment_text_laws.proofs.Closes.{block_closes}
@@ -32,15 +32,6 @@ on_one_line : (closed : Bool) (kind : CommentKind) (text : List ℕ) → is_on_o
 on_one_line false kind text n e = e
 on_one_line true kinds.MultiLineBlock text n e = absurd (false≢true n)
 on_one_line true kind text n e = e
-
-of_its_kind : (closed : Bool) (kind : CommentKind) (text : List ℕ) → is_on_one_line kind ≡ true → is_printed_comment closed kind text ≡ true → is_comment kind text ≡ true
-of_its_kind false kind text n e = e
-of_its_kind true kinds.MultiLineBlock text n e = absurd (false≢true n)
-of_its_kind true kind text n e = e
-
-still : (mid_line : Bool) (kind : CommentKind) → is_on_one_line kind ≡ true → is_on_one_line (kind_in_place mid_line kind) ≡ true
-still true kinds.HtmlClose n = refl
-still mid_line kind n = n
 
 -- one that nothing stands in place of
 abbrev StandsItself : CommentKind → List ℕ → Type 0
@@ -135,20 +126,22 @@ comments_keep_texts c pen h =
     let a = adds c.kind c.text pen h in
     record { text = a.text; is = a.is; dark = a.dark; whole = a.whole; lines = a.lines; stays = a.stays }
 
-indented : (c : IndentChar) → is_dark (indent_code c) ≡ false
-indented indents.Tab = refl
-indented indents.Space = refl
-
 pub jobs_indent_by_blanks : JobsIndentByBlanks
-jobs_indent_by_blanks job = indented job.options.indent_char
+jobs_indent_by_blanks job = indent_is_blank job.options.indent_char
 
-pub own_texts_on_one_line : OwnTextsOnOneLine
-own_texts_on_one_line c own one its =
-    let pen = its.0 in
-    let a = comments_keep_texts c pen (λ n. absurd (both_ways (is_on_one_line c.kind) n one)) in
-    let same = append_cancel_left pen.code own a.text (sym its.1 ∙ a.is) in
+-- behind the code of a pen stands only one text
+own_text_behind : (c : Comment) (own : List ℕ) (pen : Pen) → (is_on_one_line c.kind ≡ false → IsIndentedByBlanks pen) → (comment_written c pen).code ≡ pen.code ++ own → OwnText c own
+own_text_behind c own pen h is =
+    let a = comments_keep_texts c pen h in
+    let same : a.text ≡ own = append_cancel_left pen.code a.text own (sym a.is ∙ is) in
     record {
       mid_line = is_mid_line pen.code;
-      is = same ∙ a.whole one;
-      stays = λ e. subst (λ t. is_comment (kind_in_place (is_mid_line pen.code) c.kind) t ≡ true) (sym same) (of_its_kind (begins_closed (lines_of c.text)) (kind_in_place (is_mid_line pen.code) c.kind) a.text (still (is_mid_line pen.code) c.kind one) (a.stays e));
+      dark = ap dark_of (sym same) ∙ a.dark;
+      whole = λ n. sym same ∙ a.whole n;
+      lines = λ n e o. ap bare_lines (sym same) ∙ a.lines n e o;
+      stays = λ e. subst (λ t. is_printed_comment (begins_closed (lines_of c.text)) (kind_in_place (is_mid_line pen.code) c.kind) t ≡ true) same (a.stays e);
     }
+
+pub own_texts : OwnTexts
+own_texts c own (inl its) = own_text_behind c own its.0 (λ n. its.1.0) its.1.1
+own_texts c own (inr its) = own_text_behind c own its.1.0 (λ n. absurd (both_ways (is_on_one_line c.kind) n its.0)) its.1.1

@@ -1,5 +1,5 @@
 -- What is printed of a comment, and what the source has of it.
-use Rattle.std.specs.Prelude.{◌≡◌, List, [], ◌∷◌, ◌++◌, drop, map, filter, codes, Bool, true, false, ℕ, Contains}
+use Rattle.std.specs.Prelude.{◌≡◌, ◌⊎◌, List, [], ◌∷◌, ◌++◌, drop, map, filter, codes, Bool, true, false, ℕ, Contains}
 use Rattle.std.specs.Char.{is_not_whitespace}
 use Rattle.std.specs.Str.{bytes_eq, skip_leading_whitespace}
 use Rattle.jsgen_syntax.specs.Raw.{tag_free}
@@ -9,11 +9,11 @@ use Rattle.jsgen_tree.specs.declared.statements.CommentKind.{CommentKind}
 use Rattle.jsgen_tree.specs.declared.statements.CommentKind.TheVariants as kinds
 use Rattle.jsgen_model.specs.Comments.{Comment, comment_at}
 use Rattle.jsgen_model.specs.Ends.{rows_of}
-use Rattle.jsgen_model.specs.Groups.{lines_of, is_dark, is_mid_line, comment_written}
+use Rattle.jsgen_model.specs.Groups.{lines_of, is_mid_line, comment_written}
 use Rattle.jsgen_model.specs.Layout.{Pen}
 use Rattle.jsgen_model.specs.Spell.{comments_in, source_bytes, first_pen}
 use Rattle.jsgen_model.specs.Valid.{IsValid, begins_with_mark, ends_at_close, is_comment, text_at}
-use Rattle.jsgen_comment_laws.specs.Stand.{Waiting, IsTextOf, kept_comments, annotation_comments}
+use Rattle.jsgen_comment_laws.specs.Stand.{Waiting, IsIndentedByBlanks, IsTextOf, IsTextInPlace, kept_comments, annotation_comments}
 
 -- ---- what stands in place of a comment
 
@@ -63,10 +63,6 @@ pub record CommentText (c : Comment) (pen : Pen) : Type 0 where
   -- it is a comment of its kind, if that is one
   pub stays : is_comment c.kind c.text ≡ true → is_printed_comment (begins_closed (lines_of c.text)) (kind_in_place (is_mid_line pen.code) c.kind) text ≡ true
 
--- the levels of the pen are indented by spaces or by tabs
-abbrev pub IsIndentedByBlanks : Pen → Type 0
-IsIndentedByBlanks pen = is_dark pen.style.indent ≡ false
-
 -- only a block of several lines has indentation in it
 abbrev pub CommentsKeepTexts : Type 0
 CommentsKeepTexts = (c : Comment) (pen : Pen) → (is_on_one_line c.kind ≡ false → IsIndentedByBlanks pen) → CommentText c pen
@@ -74,14 +70,18 @@ CommentsKeepTexts = (c : Comment) (pen : Pen) → (is_on_one_line c.kind ≡ fal
 abbrev pub JobsIndentByBlanks : Type 0
 JobsIndentByBlanks = (job : JobData) → IsIndentedByBlanks (first_pen job)
 
--- so the own text that a comment on one line has at its place, whatever the pen, is that of the comment, and one of its kind
+-- The same of a text alone, as that at a comment's place, which comes from some pen
 pub record OwnText (c : Comment) (own : List ℕ) : Type 0 where
+  -- as it is in mid-line, or as at the start of a line
   pub mid_line : Bool
-  pub is : own ≡ tag_free (text_in_place mid_line c.kind c.text)
-  pub stays : is_comment c.kind c.text ≡ true → is_comment (kind_in_place mid_line c.kind) own ≡ true
+  pub dark : dark_of own ≡ dark_of (tag_free (text_in_place mid_line c.kind c.text))
+  pub whole : is_on_one_line c.kind ≡ true → own ≡ tag_free (text_in_place mid_line c.kind c.text)
+  pub lines : is_on_one_line c.kind ≡ false → is_comment c.kind c.text ≡ true → begins_closed (lines_of c.text) ≡ false → bare_lines own ≡ map tag_free (bare_lines c.text)
+  pub stays : is_comment c.kind c.text ≡ true → is_printed_comment (begins_closed (lines_of c.text)) (kind_in_place mid_line c.kind) own ≡ true
 
-abbrev pub OwnTextsOnOneLine : Type 0
-OwnTextsOnOneLine = (c : Comment) (own : List ℕ) → is_on_one_line c.kind ≡ true → IsTextOf c own → OwnText c own
+-- it holds of the own text at each place, and of a comment on one line also where nothing is known of the pen
+abbrev pub OwnTexts : Type 0
+OwnTexts = (c : Comment) (own : List ℕ) → (IsTextInPlace c own ⊎ ((is_on_one_line c.kind ≡ true) × IsTextOf c own)) → OwnText c own
 
 -- ---- the comments of a job
 

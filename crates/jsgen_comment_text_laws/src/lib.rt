@@ -1,7 +1,7 @@
 //! Laws on the texts of comments. Nothing here runs, and no printer is mentioned.
 #![tactic(auto)]
 
-ghost use Rattle.jsgen_comment_text_laws.specs.Law.{CommentsKeepTexts, JobsIndentByBlanks, OwnTextsOnOneLine, RowsAreOfSource, KeptAreOfSource};
+ghost use Rattle.jsgen_comment_text_laws.specs.Law.{CommentsKeepTexts, JobsIndentByBlanks, OwnTexts, RowsAreOfSource, KeptAreOfSource};
 
 /// What a comment adds to the code of a pen are its own characters, white space aside, with `</script` escaped: on one line white space
 /// too, and on several lines each line but for what it begins with. It is a comment of its kind where the comment's text is one.
@@ -14,9 +14,9 @@ pub fn jobs_indent_by_blanks()
     ensures { JobsIndentByBlanks }
 {}
 
-/// What `comments_stand` calls a comment's own text is the comment's, where it stands on one line.
-pub fn own_texts_on_one_line()
-    ensures { OwnTextsOnOneLine }
+/// What `comments_stand` calls a comment's own text is the comment's in the same sense, be it on one line or on several.
+pub fn own_texts()
+    ensures { OwnTexts }
 {}
 
 /// Each row of a valid job's comments has the text of the source at its span, which is a comment of its kind.

@@ -1,5 +1,0 @@
-use Rattle.jsgen_comment_text_laws.proofs.Texts as texts
-use Rattle.jsgen_comment_text_laws.proofs.own_texts_on_one_line.Goals as goal
-
-pub returns : goal.returns
-returns c = texts.own_texts_on_one_line
