@@ -1,5 +1,7 @@
 """proofs/Cases.antt: a member of a set that doesn't nest by its type, and a struct with an optional child and without."""
 
+import math
+
 import layout
 from names import DECLARED, nodes_in_antt, sets_in_antt, wrappers_in_antt
 from table import snake
@@ -52,6 +54,29 @@ def by_type(table, s):
 def to_open(table, n):
     return [f for f in table.children(n) if needs_steps(table, f) and (
         f.many == "?" or f.many == "" and (is_inner_set(table, f.kind) or f.kind in table.nodes and to_open(table, table.nodes[f.kind])))]
+
+
+# So the cases of a struct are as many as those of its children, multiplied; a child of a set that nests has one.
+MOST_CASES = 32
+
+
+def cases(table, n):
+    """How many cases the struct is opened into."""
+    return math.prod(cases_of_child(table, f) for f in to_open(table, n))
+
+
+def cases_of_child(table, f):
+    kinds = table.sets[f.kind].members if is_inner_set(table, f.kind) else [f.kind]
+    return sum(cases(table, table.nodes[k]) if k in table.nodes else 1 for k in kinds) + (f.many == "?")
+
+
+def refuse_many_cases(table):
+    """A row that has more is refused, since the lemma of its set has a line for all of them, and the prover reads it whole."""
+    for n in table.nodes.values():
+        if cases(table, n) > MOST_CASES:
+            f = max(to_open(table, n), key=lambda f: cases_of_child(table, f))
+            raise SystemExit(f"{n.name}: it is opened into {cases(table, n)} cases, and {MOST_CASES} are the most; {cases_of_child(table, f)} "
+                             f"are those of its child {f.name}; a set that nests, {f.kind} or one of {f.kind} alone, has one")
 
 
 def is_inner_set(table, kind):

@@ -1,0 +1,40 @@
+// What follows from the table of types is written as it stands here, and a table whose proofs would outgrow the prover is refused.
+import assert from "node:assert/strict";
+import { spawnSync } from "node:child_process";
+import { cpSync, mkdtempSync, readFileSync, rmSync, writeFileSync } from "node:fs";
+import { tmpdir } from "node:os";
+import { join } from "node:path";
+import { test } from "node:test";
+import { fileURLToPath } from "node:url";
+
+const FOLDER = fileURLToPath(new URL("..", import.meta.url));
+
+// How the generator ends on a copy of the repository's tables, after a change of the table, and what it says.
+function generated(change) {
+  const top = mkdtempSync(join(tmpdir(), "jsgen-nodes-"));
+  try {
+    const folder = join(top, "tools", "nodes");
+    cpSync(FOLDER, folder, { recursive: true });
+    const table = join(folder, "table.txt");
+    writeFileSync(table, change(readFileSync(table, "utf8")));
+    const { status, stderr } = spawnSync(join(folder, "generate"), ["--check"], { encoding: "utf8" });
+    return { status, stderr };
+  } finally {
+    rmSync(top, { recursive: true });
+  }
+}
+
+test("the files are as they are written", () => {
+  const { status, stdout, stderr } = spawnSync(join(FOLDER, "generate"), ["--check"], { encoding: "utf8" });
+  assert.equal(status, 0, stdout + stderr);
+});
+
+test("a row whose optional children make too many cases is refused, and the child that makes most is named", () => {
+  const field = "    value               Function\n";
+  const { status, stderr } = generated((table) => {
+    assert.equal(table.split(field).length, 2);
+    return table.replace(field, `${field}    first               Expression?\n    second              Expression?\n`);
+  });
+  assert.equal(status, 1);
+  assert.match(stderr, /^MethodDefinition: it is opened into 48 cases, and 32 are the most; 4 are those of its child value;/);
+});
