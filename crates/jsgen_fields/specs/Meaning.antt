@@ -1,5 +1,5 @@
 -- What a job means: the faults that it has, in their order, and the tree of each row.
-use Rattle.std.specs.Prelude.{ℕ, suc, ◌-◌, ◌==◌, ◌||◌, List, [], ◌∷◌, ◌++◌, length, map, Bool, true, false, Option, Some, None, unwrap_or, Result, Ok, Err, slice_get, if◌then◌else◌}
+use Rattle.std.specs.Prelude.{ℕ, suc, ◌-◌, ◌==◌, ◌||◌, List, [], ◌∷◌, ◌++◌, length, map, Bool, false, Option, Some, None, unwrap_or, Result, Ok, Err, slice_get, if◌then◌else◌}
 use Rattle.serde_json.specs.Data.{Data, null, Num, unsigned, negative, float}
 use Rattle.serde_json.specs.Find.{as_number}
 use Rattle.jsgen_syntax.specs.declared.span.Span.{Span}
