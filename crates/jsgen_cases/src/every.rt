@@ -5,14 +5,14 @@ ghost use Rattle.jsgen.specs.Codegen.{has_printed, has_failed};
 mod classes;
 mod expressions;
 mod members;
-mod modules;
 mod patterns;
 mod sets;
 mod statements;
+mod types;
 
 pub use crate::every::members::push_member_expressions;
 use crate::every::sets::every_node;
-use crate::every::statements::every_program;
+use crate::every::types::every_program;
 use crate::nodes::push_code;
 use crate::push::push_each;
 use jsgen::{Codegen, CodegenError, Context, Gen, GenExpr, Job};

@@ -1,38 +1,45 @@
 """The program of the tests: src/every/, where each node is printed by itself, and then what is in it; what nests in it waits
-(src/every.rt there). A file for each crate of rows, and one for the sets."""
+(src/every.rt there). A function for each set, in a file for each set that nests and one for the others; and one for each type that is a child or in
+several sets. A function that names a node is proved over all types, so what is in a type of one set alone stands in the set's."""
+
+import re
 
 import layout
-from children import plural
 from files.alone import NEVER, at_level
 from table import snake
 
 CASES = "crates/jsgen_cases/src/every"
 
 
+# Where the sets that nest have their functions; others, and `Node`, have theirs in sets.rt, and types in types.rt.
+FILES = {"Expression": "expressions", "AssignmentTarget": "patterns", "BindingPattern": "patterns", "Statement": "statements",
+         "Declaration": "statements", "ClassElement": "classes"}
+
+
 def write(table):
-    files = {}
-    for file, nodes in types(table).items():
-        body = "\n\n".join(of_type(table, n) for n in nodes)
-        files[f"{CASES}/{file}.rt"] = rust(table, "A node printed by itself, and what is in it.", body)
-    sets = "\n\n".join([of_set(table, s) for s in table.sets.values() if is_child(table, s)] + [of_node(table)])
-    return files | {f"{CASES}/sets.rt": rust(table, "A member of a set, printed as one and as its own type.", sets)}
+    return {f"{CASES}/{file}.rt": rust(table, about(file), file, parts) for file, parts in files(table).items()}
 
 
-def types(table):
-    """The types of each file that have a function."""
-    files = {}
-    for n in table.nodes.values():
-        if has_function(table, n.name):
-            crate = table.row_crates[n.file]
-            files.setdefault(plural(crate.removeprefix("jsgen_").removesuffix("_rows")), []).append(n)
-    return files
+def about(file):
+    return "A node printed by itself, and what is in it." if file == "types" else "A member of a set, printed as one and as its own type, and what is in it."
 
 
-def rust(table, about, body):
-    functions = {file: [every(n.name) for n in nodes] for file, nodes in types(table).items()}
-    functions["sets"] = [every(s.name) for s in table.sets.values() if is_child(table, s)]
-    here = [(f"crate::every::{file}", [name for name in names if f"fn {name}<" not in body]) for file, names in functions.items()]
-    tree = list(table.nodes) + list(table.sets) + ["Node"]
+def files(table):
+    """The functions of each file, by the names of their sets and types."""
+    given = {"types": {n.name: of_type(table, n) for n in table.nodes.values() if stands_alone(table, n.name)}}
+    for s in table.sets.values():
+        if is_child(table, s):
+            given.setdefault(FILES.get(s.name, "sets"), {})[s.name] = of_set(table, s)
+    given["sets"]["Node"] = of_node(table)
+    return given
+
+
+def rust(table, about, file, parts):
+    here = [(f"crate::every::{other}", [every(name) for name in names]) for other, names in files(table).items() if other != file]
+    body = "\n\n".join(parts.values())
+    # names in quotes are only printed
+    said = re.sub(r'"\w+"', "", body)
+    tree = [name for name in list(table.nodes) + list(table.sets) + ["Node"] if re.search(rf"(?<![\w.:]){name}\b", said)]
     return layout.rust(about, [], [], here + [("crate::every", ["Every"]), ("jsgen_syntax", ["Memory"]), ("jsgen_tree", tree)], body)
 
 
@@ -47,6 +54,13 @@ def nests(table, name):
 def has_function(table, name):
     """Whether a type has a function: whether it has children of which there is something to print."""
     return bool(calls(table, table.nodes[name]))
+
+
+def stands_alone(table, name):
+    """Whether a type with something to print in it has a function of its own: whether it is a child, or in several sets, or in none."""
+    kinds = [f.kind for n in table.nodes.values() for f in table.children(n)]
+    holders = [s for s in table.sets.values() if name in s.members and is_child(table, s)]
+    return has_function(table, name) and (name in kinds or len(holders) != 1)
 
 
 def is_child(table, s):
@@ -101,15 +115,26 @@ def body(calls):
     return "".join(lines) + (last + "Ok(())\n" if last.endswith("}\n") else last + "\n")
 
 
-def of_type(table, n):
+def inside(table, n):
     own = [itself(n.name)] if itself(n.name) else []
-    return signature(n.name) + body(own + calls(table, n)) + "}"
+    return body(own + calls(table, n))
+
+
+def of_type(table, n):
+    return signature(n.name) + inside(table, n) + "}"
 
 
 def of_set(table, s):
     own = itself(s.name) + "?;\n" if itself(s.name) else ""
-    arms = "".join(f"{s.name}::{m}(node) => {one(table, m, 'node', 'node', '&**node')},\n" for m in s.members)
+    arms = "".join(f"{s.name}::{m}(node) => {arm(table, m)},\n" for m in s.members)
     return f"{signature(s.name)}{own}match node {{\n{arms}}}\n}}"
+
+
+def arm(table, m):
+    """A member, in its box: by its own function, or where it has none by what that would do."""
+    if m in table.nodes and has_function(table, m) and not stands_alone(table, m):
+        return f"{{\nlet node = &**node;\n{inside(table, table.nodes[m])}}}"
+    return one(table, m, "node", "node", "&**node")
 
 
 def of_node(table):

@@ -1,152 +1,23 @@
 // Generated from tools/nodes/table.txt; edit that and run tools/nodes/generate.
-// A member of a set, printed as one and as its own type.
+// A member of a set, printed as one and as its own type, and what is in it.
 
 use crate::every::Every;
-use crate::every::classes::every_class;
-use crate::every::classes::every_method_definition;
-use crate::every::classes::every_private_field_expression;
-use crate::every::classes::every_private_in_expression;
-use crate::every::classes::every_property_definition;
-use crate::every::classes::every_static_block;
-use crate::every::expressions::every_array_expression;
-use crate::every::expressions::every_arrow_function_expression;
-use crate::every::expressions::every_assignment_expression;
-use crate::every::expressions::every_await_expression;
-use crate::every::expressions::every_binary_expression;
-use crate::every::expressions::every_call_expression;
-use crate::every::expressions::every_chain_expression;
-use crate::every::expressions::every_computed_member_expression;
-use crate::every::expressions::every_conditional_expression;
-use crate::every::expressions::every_function;
-use crate::every::expressions::every_function_body;
-use crate::every::expressions::every_import_expression;
-use crate::every::expressions::every_logical_expression;
-use crate::every::expressions::every_new_expression;
-use crate::every::expressions::every_object_expression;
-use crate::every::expressions::every_object_property;
-use crate::every::expressions::every_parenthesized_expression;
-use crate::every::expressions::every_sequence_expression;
-use crate::every::expressions::every_spread_element;
-use crate::every::expressions::every_static_member_expression;
-use crate::every::expressions::every_tagged_template_expression;
-use crate::every::expressions::every_template_literal;
-use crate::every::expressions::every_unary_expression;
-use crate::every::expressions::every_update_expression;
-use crate::every::expressions::every_yield_expression;
-use crate::every::modules::every_export_all_declaration;
-use crate::every::modules::every_export_declaration;
-use crate::every::modules::every_export_default_declaration;
-use crate::every::modules::every_export_from_declaration;
-use crate::every::modules::every_export_named_declaration;
-use crate::every::modules::every_import_declaration;
-use crate::every::modules::every_import_default_specifier;
-use crate::every::modules::every_import_namespace_specifier;
-use crate::every::modules::every_import_specifier;
-use crate::every::patterns::every_array_assignment_target;
-use crate::every::patterns::every_array_pattern;
-use crate::every::patterns::every_assignment_pattern;
-use crate::every::patterns::every_assignment_target_property_identifier;
-use crate::every::patterns::every_assignment_target_property_property;
-use crate::every::patterns::every_assignment_target_with_default;
-use crate::every::patterns::every_object_assignment_target;
-use crate::every::patterns::every_object_pattern;
-use crate::every::statements::every_block_statement;
-use crate::every::statements::every_break_statement;
-use crate::every::statements::every_continue_statement;
-use crate::every::statements::every_do_while_statement;
-use crate::every::statements::every_expression_statement;
-use crate::every::statements::every_for_in_statement;
-use crate::every::statements::every_for_of_statement;
-use crate::every::statements::every_for_statement;
-use crate::every::statements::every_if_statement;
-use crate::every::statements::every_labeled_statement;
-use crate::every::statements::every_return_statement;
-use crate::every::statements::every_switch_statement;
-use crate::every::statements::every_throw_statement;
-use crate::every::statements::every_try_statement;
-use crate::every::statements::every_variable_declaration;
-use crate::every::statements::every_while_statement;
+use crate::every::classes::every_class_element;
+use crate::every::expressions::every_expression;
+use crate::every::patterns::{every_assignment_target, every_binding_pattern};
+use crate::every::statements::{every_declaration, every_statement};
+use crate::every::types::{
+    every_call_expression, every_class, every_computed_member_expression, every_function,
+    every_function_body, every_private_field_expression, every_spread_element,
+    every_static_member_expression, every_variable_declaration,
+};
 use jsgen_syntax::Memory;
-use jsgen_tree::Argument;
-use jsgen_tree::ArrayExpressionElement;
-use jsgen_tree::ArrowFunctionBody;
-use jsgen_tree::AssignmentTarget;
-use jsgen_tree::AssignmentTargetMaybeDefault;
-use jsgen_tree::AssignmentTargetProperty;
-use jsgen_tree::BigIntLiteral;
-use jsgen_tree::BindingIdentifier;
-use jsgen_tree::BindingPattern;
-use jsgen_tree::BooleanLiteral;
-use jsgen_tree::ChainElement;
-use jsgen_tree::ClassElement;
-use jsgen_tree::DebuggerStatement;
-use jsgen_tree::Declaration;
-use jsgen_tree::EmptyStatement;
-use jsgen_tree::ExportDefaultDeclarationKind;
-use jsgen_tree::Expression;
-use jsgen_tree::ForStatementInit;
-use jsgen_tree::ForStatementLeft;
-use jsgen_tree::IdentifierName;
-use jsgen_tree::IdentifierReference;
-use jsgen_tree::ImportAttributeKey;
-use jsgen_tree::ImportDeclarationSpecifier;
-use jsgen_tree::ImportMeta;
-use jsgen_tree::ModuleExportName;
-use jsgen_tree::NewTarget;
-use jsgen_tree::Node;
-use jsgen_tree::NullLiteral;
-use jsgen_tree::NumericLiteral;
-use jsgen_tree::ObjectPropertyKind;
-use jsgen_tree::PrivateIdentifier;
-use jsgen_tree::PropertyKey;
-use jsgen_tree::RegExpLiteral;
-use jsgen_tree::SimpleAssignmentTarget;
-use jsgen_tree::Statement;
-use jsgen_tree::StringLiteral;
-use jsgen_tree::Super;
-use jsgen_tree::ThisExpression;
-
-pub fn every_expression<'a>(node: &'a Expression, found: &mut Every<'a>) -> Result<(), Memory> {
-    found.at_level("Expression", node)?;
-    match node {
-        Expression::IdentifierReference(node) => found.alone("IdentifierReference", &**node),
-        Expression::ThisExpression(node) => found.alone("ThisExpression", &**node),
-        Expression::NullLiteral(node) => found.alone("NullLiteral", &**node),
-        Expression::BooleanLiteral(node) => found.alone("BooleanLiteral", &**node),
-        Expression::NumericLiteral(node) => found.at_level("NumericLiteral", &**node),
-        Expression::BigIntLiteral(node) => found.at_level("BigIntLiteral", &**node),
-        Expression::StringLiteral(node) => found.alone("StringLiteral", &**node),
-        Expression::RegExpLiteral(node) => found.alone("RegExpLiteral", &**node),
-        Expression::BinaryExpression(node) => every_binary_expression(node, found),
-        Expression::LogicalExpression(node) => every_logical_expression(node, found),
-        Expression::ParenthesizedExpression(node) => every_parenthesized_expression(node, found),
-        Expression::StaticMemberExpression(node) => every_static_member_expression(node, found),
-        Expression::ComputedMemberExpression(node) => every_computed_member_expression(node, found),
-        Expression::CallExpression(node) => every_call_expression(node, found),
-        Expression::ChainExpression(node) => every_chain_expression(node, found),
-        Expression::ArrayExpression(node) => every_array_expression(node, found),
-        Expression::ObjectExpression(node) => every_object_expression(node, found),
-        Expression::UnaryExpression(node) => every_unary_expression(node, found),
-        Expression::UpdateExpression(node) => every_update_expression(node, found),
-        Expression::NewExpression(node) => every_new_expression(node, found),
-        Expression::NewTarget(node) => found.alone("NewTarget", &**node),
-        Expression::Super(node) => found.alone("Super", &**node),
-        Expression::ImportMeta(node) => found.alone("ImportMeta", &**node),
-        Expression::ConditionalExpression(node) => every_conditional_expression(node, found),
-        Expression::SequenceExpression(node) => every_sequence_expression(node, found),
-        Expression::AssignmentExpression(node) => every_assignment_expression(node, found),
-        Expression::Function(node) => every_function(node, found),
-        Expression::ArrowFunctionExpression(node) => every_arrow_function_expression(node, found),
-        Expression::Class(node) => every_class(node, found),
-        Expression::PrivateFieldExpression(node) => every_private_field_expression(node, found),
-        Expression::PrivateInExpression(node) => every_private_in_expression(node, found),
-        Expression::AwaitExpression(node) => every_await_expression(node, found),
-        Expression::YieldExpression(node) => every_yield_expression(node, found),
-        Expression::TemplateLiteral(node) => every_template_literal(node, found),
-        Expression::TaggedTemplateExpression(node) => every_tagged_template_expression(node, found),
-        Expression::ImportExpression(node) => every_import_expression(node, found),
-    }
-}
+use jsgen_tree::{
+    Argument, ArrayExpressionElement, ArrowFunctionBody, AssignmentTargetMaybeDefault,
+    AssignmentTargetProperty, ChainElement, ExportDefaultDeclarationKind, ForStatementInit,
+    ForStatementLeft, ImportAttributeKey, ImportDeclarationSpecifier, ModuleExportName, Node,
+    ObjectPropertyKind, PropertyKey, SimpleAssignmentTarget,
+};
 
 pub fn every_argument<'a>(node: &'a Argument, found: &mut Every<'a>) -> Result<(), Memory> {
     found.alone("Argument", node)?;
@@ -203,29 +74,6 @@ pub fn every_simple_assignment_target<'a>(
     }
 }
 
-pub fn every_assignment_target<'a>(
-    node: &'a AssignmentTarget,
-    found: &mut Every<'a>,
-) -> Result<(), Memory> {
-    found.alone("AssignmentTarget", node)?;
-    match node {
-        AssignmentTarget::IdentifierReference(node) => found.alone("IdentifierReference", &**node),
-        AssignmentTarget::StaticMemberExpression(node) => every_static_member_expression(
-            node, found,
-        ),
-        AssignmentTarget::ComputedMemberExpression(node) => every_computed_member_expression(
-            node, found,
-        ),
-        AssignmentTarget::PrivateFieldExpression(node) => every_private_field_expression(
-            node, found,
-        ),
-        AssignmentTarget::ArrayAssignmentTarget(node) => every_array_assignment_target(node, found),
-        AssignmentTarget::ObjectAssignmentTarget(node) => every_object_assignment_target(
-            node, found,
-        ),
-    }
-}
-
 pub fn every_assignment_target_maybe_default<'a>(
     node: &'a AssignmentTargetMaybeDefault,
     found: &mut Every<'a>,
@@ -233,8 +81,12 @@ pub fn every_assignment_target_maybe_default<'a>(
     found.alone("AssignmentTargetMaybeDefault", node)?;
     match node {
         AssignmentTargetMaybeDefault::AssignmentTarget(node) => found.wait(node.get()),
-        AssignmentTargetMaybeDefault::AssignmentTargetWithDefault(node) =>
-            every_assignment_target_with_default(node, found),
+        AssignmentTargetMaybeDefault::AssignmentTargetWithDefault(node) => {
+            let node = &**node;
+            found.alone("AssignmentTargetWithDefault", node)?;
+            found.wait(node.binding.get())?;
+            found.wait(node.init.get())
+        },
     }
 }
 
@@ -244,10 +96,21 @@ pub fn every_assignment_target_property<'a>(
 ) -> Result<(), Memory> {
     found.alone("AssignmentTargetProperty", node)?;
     match node {
-        AssignmentTargetProperty::AssignmentTargetPropertyIdentifier(node) =>
-            every_assignment_target_property_identifier(node, found),
-        AssignmentTargetProperty::AssignmentTargetPropertyProperty(node) =>
-            every_assignment_target_property_property(node, found),
+        AssignmentTargetProperty::AssignmentTargetPropertyIdentifier(node) => {
+            let node = &**node;
+            found.alone("AssignmentTargetPropertyIdentifier", node)?;
+            found.alone("IdentifierReference", &*node.binding)?;
+            if let Some(child) = &node.init {
+                found.wait(child.get())?;
+            }
+            Ok(())
+        },
+        AssignmentTargetProperty::AssignmentTargetPropertyProperty(node) => {
+            let node = &**node;
+            found.alone("AssignmentTargetPropertyProperty", node)?;
+            every_property_key(&node.name, found)?;
+            every_assignment_target_maybe_default(&node.binding, found)
+        },
     }
 }
 
@@ -289,7 +152,12 @@ pub fn every_object_property_kind<'a>(
 ) -> Result<(), Memory> {
     found.alone("ObjectPropertyKind", node)?;
     match node {
-        ObjectPropertyKind::ObjectProperty(node) => every_object_property(node, found),
+        ObjectPropertyKind::ObjectProperty(node) => {
+            let node = &**node;
+            found.alone("ObjectProperty", node)?;
+            every_property_key(&node.key, found)?;
+            found.wait(node.value.get())
+        },
         ObjectPropertyKind::SpreadElement(node) => every_spread_element(node, found),
     }
 }
@@ -300,69 +168,6 @@ pub fn every_property_key<'a>(node: &'a PropertyKey, found: &mut Every<'a>) -> R
         PropertyKey::IdentifierName(node) => found.alone("IdentifierName", &**node),
         PropertyKey::PrivateIdentifier(node) => found.alone("PrivateIdentifier", &**node),
         PropertyKey::Expression(node) => found.wait(node.get()),
-    }
-}
-
-pub fn every_declaration<'a>(node: &'a Declaration, found: &mut Every<'a>) -> Result<(), Memory> {
-    match node {
-        Declaration::VariableDeclaration(node) => every_variable_declaration(node, found),
-        Declaration::Function(node) => every_function(node, found),
-        Declaration::Class(node) => every_class(node, found),
-    }
-}
-
-pub fn every_statement<'a>(node: &'a Statement, found: &mut Every<'a>) -> Result<(), Memory> {
-    found.alone("Statement", node)?;
-    match node {
-        Statement::Declaration(node) => found.wait(node.get()),
-        Statement::ExpressionStatement(node) => every_expression_statement(node, found),
-        Statement::BlockStatement(node) => every_block_statement(node, found),
-        Statement::IfStatement(node) => every_if_statement(node, found),
-        Statement::EmptyStatement(node) => found.alone("EmptyStatement", &**node),
-        Statement::ForStatement(node) => every_for_statement(node, found),
-        Statement::ForInStatement(node) => every_for_in_statement(node, found),
-        Statement::ForOfStatement(node) => every_for_of_statement(node, found),
-        Statement::WhileStatement(node) => every_while_statement(node, found),
-        Statement::DoWhileStatement(node) => every_do_while_statement(node, found),
-        Statement::LabeledStatement(node) => every_labeled_statement(node, found),
-        Statement::ContinueStatement(node) => every_continue_statement(node, found),
-        Statement::BreakStatement(node) => every_break_statement(node, found),
-        Statement::ReturnStatement(node) => every_return_statement(node, found),
-        Statement::ThrowStatement(node) => every_throw_statement(node, found),
-        Statement::DebuggerStatement(node) => found.alone("DebuggerStatement", &**node),
-        Statement::SwitchStatement(node) => every_switch_statement(node, found),
-        Statement::TryStatement(node) => every_try_statement(node, found),
-        Statement::ImportDeclaration(node) => every_import_declaration(node, found),
-        Statement::ExportDeclaration(node) => every_export_declaration(node, found),
-        Statement::ExportNamedDeclaration(node) => every_export_named_declaration(node, found),
-        Statement::ExportFromDeclaration(node) => every_export_from_declaration(node, found),
-        Statement::ExportAllDeclaration(node) => every_export_all_declaration(node, found),
-        Statement::ExportDefaultDeclaration(node) => every_export_default_declaration(node, found),
-    }
-}
-
-pub fn every_binding_pattern<'a>(
-    node: &'a BindingPattern,
-    found: &mut Every<'a>,
-) -> Result<(), Memory> {
-    found.alone("BindingPattern", node)?;
-    match node {
-        BindingPattern::BindingIdentifier(node) => found.alone("BindingIdentifier", &**node),
-        BindingPattern::ObjectPattern(node) => every_object_pattern(node, found),
-        BindingPattern::ArrayPattern(node) => every_array_pattern(node, found),
-        BindingPattern::AssignmentPattern(node) => every_assignment_pattern(node, found),
-    }
-}
-
-pub fn every_class_element<'a>(
-    node: &'a ClassElement,
-    found: &mut Every<'a>,
-) -> Result<(), Memory> {
-    found.alone("ClassElement", node)?;
-    match node {
-        ClassElement::StaticBlock(node) => every_static_block(node, found),
-        ClassElement::MethodDefinition(node) => every_method_definition(node, found),
-        ClassElement::PropertyDefinition(node) => every_property_definition(node, found),
     }
 }
 
@@ -383,12 +188,19 @@ pub fn every_import_declaration_specifier<'a>(
     found: &mut Every<'a>,
 ) -> Result<(), Memory> {
     match node {
-        ImportDeclarationSpecifier::ImportDefaultSpecifier(node) => every_import_default_specifier(
-            node, found,
-        ),
-        ImportDeclarationSpecifier::ImportNamespaceSpecifier(node) =>
-            every_import_namespace_specifier(node, found),
-        ImportDeclarationSpecifier::ImportSpecifier(node) => every_import_specifier(node, found),
+        ImportDeclarationSpecifier::ImportDefaultSpecifier(node) => {
+            let node = &**node;
+            found.alone("BindingIdentifier", &*node.local)
+        },
+        ImportDeclarationSpecifier::ImportNamespaceSpecifier(node) => {
+            let node = &**node;
+            found.alone("BindingIdentifier", &*node.local)
+        },
+        ImportDeclarationSpecifier::ImportSpecifier(node) => {
+            let node = &**node;
+            every_module_export_name(&node.imported, found)?;
+            found.alone("BindingIdentifier", &*node.local)
+        },
     }
 }
 
