@@ -50,7 +50,11 @@ fn push_of(alloc: Global, asked: &str, job: &Job, answer: &mut String) -> Result
 }
 
 // What the library prints, as a run of the program is told.
-fn push_program(printer: Codegen<'_>, program: &Program, answer: &mut String) -> Result<(), Memory>
+fn push_program<'a>(
+    printer: Codegen<'a>,
+    program: &'a Program,
+    answer: &mut String,
+) -> Result<(), Memory>
     requires unprinted { has_printed printer ≡ false }
 {
     if printer.check(program).is_err() {
