@@ -52,6 +52,8 @@ function isGiven(value) {
 }
 
 function numberOf(value, raw) {
+  // This is so of most of them, and needs no look at how `raw` is written.
+  if (value > 0 && Number.isSafeInteger(value) && String(value) === raw) return { type: "NumericLiteral", text: raw };
   if (Number.isNaN(value)) return { fault: "NaN as the value of Literal" };
   if (isNumber(raw) && Object.is(numberIn(raw), value)) return { type: "NumericLiteral", text: numberText(raw) };
   const isNegative = value < 0 || Object.is(value, -0);

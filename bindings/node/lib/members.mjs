@@ -19,6 +19,8 @@ const ANY = member("any", false, []);
 export const NOTE = member("note", false, []);
 
 const HOLD_NODES = ["node", "list", "holes"];
+// How many orders of names are kept of a type.
+const MOST_LOOKS = 8;
 
 const NOTES = [
   "type", "start", "end", "loc", "range", "extra", "parent", "tokens", "comments", "leadingComments", "trailingComments", "innerComments", "errors",
@@ -122,21 +124,43 @@ const TYPES = {
   StaticBlock: { body: list() },
 };
 
-const MEMBERS = new Map(Object.entries(TYPES).map(([type, members]) => [type, tableOf(members)]));
-
-/**
- * The members of nodes of a type, `byName`, and the names of those that are `needed` and of those that hold nodes, `children`; undefined where
- * the type isn't read.
- */
+/** The members of nodes of a type (Members); undefined where the type isn't read. */
 export function membersOf(type) {
   return MEMBERS.get(type);
 }
 
-function tableOf(members) {
-  const byName = new Map([...NOTES.map((name) => [name, NOTE]), ...Object.entries(members)]);
-  const needed = Object.keys(members).filter((name) => members[name].isNeeded);
-  const children = Object.keys(members).filter((name) => HOLD_NODES.includes(members[name].holds));
-  return { byName, needed, children };
+/** The members `byName`, and the names of those that are `needed` and of those that hold nodes, `children`. */
+class Members {
+  constructor(members) {
+    this.byName = new Map([...NOTES.map((name) => [name, NOTE]), ...Object.entries(members)]);
+    this.needed = Object.keys(members).filter((name) => members[name].isNeeded);
+    this.children = Object.keys(members).filter((name) => HOLD_NODES.includes(members[name].holds));
+    // of nodes that were met
+    this.looks = [];
+  }
+
+  /** What is looked at in a node that has these names, in their order. A parser gives nodes of one type few orders, so they are kept. */
+  lookAt(names) {
+    for (let at = 0; at < this.looks.length; at += 1) if (areSame(this.looks[at].names, names)) return this.looks[at];
+    const look = this.newLook(names);
+    if (this.looks.length < MOST_LOOKS) this.looks.push(look);
+    return look;
+  }
+
+  // The members that are no notes, each with its name; null for one that isn't known, and apart those that are needed and aren't there.
+  newLook(names) {
+    const all = names.map((name) => ({ name, member: this.byName.get(name) ?? null }));
+    const missing = this.needed.filter((name) => !names.includes(name)).map((name) => ({ name, member: this.byName.get(name) }));
+    return { names, given: all.filter(({ member }) => member !== NOTE), missing };
+  }
+}
+
+const MEMBERS = new Map(Object.entries(TYPES).map(([type, members]) => [type, new Members(members)]));
+
+function areSame(names, others) {
+  if (names.length !== others.length) return false;
+  for (let at = 0; at < names.length; at += 1) if (names[at] !== others[at]) return false;
+  return true;
 }
 
 /** The nodes that stand in a node, in the order of the text. */

@@ -1,6 +1,7 @@
 // Texts of literals, and offsets in bytes.
 
 const GREATEST_WHOLE = 2n ** 128n - 1n;
+const GREATEST_LENGTH = String(GREATEST_WHOLE).length;
 
 /** A number's text as a job has it: it begins with a digit and doesn't end in a dot. */
 export function numberText(raw) {
@@ -10,7 +11,7 @@ export function numberText(raw) {
 
 /** Whether the text is a whole number by its digits, of 128 bits at most. */
 export function isWholeNumber(text) {
-  return /^(0|[1-9][0-9]{0,38})$/.test(text) && BigInt(text) <= GREATEST_WHOLE;
+  return /^(0|[1-9][0-9]{0,38})$/.test(text) && (text.length < GREATEST_LENGTH || BigInt(text) <= GREATEST_WHOLE);
 }
 
 /** A string as a job has it: the text, or its units of UTF-16 where a surrogate has no partner. */
@@ -25,16 +26,22 @@ export function bytesAt(text) {
   let length = 0;
   for (let at = 0; at < text.length; at += 1) {
     bytes[at] = length;
-    const point = text.codePointAt(at);
-    if (point > 0xffff) {
+    const unit = text.charCodeAt(at);
+    if (unit < 0x80) length += 1;
+    else if (unit < 0x800) length += 2;
+    else if (isPairAt(text, at)) {
       // The second unit of a pair has the offset of the first.
       at += 1;
       bytes[at] = length;
-    }
-    length += point < 0x80 ? 1 : point < 0x800 ? 2 : point <= 0xffff ? 3 : 4;
+      length += 4;
+    } else length += 3;
   }
   bytes[text.length] = length;
   return (offset) => bytes[offset];
+}
+
+function isPairAt(text, at) {
+  return text.codePointAt(at) > 0xffff;
 }
 
 /** What stands within parentheses. */

@@ -1,5 +1,5 @@
 // A tree is validated before it is converted: what isn't in the list of members is refused, since what nobody reads would be lost.
-import { NOTE, membersOf } from "./members.mjs";
+import { membersOf } from "./members.mjs";
 import { MalformedTree, wayTo } from "./refusals.mjs";
 
 // The types that Babel gives without its plugin `estree`, beside those that ESTree has too.
@@ -20,7 +20,7 @@ export function validate(program, refuse) {
   const { sourceType } = program;
   if (typeof sourceType === "string" && sourceType !== "module") refuse(sourceType === "script" ? "a script" : `sourceType ${sourceType} of Program`, program, SCRIPT);
   if (membersOf(program.type) !== undefined && program.type !== "Program") throw new MalformedTree(`program is of type ${program.type}, not Program`);
-  new Validator(program, refuse).node(program);
+  new Validator(program, refuse).node(program, membersOf(program.type));
 }
 
 // Why a value is no node.
@@ -43,21 +43,16 @@ class Validator {
     this.refuse = refuse;
   }
 
-  // It is called for each node of a large tree, so it goes through the members once.
-  node(node) {
-    const members = membersOf(node.type);
+  // It is called for each node of a large tree, with the members of its type.
+  node(node, members) {
     if (members === undefined) this.refuse(node.type, node, OF_BABEL.has(node.type) ? BABEL : "");
-    const { byName, needed } = members;
-    let found = 0;
-    for (const name of Object.keys(node)) {
-      const member = byName.get(name);
-      if (member === undefined) this.unknown(node, name);
-      else if (member !== NOTE) {
-        this.member(node, name, member);
-        if (member.isNeeded) found += 1;
-      }
+    const { given, missing } = members.lookAt(Object.keys(node));
+    for (let at = 0; at < given.length; at += 1) {
+      const { name, member } = given[at];
+      if (member === null) this.unknown(node, name);
+      else this.member(node, name, member);
     }
-    if (found < needed.length) for (const name of needed) if (!Object.hasOwn(node, name)) this.member(node, name, byName.get(name));
+    for (const { name, member } of missing) if (!Object.hasOwn(node, name)) this.member(node, name, member);
   }
 
   unknown(node, name) {
@@ -97,10 +92,10 @@ class Validator {
 
   // Types that nothing is known of are told as such.
   child(node, name, value, types) {
-    if (types !== null && !types.includes(value.type) && membersOf(value.type) !== undefined) {
-      this.fail(value, ` is of type ${value.type}, which can't be the ${name} of ${node.type}`);
-    }
-    this.node(value);
+    const { type } = value;
+    const members = membersOf(type);
+    if (types !== null && members !== undefined && !types.includes(type)) this.fail(value, ` is of type ${type}, which can't be the ${name} of ${node.type}`);
+    this.node(value, members);
   }
 
   fail(node, what) {

@@ -1,6 +1,7 @@
-"""docs/FORMAT.md, between its two lines of comment: the fields of each type, and the sets."""
+"""docs/FORMAT.md, between its two lines of comment: the fields of each type, the sets, and the table's number."""
 
 from children import plural as plural_in_snake_case
+from flat import table_number
 from names import REPOSITORY
 from table import snake
 
@@ -15,7 +16,8 @@ def write(table):
     _, _, after = rest.partition(LAST)
     types = "".join(f"- `{n.name}`: {'; '.join(fields(table, n)) or 'none'}\n" for n in table.nodes.values())
     sets = " ".join(f"{plural(s).capitalize()} are {members(table, s)}." for s in table.sets)
-    text = f"{FIRST}\n\n{types}\n{sets}\n\n{LAST}"
+    number = f"The number of this table, which flat jobs have in their head (below), is {table_number(table)}."
+    text = f"{FIRST}\n\n{types}\n{sets}\n\n{number}\n\n{LAST}"
     return {"docs/FORMAT.md": before + text + after}
 
 

@@ -3,20 +3,28 @@
 import json
 
 from files.docs_schema import OPTIONS
+from flat import sort, table_number, words
 
 HEAD = """\
 // Generated from tools/nodes/table.txt; edit that and run tools/nodes/generate.
 // What of the format of jobs (docs/FORMAT.md) is read by now.
 
-/** For each type of row its fields, in the order of their numbers: the words that it may hold, or null; false where it isn't read yet. */
+/**
+ * For each type of row, in the order of their numbers, its fields, in the order of theirs: the words that it may hold, or its sort, which is
+ * `unread` where it isn't read yet.
+ */
 export const TYPES = {
 """
+NUMBER = """\
+/** The table's number, which flat jobs have in their head. */
+export const TABLE_NUMBER = """
 
 
 def write(table):
     types = "".join(f"  {n.name}: {fields(table, n)},\n" for n in table.nodes.values())
     options = "".join(f"  {json.dumps(name)},\n" for name in OPTIONS)
-    return {"bindings/node/lib/table.mjs": f"{HEAD}{types}}};\n\n/** The options. */\nexport const OPTIONS = [\n{options}];\n"}
+    tail = f"}};\n\n{NUMBER}{table_number(table)};\n\n/** The options. */\nexport const OPTIONS = [\n{options}];\n"
+    return {"bindings/node/lib/table.mjs": HEAD + types + tail}
 
 
 def fields(table, n):
@@ -25,7 +33,5 @@ def fields(table, n):
 
 
 def holds(table, f):
-    """The words of the field, or null; false where it isn't read yet."""
-    if f.unread:
-        return "false"
-    return json.dumps([word for word, _ in table.words[f.kind].words]) if f.kind in table.words else "null"
+    """The words of the field, or its sort."""
+    return json.dumps(words(table, f) or sort(table, f))

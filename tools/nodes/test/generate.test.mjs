@@ -8,6 +8,8 @@ import { test } from "node:test";
 import { fileURLToPath } from "node:url";
 
 const FOLDER = fileURLToPath(new URL("..", import.meta.url));
+// Tells the number of a table that is in a file.
+const NUMBER = "import sys; from table import Table; from flat import table_number; print(table_number(Table(sys.argv[1])))";
 
 // How the generator ends on a copy of the repository's tables, after a change of the table, and what it says.
 function generated(change) {
@@ -37,4 +39,42 @@ test("a row whose optional children make too many cases is refused, and the chil
   });
   assert.equal(status, 1);
   assert.match(stderr, /^MethodDefinition: it is opened into 48 cases, and 32 are the most; 4 are those of its child value;/);
+});
+
+// The number of the table after a change.
+function numberOf(change = (table) => table) {
+  const folder = mkdtempSync(join(tmpdir(), "jsgen-nodes-"));
+  try {
+    const table = join(folder, "table.txt");
+    writeFileSync(table, change(readFileSync(join(FOLDER, "table.txt"), "utf8")));
+    const { status, stdout, stderr } = spawnSync("python3", ["-B", "-c", NUMBER, table], { cwd: FOLDER, encoding: "utf8" });
+    assert.equal(status, 0, stderr);
+    return Number(stdout);
+  } finally {
+    rmSync(folder, { recursive: true });
+  }
+}
+
+function turned(table, one, other) {
+  assert.equal(table.split(`${one}${other}`).length, 2);
+  return table.replace(`${one}${other}`, `${other}${one}`);
+}
+
+test("the table's number tells its types, fields, sorts and words, and their order", () => {
+  const lines = {
+    fields: ["    test                Expression\n", "    consequent          Statement\n"],
+    words: ["    const               Const\n", "    let                 Let\n"],
+    types: [
+      "node ThisExpression 13.2.1\n    | The keyword `this`.\n    = ^ m 'this'\n\n",
+      "node NullLiteral 12.9.1\n    | The literal `null`.\n    = ^ m 'null'\n\n",
+    ],
+  };
+  const changes = [
+    ...Object.values(lines).map(([one, other]) => (table) => turned(table, one, other)),
+    (table) => table.replace("\n    declare             unread flag unpromised", "\n    declare             flag unpromised"),
+    (table) => table.replace("    consequent          Statement\n", "    consequent          Statement*\n"),
+    (table) => table.replace("    consequent          Statement\n", "    then                Statement\n"),
+  ];
+  const numbers = [numberOf(), ...changes.map(numberOf)];
+  assert.equal(new Set(numbers).size, numbers.length, numbers.join(" "));
 });

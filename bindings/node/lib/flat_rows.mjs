@@ -1,0 +1,207 @@
+// The rows of a flat job (docs/FORMAT.md, "Flat jobs"), of what a walk through a tree finds (walk.mjs): numbers go into words of 32 bits and
+// texts into one heap, as they come.
+import { TABLE_NUMBER } from "./table.mjs";
+import { unitsOf } from "./texts.mjs";
+
+const MAGIC = 0x4647534a;
+const HEAD_WORDS = 8;
+// Below it digits are a number, and from it on a text.
+const DIGITS_LIMIT = 2 ** 31;
+// How much room there is at first: words of rows by the length of the source, if that is known, and of the rest a part of these.
+const LEAST_ROOM = 2 ** 9;
+const MOST_ROOM = 2 ** 22;
+// Texts are encoded together, as soon as they have so many units.
+const PIECE = 2 ** 14;
+// The most bytes that a unit of UTF-16 takes in UTF-8.
+const BYTES_A_UNIT = 3;
+const IS_SWAPPED = new Uint8Array(Uint32Array.of(1).buffer)[0] === 0;
+
+function roomFor(length) {
+  let room = LEAST_ROOM;
+  if (typeof length !== "number") return room;
+  while (room < length && room < MOST_ROOM) room *= 2;
+  return room;
+}
+
+/** Words in order, which grow by doubling; those behind the last are 0. */
+class Words {
+  constructor(room) {
+    this.words = new Uint32Array(room);
+    this.length = 0;
+  }
+
+  // Makes room for so many more, and gives the place of the first of them.
+  take(count) {
+    const at = this.length;
+    this.length += count;
+    if (this.length > this.words.length) this.grow();
+    return at;
+  }
+
+  grow() {
+    const words = new Uint32Array(Math.max(2 * this.words.length, this.length));
+    words.set(this.words);
+    this.words = words;
+  }
+}
+
+/**
+ * The texts: each with its place in the heap and its length, and the heap. What was added last stands in `piece`, of which the places are
+ * counted as if it were ASCII until it is encoded.
+ */
+class Texts {
+  constructor(room) {
+    this.places = new Words(room / 4);
+    this.heap = Buffer.allocUnsafe(room);
+    this.end = 0;
+    this.piece = "";
+    // the first text of the piece
+    this.first = 0;
+  }
+
+  /** Adds a text, and gives its number. */
+  add(text) {
+    const at = this.places.take(2);
+    const { words } = this.places;
+    words[at] = this.end + this.piece.length;
+    words[at + 1] = text.length;
+    this.piece += text;
+    if (this.piece.length > PIECE) this.encode();
+    return at / 2;
+  }
+
+  encode() {
+    const most = BYTES_A_UNIT * this.piece.length;
+    if (this.end + most > this.heap.length) this.grow(most);
+    const written = this.heap.write(this.piece, this.end);
+    if (written !== this.piece.length) this.correct();
+    this.end += written;
+    this.piece = "";
+    this.first = this.places.length / 2;
+  }
+
+  grow(most) {
+    const heap = Buffer.allocUnsafe(Math.max(2 * this.heap.length, this.end + most));
+    this.heap.copy(heap, 0, 0, this.end);
+    this.heap = heap;
+  }
+
+  // The places of texts in a piece that isn't ASCII.
+  correct() {
+    const { words, length } = this.places;
+    let units = 0;
+    let place = this.end;
+    for (let at = 2 * this.first; at < length; at += 2) {
+      const text = this.piece.slice(units, units + words[at + 1]);
+      units += text.length;
+      words[at] = place;
+      words[at + 1] = Buffer.byteLength(text);
+      place += words[at + 1];
+    }
+  }
+}
+
+/** The sections of a flat job. `length` is about that of the source, or anything where it isn't known. */
+export class FlatRows {
+  constructor(length) {
+    const room = roomFor(length);
+    this.rows = new Words(room);
+    this.lists = new Words(room / 8);
+    this.texts = new Texts(room);
+    this.count = 0;
+    // where the row begins that is open
+    this.row = 0;
+  }
+
+  open(type, node, start, end) {
+    this.row = this.rows.take(type.length);
+    const { words } = this.rows;
+    words[this.row] = type.number;
+    words[this.row + 1] = start;
+    words[this.row + 2] = end;
+  }
+
+  close() {
+    this.count += 1;
+    return this.count - 1;
+  }
+
+  // The place of a list that is written.
+  listOf(stack, from, to) {
+    let at = this.lists.take(1 + to - from);
+    const place = at;
+    const { words } = this.lists;
+    words[at] = to - from;
+    for (let item = from; item < to; item += 1) {
+      at += 1;
+      words[at] = stack[item] === null ? 0 : stack[item] + 1;
+    }
+    return place;
+  }
+
+  set(field, word) {
+    this.rows.words[this.row + field.place] = word;
+  }
+
+  child(field, row) {
+    this.set(field, row + 1);
+  }
+
+  list(field, place) {
+    this.set(field, place + 1);
+  }
+
+  text(field, text) {
+    this.set(field, this.texts.add(text) + 1);
+  }
+
+  string(field, text) {
+    if (text.isWellFormed()) this.set(field, 2 * (this.texts.add(text) + 1));
+    else this.set(field, 2 * this.unitsList(unitsOf(text)) + 1);
+  }
+
+  // The place of a list of units.
+  unitsList(units) {
+    const place = this.lists.take(1 + units.length);
+    this.lists.words[place] = units.length;
+    this.lists.words.set(units, place + 1);
+    return place;
+  }
+
+  digits(field, text) {
+    const value = Number(text);
+    this.set(field, value < DIGITS_LIMIT ? 2 * value + 1 : 2 * (this.texts.add(text) + 1));
+  }
+
+  number(field, number) {
+    this.set(field, number + 1);
+  }
+
+  flag(field, flag) {
+    this.set(field, flag ? 2 : 1);
+  }
+
+  word(field, word, number) {
+    this.set(field, number);
+  }
+
+  /** The bytes of the job that has these rows and the other members of its head. */
+  job(head) {
+    this.texts.encode();
+    const { rows, lists, texts } = this;
+    const json = Buffer.from(JSON.stringify(head));
+    const numbers = [MAGIC, TABLE_NUMBER, this.count, rows.length, lists.length, texts.places.length / 2, texts.end, json.length];
+    const words = HEAD_WORDS + rows.length + lists.length + texts.places.length;
+    const bytes = Buffer.allocUnsafeSlow(4 * words + texts.end + json.length);
+    const written = new Uint32Array(bytes.buffer, bytes.byteOffset, words);
+    let at = 0;
+    for (const part of [numbers, ...[rows, lists, texts.places].map((section) => section.words.subarray(0, section.length))]) {
+      written.set(part, at);
+      at += part.length;
+    }
+    if (IS_SWAPPED) bytes.subarray(0, 4 * words).swap32();
+    texts.heap.copy(bytes, 4 * words, 0, texts.end);
+    json.copy(bytes, 4 * words + texts.end);
+    return bytes;
+  }
+}
