@@ -1,11 +1,12 @@
 // `node bench/in_process.mjs`: what printing costs in node's own process, by the addon that bindings/node/build.mjs makes. Its tables
-// have the memory of the process after many calls, the time of a small module beside that of starting the program, and the time of
-// three.js beside that of other printers. Everything is printed pretty and without comments. The packages of the other printers are
-// found as those of tools/estree are, or in the folder that the variable NODE_PATH names; what isn't there is left out, and a line says so.
+// have the memory of the process after many calls, the time of a small module beside that of starting the program, the time of
+// three.js beside that of other printers, and that of its text with a map, by one call beside two. Everything is printed pretty and without
+// comments. The packages of the other printers are found as those of tools/estree are, or in the folder that the variable NODE_PATH names;
+// what isn't there is left out, and a line says so.
 import assert from "node:assert/strict";
 import { spawnSync } from "node:child_process";
 import { existsSync, readFileSync } from "node:fs";
-import { printJob } from "../bindings/node/index.mjs";
+import { buildJob, mapJob, printJob } from "../bindings/node/index.mjs";
 import { jobOf } from "../bindings/node/lib/convert.mjs";
 import { packageOrNull } from "../bindings/node/lib/packages.mjs";
 import { addon } from "../bindings/node/lib/printer.mjs";
@@ -135,6 +136,16 @@ async function compareWithOthers(source) {
   for (const [name, sum] of Object.entries(sums)) showRatio(`jsgen ${name}, over ${BABEL}`, sum / times[BABEL], BABEL_LIMIT);
 }
 
+// ---- a source map
+
+function compareCalls(source) {
+  const bytes = bytesOf(jobOf(parsed(source), { source, options: { source_map_path: "three.js" } }));
+  const { code, map } = buildJob(bytes);
+  assert.deepEqual({ code, map }, { code: printJob(bytes), map: mapJob(bytes) });
+  show("with a map, by printJob and mapJob", bestOfFive(() => [mapJob(bytes), printJob(bytes)]).toFixed(0), code.length + map.length);
+  show("with a map, by buildJob", bestOfFive(() => buildJob(bytes)).toFixed(0), code.length + map.length);
+}
+
 if (addon === null) throw new Error("the addon isn't built; `node bindings/node/build.mjs` builds it");
 if (unbuilt) throw new Error(unbuilt);
 const small = SMALL.map((file) => readFileSync(file, "utf8")).join("");
@@ -150,5 +161,7 @@ if (path === undefined) {
   show("three.js is left out: not installed");
 } else {
   show("three.js, best of five", "ms", "characters");
-  await compareWithOthers(readFileSync(path, "utf8"));
+  const source = readFileSync(path, "utf8");
+  await compareWithOthers(source);
+  compareCalls(source);
 }

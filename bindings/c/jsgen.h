@@ -1,6 +1,6 @@
 /*
  * jsgen prints JavaScript: the bytes of a job go in, a syntax tree in JSON (docs/FORMAT.md), and its text, the lines of its source
- * map or those of its licences come out, in UTF-8.
+ * map or those of its licences come out, in UTF-8, or all of these by one call.
  *
  * Memory. Every pointer is the caller's, before the call and after it: nothing is kept, and a call reads and writes only
  * while it runs. No pointer is NULL, not even beside a length of 0. The buffer and the answer overlap neither each other nor the
@@ -33,7 +33,7 @@ enum jsgen_status {
   JSGEN_NOT_JOB = 3,         /* the bytes are no job: `rule`, and what of `row` and `field` it has */
   JSGEN_MEMORY = 6,          /* memory ran out, which may come in place of any other status but JSGEN_TOO_LONG */
   JSGEN_TOO_LONG = 7,        /* the job has more than JSGEN_LONGEST_JOB bytes, and is not looked at */
-  JSGEN_BUFFER_TOO_SMALL = 8 /* the text is longer than the buffer: `text_length` */
+  JSGEN_BUFFER_TOO_SMALL = 8 /* what is asked for is longer than the buffer: `text_length`, or the three lengths of jsgen_build_job */
 };
 
 /* What is wrong, by number: docs/FORMAT.md says what each rule asks and when each fault comes. */
@@ -83,6 +83,28 @@ uint32_t jsgen_map_job(const uint8_t *job, size_t job_length, uint8_t *buffer, s
  * The same for the lines of its licences that stand in a file of their own: none where the options have them elsewhere.
  */
 uint32_t jsgen_legal_job(const uint8_t *job, size_t job_length, uint8_t *buffer, size_t buffer_length, struct jsgen_answer *answer);
+
+/* What is told besides the status by jsgen_build_job. A call writes all of it, with 0 for what the status and the rule don't speak of. */
+struct jsgen_build_answer {
+  size_t code_length;  /* the bytes of the program's text, under JSGEN_DONE and JSGEN_BUFFER_TOO_SMALL */
+  size_t map_length;   /* those of the lines of the source map, under the same */
+  size_t legal_length; /* those of the lines of the licences, under the same */
+  size_t row;          /* this and what follows as in jsgen_answer */
+  size_t field;
+  uint32_t has_row;
+  uint32_t start;
+  uint32_t rule;
+};
+
+/*
+ * All of these at once, for which the job is read and printed once: what jsgen_print_job, jsgen_map_job and jsgen_legal_job write. On
+ * JSGEN_DONE the buffer begins with the text, of `code_length` bytes, behind it stand the lines of the map, of `map_length`, and behind
+ * these those of the licences, of `legal_length`, with nothing between; behind that the buffer is as it was. Under every other status the
+ * buffer is as it was. Under JSGEN_BUFFER_TOO_SMALL it takes the sum of the three lengths.
+ *
+ * Statuses: all six.
+ */
+uint32_t jsgen_build_job(const uint8_t *job, size_t job_length, uint8_t *buffer, size_t buffer_length, struct jsgen_build_answer *answer);
 
 /*
  * Says whether a job's tree keeps the rules, and prints nothing. What is wrong is told as by jsgen_print_job, and of several

@@ -18,31 +18,51 @@
 
 typedef uint32_t job_call(const uint8_t *job, size_t job_length, uint8_t *buffer, size_t buffer_length, struct jsgen_answer *answer);
 
+// What is asked for: one text, all of them, or none.
+enum asked { ONE, ALL, NONE };
+
 // What a thread is to do, and what came of it.
 struct work {
-  job_call *call; // NULL for a check
+  enum asked asked;
+  job_call *call; // of one text
   const uint8_t *job;
   size_t length;
-  uint8_t *text; // to be freed; NULL where memory ran out
+  uint8_t *texts; // to be freed; NULL where memory ran out, and where none is asked for
   uint32_t status;
-  struct jsgen_answer answer;
+  struct jsgen_build_answer answer; // a text that is asked for alone is told as the code
 };
 
-// A text is hardly ever longer than its job; one that is tells how long it is.
+// The numbers of a call of at most one text, as those of a build.
+static void keep(struct work *work, const struct jsgen_answer *answer) {
+  work->answer = (struct jsgen_build_answer){
+      .code_length = answer->text_length, .row = answer->row, .field = answer->field, .has_row = answer->has_row, .start = answer->start, .rule = answer->rule};
+}
+
+// Writes what is asked for into a buffer of this length.
+static uint32_t fill(struct work *work, size_t capacity) {
+  if (work->asked == ALL) return jsgen_build_job(work->job, work->length, work->texts, capacity, &work->answer);
+  struct jsgen_answer answer;
+  uint32_t status = work->call(work->job, work->length, work->texts, capacity, &answer);
+  keep(work, &answer);
+  return status;
+}
+
+// A text is hardly ever longer than its job, and all texts hardly ever twice as long; where they are, it is told how long.
 static void *run(void *given) {
   struct work *work = given;
-  if (work->call == NULL) {
-    work->status = jsgen_check_job(work->job, work->length, &work->answer);
+  if (work->asked == NONE) {
+    struct jsgen_answer answer;
+    work->status = jsgen_check_job(work->job, work->length, &answer);
+    keep(work, &answer);
     return NULL;
   }
-  size_t capacity = work->length + 64;
+  size_t capacity = work->length * (work->asked == ALL ? 2 : 1) + 64;
   work->status = JSGEN_BUFFER_TOO_SMALL;
   for (int turn = 0; turn < 2 && work->status == JSGEN_BUFFER_TOO_SMALL; turn++) {
-    free(work->text);
-    work->text = malloc(capacity);
-    if (work->text == NULL) work->status = JSGEN_MEMORY;
-    else work->status = work->call(work->job, work->length, work->text, capacity, &work->answer);
-    capacity = work->answer.text_length;
+    free(work->texts);
+    work->texts = malloc(capacity);
+    work->status = work->texts == NULL ? JSGEN_MEMORY : fill(work, capacity);
+    capacity = work->answer.code_length + work->answer.map_length + work->answer.legal_length;
   }
   return NULL;
 }
@@ -116,26 +136,41 @@ static bool bytes_of(napi_env env, napi_callback_info info, uint8_t **bytes, siz
   return type == napi_uint8_array;
 }
 
-static napi_value object_of(napi_env env, const struct work *work) {
-  const struct jsgen_answer *answer = &work->answer;
-  napi_value object, text;
-  if (napi_create_object(env, &object) != napi_ok || !set_number(env, object, "status", work->status)) return failed(env, "no object");
-  if (work->status == JSGEN_DONE) {
-    const char *bytes = work->text == NULL ? "" : (const char *)work->text;
-    if (napi_create_string_utf8(env, bytes, answer->text_length, &text) != napi_ok) return failed(env, "the text is too long for a string");
-    if (napi_set_named_property(env, object, "text", text) != napi_ok) return failed(env, "no object");
-    return object;
+// Gives a text of the buffer to an object, or throws why not.
+static bool set_text(napi_env env, napi_value object, const char *name, const uint8_t *bytes, size_t length) {
+  napi_value text;
+  if (napi_create_string_utf8(env, length == 0 ? "" : (const char *)bytes, length, &text) != napi_ok) {
+    failed(env, "the text is too long for a string");
+    return false;
   }
+  if (napi_set_named_property(env, object, name, text) == napi_ok) return true;
+  failed(env, "no object");
+  return false;
+}
+
+static bool set_texts(napi_env env, napi_value object, const struct work *work) {
+  const struct jsgen_build_answer *answer = &work->answer;
+  if (work->asked != ALL) return set_text(env, object, "text", work->texts, answer->code_length);
+  const uint8_t *map = work->texts + answer->code_length;
+  return set_text(env, object, "code", work->texts, answer->code_length) && set_text(env, object, "map", map, answer->map_length) &&
+         set_text(env, object, "licences", map + answer->map_length, answer->legal_length);
+}
+
+static napi_value object_of(napi_env env, const struct work *work) {
+  const struct jsgen_build_answer *answer = &work->answer;
+  napi_value object;
+  if (napi_create_object(env, &object) != napi_ok || !set_number(env, object, "status", work->status)) return failed(env, "no object");
+  if (work->status == JSGEN_DONE) return set_texts(env, object, work) ? object : NULL;
   bool is_set = set_number(env, object, "rule", answer->rule) && set_number(env, object, "start", answer->start) &&
                 set_number(env, object, "field", (double)answer->field);
   if (is_set && answer->has_row) is_set = set_number(env, object, "row", (double)answer->row);
   return is_set ? object : failed(env, "no object");
 }
 
-// What a call gives for the bytes of a job: { status, text }, or the numbers of a fault beside the status.
-static napi_value answered(napi_env env, napi_callback_info info, job_call *call) {
+// What a call gives for the bytes of a job: { status, text }, or of a build { status, code, map, licences }, or the numbers of a fault
+// beside the status.
+static napi_value answered(napi_env env, napi_callback_info info, struct work work) {
   uint8_t *job = NULL;
-  struct work work = {.call = call};
   if (!bytes_of(env, info, &job, &work.length)) {
     napi_throw_type_error(env, NULL, "a job is a Uint8Array");
     return NULL;
@@ -143,24 +178,28 @@ static napi_value answered(napi_env env, napi_callback_info info, job_call *call
   work.job = work.length == 0 ? (const uint8_t *)"" : job;
   bool is_done = run_deep(&work);
   napi_value object = is_done ? object_of(env, &work) : failed(env, "no thread can be made that has the stack for this job");
-  free(work.text);
+  free(work.texts);
   return object;
 }
 
 static napi_value print_job(napi_env env, napi_callback_info info) {
-  return answered(env, info, jsgen_print_job);
+  return answered(env, info, (struct work){.asked = ONE, .call = jsgen_print_job});
 }
 
 static napi_value map_job(napi_env env, napi_callback_info info) {
-  return answered(env, info, jsgen_map_job);
+  return answered(env, info, (struct work){.asked = ONE, .call = jsgen_map_job});
 }
 
 static napi_value legal_job(napi_env env, napi_callback_info info) {
-  return answered(env, info, jsgen_legal_job);
+  return answered(env, info, (struct work){.asked = ONE, .call = jsgen_legal_job});
+}
+
+static napi_value build_job(napi_env env, napi_callback_info info) {
+  return answered(env, info, (struct work){.asked = ALL});
 }
 
 static napi_value check_job(napi_env env, napi_callback_info info) {
-  return answered(env, info, NULL);
+  return answered(env, info, (struct work){.asked = NONE});
 }
 
 static bool set_function(napi_env env, napi_value exports, const char *name, napi_callback call) {
@@ -170,6 +209,7 @@ static bool set_function(napi_env env, napi_value exports, const char *name, nap
 
 NAPI_MODULE_INIT() {
   bool is_set = set_function(env, exports, "printJob", print_job) && set_function(env, exports, "mapJob", map_job) &&
-                set_function(env, exports, "legalJob", legal_job) && set_function(env, exports, "checkJob", check_job);
+                set_function(env, exports, "legalJob", legal_job) && set_function(env, exports, "buildJob", build_job) &&
+                set_function(env, exports, "checkJob", check_job);
   return is_set ? exports : NULL;
 }

@@ -151,6 +151,18 @@ export function printJob(job: string | Uint8Array): string;
 /** The lines of the source map of a job, which is empty where no `source_map_path` is given. */
 export function mapJob(job: string | Uint8Array): string;
 
+/** All that is made of a job. */
+export interface Built {
+  code: string;
+  /** The lines of its source map (docs/FORMAT.md), none where no `source_map_path` is given. */
+  map: string;
+  /** Where its licences stand in the source, a line each; none where they aren't for a file of their own. */
+  licences: string;
+}
+
+/** All that is made of a job at once: by the addon it is read once for it. */
+export function buildJob(job: string | Uint8Array): Built;
+
 /** Throws the JsgenError of a job that wouldn't be printed. */
 export function checkJob(job: string | Uint8Array): void;
 

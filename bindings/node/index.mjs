@@ -2,7 +2,7 @@
 import { jobAndNodes, jobOf as jobOfTree, NotRead } from "./lib/convert.mjs";
 import { licencesOf } from "./lib/licences.mjs";
 import { placeOfFault } from "./lib/fault_places.mjs";
-import { answered } from "./lib/printer.mjs";
+import { allAnswered, answered } from "./lib/printer.mjs";
 import { renaming as renamingOfTree } from "./lib/scopes.mjs";
 import { sourceMapOf } from "./lib/source_map.mjs";
 import { JsgenError } from "./faults.mjs";
@@ -23,6 +23,12 @@ export function printJob(job) {
 /** The lines of the source map of a job. */
 export function mapJob(job) {
   return answered("map", job);
+}
+
+/** The code of a job, the lines of its source map, and those of its licences that stand in a file of their own. */
+export function buildJob(job) {
+  const { print: code, map, legal: licences } = allAnswered(["print", "map", "legal"], job);
+  return { code, map, licences };
 }
 
 /** Throws the JsgenError of a job that wouldn't be printed. */
@@ -67,11 +73,11 @@ function textOf(job) {
 }
 
 function printed(job, options, { source, sourceMap }) {
-  const bytes = Buffer.from(job);
-  const map = sourceMap ? sourceMapOf(mapJob(bytes), { name: options.source_map_path, source }) : null;
-  const code = printJob(bytes);
   const areApart = source !== undefined && /^(linked|external)$/.test(options.legal);
-  return areApart ? { code, map, licences: licencesOf(answered("legal", bytes), source) } : { code, map };
+  const words = ["print", ...(sourceMap ? ["map"] : []), ...(areApart ? ["legal"] : [])];
+  const texts = allAnswered(words, Buffer.from(job));
+  const map = sourceMap ? sourceMapOf(texts.map, { name: options.source_map_path, source }) : null;
+  return areApart ? { code: texts.print, map, licences: licencesOf(texts.legal, source) } : { code: texts.print, map };
 }
 
 // The error with the place of its fault, where one is known.

@@ -29,9 +29,17 @@ function loaded() {
 
 /** What one of the program's words (`print`, `map`, `legal`, `check`) gives for a job, which is a string or bytes of UTF-8. */
 export function answered(word, job) {
+  return allAnswered([word], job)[word];
+}
+
+/** What these words give, by word. The addon makes all of them by one call, which reads the job once; the program is run for each. */
+export function allAnswered(words, job) {
   const bytes = bytesOf(job);
   if (failure !== null) throw new JsgenError(`the addon doesn't load: ${failure.message}`, { status: CANNOT_RUN, cause: failure });
-  return addon !== null ? byAddon(word, bytes) : byProgram(word, bytes);
+  if (addon === null) return Object.fromEntries(words.map((word) => [word, byProgram(word, bytes)]));
+  if (words.length === 1) return { [words[0]]: byAddon(addon[`${words[0]}Job`], bytes).text };
+  const { code, map, licences } = byAddon(addon.buildJob, bytes);
+  return { print: code, map, legal: licences };
 }
 
 function bytesOf(job) {
@@ -41,10 +49,10 @@ function bytesOf(job) {
   return job.buffer instanceof SharedArrayBuffer ? Uint8Array.from(job) : job;
 }
 
-function byAddon(word, bytes) {
-  const answer = answerOf(addon[`${word}Job`], bytes);
+function byAddon(call, bytes) {
+  const answer = answerOf(call, bytes);
   if (answer.status !== 0) throw errorOf(answer);
-  return answer.text;
+  return answer;
 }
 
 // What the addon throws is that it has no thread for a job, or no string for its text.

@@ -8,9 +8,9 @@ import ctypes
 import json
 import os
 import threading
-from typing import Any, Callable, Dict, List, Optional, Union
+from typing import Any, Callable, Dict, List, NamedTuple, Optional, Union
 
-__all__ = ["JsgenError", "print_job", "map_job", "legal_job", "check_job"]
+__all__ = ["JsgenError", "Built", "print_job", "map_job", "legal_job", "build_job", "check_job"]
 
 Job = Union[str, bytes, bytearray, memoryview, Dict[str, Any]]
 
@@ -39,6 +39,23 @@ class _Answer(ctypes.Structure):
         ("start", ctypes.c_uint32),
         ("rule", ctypes.c_uint32),
     ]
+
+
+class _BuildAnswer(ctypes.Structure):
+    _fields_ = [
+        ("code_length", ctypes.c_size_t),
+        ("map_length", ctypes.c_size_t),
+        ("legal_length", ctypes.c_size_t),
+        *_Answer._fields_[1:],
+    ]
+
+
+class Built(NamedTuple):
+    """All that is made of a job: its code, the lines of its source map, and those of its licences that stand in a file of their own."""
+
+    code: str
+    map: str
+    licences: str
 
 
 class JsgenError(Exception):
@@ -71,7 +88,7 @@ class JsgenError(Exception):
         return JsgenError, (str(self), self.status, self.rule, self.start, self.row, self.field)
 
 
-def _error_of(status: int, answer: _Answer) -> JsgenError:
+def _error_of(status: int, answer: Union[_Answer, _BuildAnswer]) -> JsgenError:
     if status == _REFUSED:
         rule = _RULES.get(answer.rule)
         return JsgenError(f"refused: {rule} at {answer.start}", status, rule, start=answer.start)
@@ -98,6 +115,8 @@ def _loaded() -> ctypes.CDLL:
             call = getattr(library, f"jsgen_{name}_job")
             call.argtypes = [*bytes_in, ctypes.c_char_p, ctypes.c_size_t, ctypes.POINTER(_Answer)]
             call.restype = ctypes.c_uint32
+        library.jsgen_build_job.argtypes = [*bytes_in, ctypes.c_char_p, ctypes.c_size_t, ctypes.POINTER(_BuildAnswer)]
+        library.jsgen_build_job.restype = ctypes.c_uint32
         library.jsgen_check_job.argtypes = [*bytes_in, ctypes.POINTER(_Answer)]
         library.jsgen_check_job.restype = ctypes.c_uint32
     except (OSError, AttributeError) as error:
@@ -149,26 +168,34 @@ def _run_deep(job: bytes, work: Callable[[], None]) -> None:
         raise failures.pop()
 
 
-def _answered(call: Any, given: Job) -> str:
+# The texts that a call writes one behind the other, where their lengths are the first numbers of its answer. A text is hardly ever longer
+# than its job; where they don't fit, the call tells their lengths.
+def _texts_of(call: Any, given: Job, answer: Union[_Answer, _BuildAnswer], count: int) -> List[str]:
     job = _bytes_of(given)
     texts: List[bytes] = []
 
     def work() -> None:
-        answer = _Answer()
-        # A text is hardly ever longer than its job; one that is tells how long it is.
-        room = len(job) + 64
+        room = len(job) * min(count, 2) + 64
         while True:
             buffer = ctypes.create_string_buffer(room)
             status = call(job, len(job), buffer, room, ctypes.byref(answer))
+            lengths = [getattr(answer, name) for name, _ in answer._fields_[:count]]
             if status != _BUFFER_TOO_SMALL:
                 break
-            room = answer.text_length
+            room = sum(lengths)
         if status != _DONE:
             raise _error_of(status, answer)
-        texts.append(ctypes.string_at(buffer, answer.text_length))
+        at = ctypes.addressof(buffer)
+        for length in lengths:
+            texts.append(ctypes.string_at(at, length))
+            at += length
 
     _run_deep(job, work)
-    return texts[0].decode("utf-8")
+    return [text.decode("utf-8") for text in texts]
+
+
+def _answered(call: Any, job: Job) -> str:
+    return _texts_of(call, job, _Answer(), 1)[0]
 
 
 def print_job(job: Job) -> str:
@@ -184,6 +211,11 @@ def map_job(job: Job) -> str:
 def legal_job(job: Job) -> str:
     """The lines of its licences that stand in a file of their own; empty where the options have them elsewhere."""
     return _answered(_library.jsgen_legal_job, job)
+
+
+def build_job(job: Job) -> Built:
+    """All of these, for which the job is read and printed once."""
+    return Built(*_texts_of(_library.jsgen_build_job, job, _BuildAnswer(), 3))
 
 
 def check_job(job: Job) -> None:

@@ -1,4 +1,4 @@
 mod Maps
 mod LegalLines
-mod Built
+mod WholePrograms
 mod Answered

@@ -4,6 +4,8 @@ use Rattle.std.specs.declared.alloc.Global.{Global}
 use Rattle.jsgen_tree.specs.Job.{JobData}
 use Rattle.jsgen_model.specs.Valid.{job_breaches, IsValid}
 use Rattle.jsgen_check.specs.Verdict.{told}
+use Rattle.jsgen_jobs.specs.Built.{IsBuiltOf}
+use Rattle.jsgen_jobs.specs.declared.Built.{Built}
 use Rattle.jsgen_jobs.specs.declared.JobFault.{JobFault}
 use Rattle.jsgen_jobs.specs.declared.JobFault.TheVariants.{NotJob, Refused, Memory}
 
@@ -22,3 +24,8 @@ VerdictOn job (Err fault) = IsFaultOf job fault
 abbrev pub AnswersOn : (JobData → List ℕ) → JobData → Result (String Global) JobFault → Type 0
 AnswersOn wanted job (Ok text) = IsValid job × (string_bytes text ≡ wanted job)
 AnswersOn wanted job (Err fault) = IsFaultOf job fault
+
+-- all that is made of it
+abbrev pub BuildsOn : JobData → Result Built JobFault → Type 0
+BuildsOn job (Ok built) = IsValid job × IsBuiltOf job built
+BuildsOn job (Err fault) = IsFaultOf job fault

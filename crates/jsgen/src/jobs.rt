@@ -1,21 +1,23 @@
 // From the bytes of a job to its text, or to what is wrong.
-ghost use Rattle.std.specs.Prelude.{◌≡◌, false, option_map, IfOk, string_bytes};
+ghost use Rattle.std.specs.Prelude.{◌≡◌, false, flat_map, option_map, IfOk, string_bytes};
 ghost use Rattle.jsgen_tree.specs.Options.{options_plain};
 ghost use Rattle.jsgen_tree.specs.Scoping.{scoping_plain, private_plain};
 ghost use Rattle.jsgen_jobs.specs.Job.{Reads, Verdict, Answers, AnswersBy, Tells};
-ghost use Rattle.jsgen_jobs.specs.LegalText.{legal_bytes};
+ghost use Rattle.jsgen_jobs.specs.Built.{BuildsAll};
+ghost use Rattle.jsgen_jobs.specs.LegalText.{legal_bytes, licence_line};
 ghost use Rattle.jsgen_jobs.specs.MapText.{map_bytes};
 ghost use Rattle.jsgen_model.specs.Spell.{text_bytes};
 ghost use Rattle.jsgen_check.specs.Verdict.{told};
 ghost use Rattle.jsgen_tree.specs.Plain.{program_plain};
 ghost use Rattle.jsgen.specs.Codegen.{options_of, tables_of, job_for, has_printed};
-ghost use Rattle.jsgen.specs.Answer.{VerdictOn, AnswersOn};
+ghost use Rattle.jsgen.specs.Answer.{VerdictOn, AnswersOn, BuildsOn};
+ghost use Rattle.jsgen.specs.Licences.{rows_plain};
 ghost use Rattle.jsgen.specs.Mapped.{lines_of};
 
-use crate::codegen::Codegen;
+use crate::codegen::{Codegen, CodegenReturn};
 use crate::licences::licence_lines;
 use jsgen_fields::InputFault;
-use jsgen_jobs::{JobFault, PrintJobs};
+use jsgen_jobs::{Built, JobFault, PrintJobs};
 use jsgen_map::SourceMap;
 use jsgen_map_text::map_text;
 use jsgen_model::TreeFault;
@@ -147,6 +149,42 @@ fn legal_text_of<'a>(
     }
 }
 
+// All that is made of a program that keeps them.
+fn built_of<'a>(
+    alloc: Global,
+    printer: Codegen<'a>,
+    program: &'a Program,
+) -> Result<Built, JobFault>
+    requires { has_printed printer ≡ false }
+    ensures { BuildsOn (job_for printer.entry (program_plain program.now)) result }
+{
+    if let Err(fault) = printer.check(program) {
+        return Err(JobFault::Refused(fault));
+    }
+    match printer.build(program) {
+        Ok(printed) => match texts_of(alloc, printed) {
+            Ok(built) => Ok(built),
+            Err(_) => Err(JobFault::Memory),
+        },
+        Err(_) => Err(JobFault::Memory),
+    }
+}
+
+// A printed program as texts.
+fn texts_of(alloc: Global, printed: CodegenReturn<'_>) -> Result<Built, Memory>
+    ensures code { IfOk result (λ b. string_bytes b.code ≡ string_bytes printed.entry.code) }
+    ensures map { IfOk result (λ b. string_bytes b.map ≡ lines_of printed.entry.map) }
+    ensures licences { IfOk result (λ b. string_bytes b.licences ≡ flat_map licence_line (rows_plain printed.entry.legal_comments.items)) }
+{
+    let map = lines_of(alloc, &printed.map)?;
+    let licences = licence_lines(alloc, &printed.legal_comments)?;
+    Ok(Built {
+        code: printed.code,
+        map,
+        licences,
+    })
+}
+
 // Lets go of what was lent, in one place.
 fn let_go(_program: Program, _scoping: Option<Scoping>, _private: Option<PrivateMappings>) {}
 
@@ -222,6 +260,24 @@ pub fn legal_job(alloc: Global, bytes: &[u8]) -> Result<String, JobFault>
     let lines = legal_text_of(alloc, printer, &program);
     let_go(program, scoping, private);
     lines
+}
+
+/// Reads a job from its bytes once, and gives all that is made of it: what `print_job`, `map_job` and `legal_job` give. What is
+/// wrong is answered as by these.
+pub fn build_job(alloc: Global, bytes: &[u8]) -> Result<Built, JobFault>
+    ensures answer { BuildsAll bytes.now result }
+    ensures rule { Tells told bytes.now result }
+{
+    let Job {
+        options,
+        scoping,
+        private,
+        program,
+    } = job_in(alloc, bytes)?;
+    let printer = printer_for(alloc, options, &scoping, &private);
+    let built = built_of(alloc, printer, &program);
+    let_go(program, scoping, private);
+    built
 }
 
 /// This library, where a caller is generic in what prints jobs.

@@ -12,9 +12,9 @@ mod mapped;
 
 pub use codegen::{Codegen, CodegenError, CodegenReturn};
 pub use gens::{Gen, GenExpr};
-pub use jobs::{Library, check_job, legal_job, map_job, print_job};
+pub use jobs::{Library, build_job, check_job, legal_job, map_job, print_job};
 pub use jsgen_fields::{At, InputFault};
-pub use jsgen_jobs::{JobFault, PrintJobs};
+pub use jsgen_jobs::{Built, JobFault, PrintJobs};
 pub use jsgen_map::{SourceMap, Token};
 pub use jsgen_model::{TreeFault, plain_by_types};
 pub use jsgen_printer::{AnnotationKind, CommentsMap, Context, Operator};

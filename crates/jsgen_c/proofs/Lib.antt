@@ -1,3 +1,4 @@
 mod Numbers
 mod Placing
 mod Reading
+mod Row

@@ -11,6 +11,11 @@ use Rattle.jsgen_c.specs.Numbers.{status_of, numbers_of, row_number, row_count, 
 use Rattle.jsgen_c.specs.declared.answer.Answer.{Answer}
 use Rattle.jsgen_c.specs.declared.outcome.Outcome.{Outcome}
 use Rattle.jsgen_c.specs.declared.outcome.Outcome.TheVariants.{Done, TooSmall, Faulty, TooLong}
+use Rattle.jsgen_c.specs.Texts.{as_one, build_numbers, BuildNumbersTell}
+use Rattle.jsgen_c.specs.declared.texts.BuildAnswer.{BuildAnswer}
+use Rattle.jsgen_c.specs.declared.texts.BuildOutcome.{BuildOutcome}
+use Rattle.jsgen_c.specs.declared.texts.BuildOutcome.TheVariants as all
+use Rattle.jsgen_c.specs.declared.texts.Lengths.{Lengths}
 
 rule_from : ℕ → ℕ → TreeFault
 rule_from rule start = if nat_eq rule 1 then rules.Place start else if nat_eq rule 2 then rules.Name start else if nat_eq rule 3 then rules.Literal start else if nat_eq rule 4 then rules.Template start else if nat_eq rule 5 then rules.Span start else if nat_eq rule 6 then rules.Comment start else rules.Indent start
@@ -66,3 +71,31 @@ had_back TooLong = refl
 
 pub numbers_tell : NumbersTell
 numbers_tell a b status numbers = sym (had_back a) ∙ (ap (λ s. outcome_from s (numbers_of a)) status ∙ (ap (outcome_from (status_of b)) numbers ∙ had_back b))
+
+-- ---- of all texts
+
+lengths_from : BuildAnswer → Lengths
+lengths_from a = record { code = a.code_length; map = a.map_length; licences = a.legal_length }
+
+answer_from : BuildAnswer → Answer
+answer_from a = record { text_length = 0; row = a.row; field = a.field; has_row = a.has_row; start = a.start; rule = a.rule }
+
+build_outcome_from : ℕ → BuildAnswer → BuildOutcome
+build_outcome_from status a = if nat_eq status 0 then all.Done (lengths_from a) else if nat_eq status 8 then all.TooSmall (lengths_from a) else if nat_eq status 3 then all.Faulty (NotJob (fault_from (answer_from a))) else if nat_eq status 1 then all.Faulty (Refused (rule_from a.rule a.start)) else if nat_eq status 6 then all.Faulty Memory else all.TooLong
+
+-- a fault that is had back, as the fault of such a call
+fault_in : Outcome → BuildOutcome
+fault_in (Faulty fault) = all.Faulty fault
+fault_in other = all.TooLong
+
+build_had_back : (outcome : BuildOutcome) → build_outcome_from (status_of (as_one outcome)) (build_numbers outcome) ≡ outcome
+unfolding build_outcome_from lengths_from answer_from outcome_from fault_from place_from fault_in
+build_had_back (all.Done lengths) = refl
+build_had_back (all.TooSmall lengths) = refl
+build_had_back (all.Faulty (NotJob fault)) = ap fault_in (fault_back fault)
+build_had_back (all.Faulty (Refused fault)) = ap fault_in (rule_back fault)
+build_had_back (all.Faulty Memory) = refl
+build_had_back all.TooLong = refl
+
+pub build_numbers_tell : BuildNumbersTell
+build_numbers_tell a b status numbers = sym (build_had_back a) ∙ (ap (λ s. build_outcome_from s (build_numbers a)) status ∙ (ap (build_outcome_from (status_of (as_one b))) numbers ∙ build_had_back b))

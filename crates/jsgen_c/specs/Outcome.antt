@@ -60,6 +60,6 @@ Checked TooLong bytes = limit < length bytes
 abbrev pub BeginsAs : JobData → ℕ → List ℕ → Type 0
 BeginsAs job count buffer = IsUtf8 (take count buffer) × IsReadAs (chars (take count buffer)) job
 
--- where the status is 0, and the bytes are a plain and quiet job that keeps the rules, it is read back from the buffer
-abbrev pub IsReadBack : ℕ → Answer → List ℕ → List ℕ → Type 0
-IsReadBack status answer bytes new = status ≡ 0 → (job : JobData) → IsJobOf job bytes → IsPlain job.program → IsQuiet job → BeginsAs job answer.text_length new
+-- where the status is 0, and the bytes are a plain and quiet job that keeps the rules, it is read back from so many bytes of the buffer
+abbrev pub IsReadBack : ℕ → ℕ → List ℕ → List ℕ → Type 0
+IsReadBack status count bytes new = status ≡ 0 → (job : JobData) → IsJobOf job bytes → IsPlain job.program → IsQuiet job → BeginsAs job count new

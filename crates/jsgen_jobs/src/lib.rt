@@ -38,6 +38,17 @@ impl fmt::Display for JobFault {
 
 impl Error for JobFault {}
 
+/// All that is made of a job.
+#[derive(Drop)]
+pub struct Built {
+    /// The text of its program.
+    pub code: String,
+    /// The lines of its source map; none where no path is set for one.
+    pub map: String,
+    /// The lines of its licences that stand in a file of their own; none where the options have them elsewhere.
+    pub licences: String,
+}
+
 /// What prints and checks jobs. Which of the broken rules of a job is told, by all calls alike, and when memory runs out, is all
 /// that it may choose.
 pub trait PrintJobs {

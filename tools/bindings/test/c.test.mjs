@@ -121,6 +121,47 @@ test("a map and licences come as lines, where they are asked for", { skip }, () 
   }
 });
 
+test("all texts come one behind the other, with the length of each, or none where a byte is lacking", { skip }, () => {
+  const lengths = [3, 8, 4];
+  const whole = asked(["build", 15], LICENSED);
+  assert.deepEqual([whole.status, whole.lengths, text(whole), whole.restAsItWas, whole.kept], [0, lengths, "a;\n0 0 1 0\n0 8\n", true, 0]);
+  assert.deepEqual(text(asked(["build", 1000], LICENSED)), text(whole));
+  for (const room of [14, 11, 10, 3, 2, 0]) {
+    const small = asked(["build", room], LICENSED);
+    assert.deepEqual([small.status, small.lengths, small.restAsItWas, small.kept], [8, lengths, true, 0], `${room} bytes`);
+    assert.deepEqual([small.rule, small.start, small.row, small.field, small.hasRow], [0, 0, 0, 0, 0]);
+  }
+  for (let failing = 1; failing <= whole.requests; failing++) {
+    const refused = asked(["build", 100, failing], LICENSED);
+    assert.deepEqual([refused.status, refused.lengths, refused.restAsItWas, refused.kept], [6, [0, 0, 0], true, 0], `request ${failing}`);
+  }
+  const alone = asked(["build", 100], first);
+  assert.deepEqual([alone.status, alone.lengths, text(alone)], [0, [17, 0, 0], "const a = 1 + 2;\n"]);
+  const empty = asked(["build", 0], '{"rows":[{"type":"Program","kind":"module"}]}');
+  assert.deepEqual([empty.status, empty.lengths, empty.restAsItWas], [0, [0, 0, 0], true]);
+});
+
+// With a source map and licences apart, where a job has no other wish.
+function withMap(job) {
+  const { options, ...rest } = JSON.parse(job);
+  return JSON.stringify({ options: { legal: "external", ...options, source_map_path: "x.js" }, ...rest });
+}
+
+test("a build gives for the jobs of examples/ what three calls give", { skip }, () => {
+  const jobs = readdirSync(top("examples")).filter((name) => name.endsWith(".json")).map((name) => readFileSync(top(`examples/${name}`), "utf8"));
+  assert.ok(jobs.length > 10);
+  let mapped = 0;
+  for (const job of jobs.flatMap((given) => [given, withMap(given)])) {
+    const parts = ["print", "map", "legal"].map((word) => asked([word, 1_000_000], job));
+    const whole = asked(["build", 1_000_000], job);
+    assert.deepEqual([whole.status, whole.lengths], [parts[0].status, parts.map(({ length }) => length)]);
+    assert.equal(whole.text, parts.map((part) => part.text).join(""));
+    assert.equal(whole.restAsItWas, true);
+    mapped += whole.lengths[1] > 0;
+  }
+  assert.ok(mapped > 0);
+});
+
 test("an empty text fits an empty buffer", { skip }, () => {
   const answer = asked(["print", 0], '{"rows":[{"type":"Program","kind":"module"}]}');
   assert.deepEqual([answer.status, answer.length, answer.restAsItWas], [0, 0, true]);
@@ -128,7 +169,7 @@ test("an empty text fits an empty buffer", { skip }, () => {
 
 test("an empty job, and one that isn't UTF-8, are no jobs", { skip }, () => {
   for (const job of [Buffer.alloc(0), Buffer.from([0xff, 0xfe]), Buffer.from('{"rows":[{"type":"\xff"}]}', "latin1")]) {
-    for (const words of [["print", 100], ["check"]]) {
+    for (const words of [["print", 100], ["build", 100], ["check"]]) {
       const answer = asked(words, job);
       assert.equal(answer.status, 3);
       assert.equal(line(answer), "not a job: Json");
@@ -138,7 +179,7 @@ test("an empty job, and one that isn't UTF-8, are no jobs", { skip }, () => {
 });
 
 test("a job of as many bytes as may be is looked at, and a longer one isn't", { skip }, () => {
-  for (const words of [["print", 100], ["check"]]) {
+  for (const words of [["print", 100], ["build", 100], ["check"]]) {
     assert.equal(line(asked(words, Buffer.alloc(LIMIT, " "))), "not a job: Json");
     const answer = asked(words, Buffer.alloc(LIMIT + 1, " "));
     assert.deepEqual([answer.status, answer.rule, answer.length, answer.requests], [7, 0, 0, 0]);
@@ -176,6 +217,9 @@ test("jobs have the status and the numbers of the line that is told of them", { 
     const { row, field, hasRow, start, rule } = answer;
     const { requests, ...checked } = asked(["check"], job);
     assert.deepEqual(checked, { status, length: 0, row, field, hasRow, start, rule, kept: 0 }, job);
+    const whole = asked(["build", 100_000], job);
+    assert.deepEqual([whole.status, whole.row, whole.field, whole.hasRow, whole.start, whole.rule], [status, row, field, hasRow, start, rule], job);
+    assert.deepEqual([whole.lengths[0], whole.restAsItWas, whole.kept, whole.text.startsWith(answer.text)], [answer.length, true, 0, true], job);
     rules.add(NUMBERS[rule]);
   }
   assert.deepEqual([...rules].sort(), [...new Set(NUMBERS)].sort());

@@ -5,7 +5,7 @@ import { spawnSync } from "node:child_process";
 import { test } from "node:test";
 import { Worker } from "node:worker_threads";
 
-const { printJob } = await import("../../../bindings/node/index.mjs");
+const { buildJob, printJob } = await import("../../../bindings/node/index.mjs");
 const { addon } = await import("../../../bindings/node/lib/printer.mjs");
 const skip = addon === null && "the addon isn't built: node bindings/node/build.mjs";
 
@@ -34,7 +34,9 @@ const methods = (levels) =>
   ], true);
 
 test(`${LEVELS} blocks one in another print`, { skip }, () => {
-  assert.equal(printJob(blocks(LEVELS)), `${"{".repeat(LEVELS)};${"}".repeat(LEVELS)}`);
+  const code = `${"{".repeat(LEVELS)};${"}".repeat(LEVELS)}`;
+  assert.equal(printJob(blocks(LEVELS)), code);
+  assert.equal(buildJob(blocks(LEVELS)).code, code);
 });
 
 test(`${LEVELS} arrays one in another print`, { skip }, () => {

@@ -14,7 +14,7 @@ import { program, unbuilt, unmapped } from "../../estree/program.mjs";
 
 const here = (name) => fileURLToPath(new URL(name, import.meta.url));
 if (!unbuilt) process.env.JSGEN = program();
-const { JsgenError, checkJob, jobOf: jobOfTree, mapJob, print, printJob, renaming } = await import("../../../bindings/node/index.mjs");
+const { JsgenError, buildJob, checkJob, jobOf: jobOfTree, mapJob, print, printJob, renaming } = await import("../../../bindings/node/index.mjs");
 const { addon } = await import("../../../bindings/node/lib/printer.mjs");
 const skip = addon === null && unbuilt;
 const withoutMaps = unmapped || (packageOrNull("@jridgewell/gen-mapping") === null && "@jridgewell/gen-mapping isn't installed");
@@ -59,7 +59,7 @@ test("a job is checked, and its map is told, as a string or as bytes", { skip },
     assert.equal(checkJob(given), undefined);
     assert.equal(mapJob(given), "0 0 0 0\n0 6 0 6\n0 10 0 10\n");
   }
-  for (const call of [checkJob, mapJob, printJob]) {
+  for (const call of [buildJob, checkJob, mapJob, printJob]) {
     assert.throws(() => call("{"), { name: "JsgenError", message: "not a job: Json", status: 3 });
     assert.throws(() => call({}), { name: "TypeError", message: "a job is a string or a Uint8Array" });
   }
@@ -114,7 +114,8 @@ test("a text that is longer than its job comes whole", { skip }, () => {
   const blocks = Array.from({ length: 200 }, (_, at) => `{"type":"BlockStatement","body":[${at === 0 ? 0 : at}]}`);
   const job = `{"options":{"indent_char":"space","indent_width":16},"rows":[${[rows[0], ...blocks].join(",")},{"type":"Program","kind":"module","body":[200]}]}`;
   const code = printJob(job);
-  assert.ok(code.length > job.length);
+  assert.ok(code.length > 2 * job.length);
+  assert.deepEqual(buildJob(job), { code, map: "", licences: "" });
   assert.equal(code.trim().split("\n").length, 401);
 });
 
@@ -167,6 +168,39 @@ test("the addon gives the lines of a map and of licences", { skip: withoutAddon 
   assert.deepEqual(addon.printJob(job), { status: 0, text: "a;\n" });
   assert.deepEqual(addon.mapJob(job), { status: 0, text: "0 0 1 0\n" });
   assert.deepEqual(addon.legalJob(job), { status: 0, text: "0 8\n" });
+  assert.deepEqual(addon.buildJob(job), { status: 0, code: "a;\n", map: "0 0 1 0\n", licences: "0 8\n" });
+  assert.deepEqual(addon.buildJob(Buffer.from("{}")), addon.printJob(Buffer.from("{}")));
+});
+
+test("all that is made of a job comes at once, as a string or as bytes", { skip }, () => {
+  const job = jobOfSource("/*! L */\na", { source_map_path: "x.js", legal: "external" });
+  for (const given of [job, job.toString(), new Uint8Array(job)]) assert.deepEqual(buildJob(given), { code: "a;\n", map: "0 0 1 0\n", licences: "0 8\n" });
+  assert.deepEqual(buildJob(FIRST), { code: "const a = 1 + 2;\n", map: "", licences: "" });
+  assert.deepEqual(buildJob('{"rows":[{"type":"Program","kind":"module"}]}'), { code: "", map: "", licences: "" });
+});
+
+// The calls of the addon that some work makes.
+function callsOf(work) {
+  const calls = [];
+  const own = { ...addon };
+  for (const [name, call] of Object.entries(own)) addon[name] = (bytes) => (calls.push(name), call(bytes));
+  try {
+    work();
+  } finally {
+    Object.assign(addon, own);
+  }
+  return calls;
+}
+
+test("what is printed with a map, with licences apart or with neither is one call of the addon", { skip: withoutAddon || withoutMaps }, () => {
+  const source = "/*! L */\na";
+  const tree = parsed(source, { comments: true });
+  const comments = { legal: "external" };
+  const printed = (settings) => print(tree, { source, ...settings });
+  assert.deepEqual(callsOf(() => assert.equal(printed({}).code, "/*! L */\na;\n")), ["printJob"]);
+  assert.deepEqual(callsOf(() => assert.deepEqual(printed({ comments }), { code: "a;\n", map: null, licences: ["/*! L */"] })), ["buildJob"]);
+  assert.deepEqual(callsOf(() => assert.equal(printed({ sourceMap: true }).map.version, 3)), ["buildJob"]);
+  assert.deepEqual(callsOf(() => assert.deepEqual(printed({ comments, sourceMap: true }).licences, ["/*! L */"])), ["buildJob"]);
 });
 
 // The jobs of node's own library, with their comments and a path for a map, minified every other one; none where this node hides it.
@@ -195,14 +229,16 @@ test("the addon gives for node's own library what the program gives", { skip: wi
       const { status, stdout } = spawnSync(program(), [word], { input: job, maxBuffer: 2 ** 30 });
       assert.deepEqual(addon[`${word}Job`](job), { status, text: stdout.toString() });
     }
+    const [code, map, licences] = ["print", "map", "legal"].map((word) => addon[`${word}Job`](job).text);
+    assert.deepEqual(addon.buildJob(job), { status: 0, code, map, licences });
   }
   t.diagnostic(`${jobs.length} programs`);
 });
 
 test("the addon takes nothing but bytes", { skip: withoutAddon }, () => {
-  for (const wrong of [undefined, null, "a", 5, {}, [1], new Uint16Array(2), new DataView(new ArrayBuffer(4))]) assert.throws(() => addon.printJob(wrong), TypeError);
+  for (const wrong of [undefined, null, "a", 5, {}, [1], new Uint16Array(2), new DataView(new ArrayBuffer(4))]) for (const call of [addon.printJob, addon.buildJob, addon.checkJob]) assert.throws(() => call(wrong), TypeError);
   assert.throws(() => addon.printJob(), TypeError);
-  assert.equal(addon.printJob(new Uint8Array(0)).status, 3);
+  for (const call of [addon.printJob, addon.buildJob, addon.checkJob]) assert.equal(call(new Uint8Array(0)).status, 3);
 });
 
 test("eight threads print at once", { skip: withoutAddon }, async () => {

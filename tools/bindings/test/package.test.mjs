@@ -129,9 +129,10 @@ test("in the package are its licence, those of what it bundles, and the declarat
 test("the declarations hold of a use of them", { skip: skip || (!isThere("tsc") && "there is no tsc") }, () => {
   const user = existsSync(join(temporary, "addon/user")) ? join(temporary, "addon/user") : installed("types", false);
   const good = `
-    import { JsgenError, NotRead, checkJob, jobOf, mapJob, print, printJob, renaming } from "jsgen";
+    import { JsgenError, NotRead, buildJob, checkJob, jobOf, mapJob, print, printJob, renaming } from "jsgen";
     const { code, map, licences } = print({}, { source: "", minify: true, names: renaming({}), comments: { legal: { linked: "a" } } });
     const texts: string[] = [code, map?.mappings ?? "", ...(licences ?? []), printJob(""), mapJob(new Uint8Array(0))];
+    const built: string[] = [buildJob("").code, buildJob("").map, buildJob("").licences];
     const nothing: void = checkJob(JSON.stringify(jobOf({}, { source: "", options: { minify: true } })));
     const at = (error: JsgenError): number | undefined => error.line ?? error.column;
     const node = (error: NotRead): object | undefined => error.node;`;

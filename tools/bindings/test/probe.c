@@ -4,6 +4,7 @@
  *   probe print ROOM [N]    jsgen_print_job with a buffer of ROOM bytes, where the Nth request for memory fails
  *   probe map ROOM [N]      the same of jsgen_map_job
  *   probe legal ROOM [N]    the same of jsgen_legal_job
+ *   probe build ROOM [N]    the same of jsgen_build_job, whose lengths are told too
  *   probe check [N]         jsgen_check_job
  *   probe threads COUNT     COUNT threads that print the job 200 times each, at once
  *   probe repeat COUNT      the job printed COUNT times, with the size of the process after the first tenth and at the end
@@ -98,23 +99,49 @@ static void tell_hex(const uint8_t *at, size_t length) {
 
 typedef uint32_t job_call(const uint8_t *job, size_t job_length, uint8_t *buffer, size_t buffer_length, struct jsgen_answer *answer);
 
-static int answered(job_call *call, struct bytes job, size_t room, const char *failing) {
+/* A buffer, with a guard before and behind it. */
+static uint8_t *guarded(size_t room) {
   uint8_t *all = room_for(room + 2 * GUARD);
-  uint8_t *buffer = all + GUARD;
-  struct jsgen_answer answer;
   memset(all, FILL, room + 2 * GUARD);
+  return all + GUARD;
+}
+
+/* What stands in the buffer, and whether all else there is as it was. */
+static void tell_buffer(const uint8_t *buffer, size_t room, size_t written) {
+  bool is_within = written <= room;
+  bool is_kept = is_within && is_filled(buffer - GUARD, GUARD) && is_filled(buffer + written, room - written + GUARD);
+  printf(",\"restAsItWas\":%s,\"text\":\"", is_kept ? "true" : "false");
+  if (is_within) tell_hex(buffer, written);
+  printf("\"}\n");
+}
+
+static int answered(job_call *call, struct bytes job, size_t room, const char *failing) {
+  uint8_t *buffer = guarded(room);
+  struct jsgen_answer answer;
   memset(&answer, FILL, sizeof answer);
   begin_count(failing);
   uint32_t status = call(job.at, job.length, buffer, room, &answer);
   is_counted = false;
-  size_t written = status == JSGEN_DONE ? answer.text_length : 0;
-  bool is_within = written <= room;
-  bool is_kept = is_within && is_filled(all, GUARD) && is_filled(buffer + written, room - written + GUARD);
   printf("{");
   tell_numbers(status, &answer);
-  printf(",\"restAsItWas\":%s,\"text\":\"", is_kept ? "true" : "false");
-  if (is_within) tell_hex(buffer, written);
-  printf("\"}\n");
+  tell_buffer(buffer, room, status == JSGEN_DONE ? answer.text_length : 0);
+  return 0;
+}
+
+/* The length that is told is the sum of all. */
+static int built(struct bytes job, size_t room, const char *failing) {
+  uint8_t *buffer = guarded(room);
+  struct jsgen_build_answer answer;
+  memset(&answer, FILL, sizeof answer);
+  begin_count(failing);
+  uint32_t status = jsgen_build_job(job.at, job.length, buffer, room, &answer);
+  is_counted = false;
+  size_t length = answer.code_length + answer.map_length + answer.legal_length;
+  struct jsgen_answer numbers = {length, answer.row, answer.field, answer.has_row, answer.start, answer.rule};
+  printf("{");
+  tell_numbers(status, &numbers);
+  printf(",\"lengths\":[%zu,%zu,%zu]", answer.code_length, answer.map_length, answer.legal_length);
+  tell_buffer(buffer, room, status == JSGEN_DONE ? length : 0);
   return 0;
 }
 
@@ -214,9 +241,10 @@ int main(int count, char **words) {
   if (count > 2 && strcmp(words[1], "print") == 0) return answered(jsgen_print_job, job, strtoull(first, NULL, 10), second);
   if (count > 2 && strcmp(words[1], "map") == 0) return answered(jsgen_map_job, job, strtoull(first, NULL, 10), second);
   if (count > 2 && strcmp(words[1], "legal") == 0) return answered(jsgen_legal_job, job, strtoull(first, NULL, 10), second);
+  if (count > 2 && strcmp(words[1], "build") == 0) return built(job, strtoull(first, NULL, 10), second);
   if (count > 1 && strcmp(words[1], "check") == 0) return check(job, first);
   if (count > 2 && strcmp(words[1], "threads") == 0) return threads(job, atoi(first));
   if (count > 2 && strcmp(words[1], "repeat") == 0) return repeat(job, atoi(first));
-  fprintf(stderr, "usage: probe print ROOM [N] | map ROOM [N] | legal ROOM [N] | check [N] | threads COUNT | repeat COUNT\n");
+  fprintf(stderr, "usage: probe print ROOM [N] | map ROOM [N] | legal ROOM [N] | build ROOM [N] | check [N] | threads COUNT | repeat COUNT\n");
   return 2;
 }

@@ -43,6 +43,7 @@ const LICENSED =
 test("a job has its code, the lines of its map and those of its licences", { skip }, () => {
   const job = JSON.stringify(LICENSED);
   assert.deepEqual(said(`job = ${job}`, "print(json.dumps([it(job) for it in (jsgen.print_job, jsgen.map_job, jsgen.legal_job, jsgen.check_job)]))"), ["\u00e9;\n", '0 0 1 0 0\nname "a"\n', "0 8\n", null]);
+  assert.deepEqual(said(`job = ${job}`, "built = jsgen.build_job(job)", "print(json.dumps([built, built.code, built.map, built.licences]))"), [["\u00e9;\n", '0 0 1 0 0\nname "a"\n', "0 8\n"], "\u00e9;\n", '0 0 1 0 0\nname "a"\n', "0 8\n"]);
   assert.deepEqual(said(`job = ${job}`, "print(json.dumps([jsgen.print_job(it(job.encode())) for it in (bytes, bytearray, memoryview)]))"), Array(3).fill("\u00e9;\n"));
 });
 
@@ -60,8 +61,8 @@ test("what is wrong is raised", { skip }, () => {
     ["' ' * 33554433", ["JsgenError", "input too long", 7, null, null, null, null]],
     ["5", ["TypeError", "a job is a str, bytes or a dict", null, null, null, null, null]],
   ]) {
-    const all = said(`print(json.dumps([raised(it, ${job}) for it in (jsgen.print_job, jsgen.map_job, jsgen.legal_job, jsgen.check_job)]))`);
-    assert.deepEqual(all, Array(4).fill(wanted));
+    const all = said(`print(json.dumps([raised(it, ${job}) for it in (jsgen.print_job, jsgen.map_job, jsgen.legal_job, jsgen.build_job, jsgen.check_job)]))`);
+    assert.deepEqual(all, Array(5).fill(wanted));
   }
 });
 
@@ -69,8 +70,8 @@ test("a text that is longer than its job comes whole, and threads print at once"
   const blocks = Array.from({ length: 200 }, (_, at) => `{"type":"BlockStatement","body":[${at}]}`);
   const job = `{"options":{"indent_char":"space","indent_width":16},"rows":[${['{"type":"EmptyStatement"}', ...blocks].join(",")},{"type":"Program","kind":"module","body":[200]}]}`;
   const lines = ["texts = []", "threads = [threading.Thread(target=lambda: texts.append(jsgen.print_job(job))) for _ in range(8)]", "for it in threads: it.start()", "for it in threads: it.join()"];
-  const texts = said(`job = ${JSON.stringify(job)}`, ...lines, "print(json.dumps([len(texts), len(set(texts)), texts[0].count('\\n')]))");
-  assert.deepEqual(texts, [8, 1, 401]);
+  const texts = said(`job = ${JSON.stringify(job)}`, ...lines, "print(json.dumps([len(texts), len(set(texts)), texts[0].count('\\n'), jsgen.build_job(job) == (texts[0], '', '')]))");
+  assert.deepEqual(texts, [8, 1, 401, true]);
 });
 
 test("a dict is written as JSON, whatever is in its texts", { skip }, () => {
@@ -114,8 +115,9 @@ test("an error goes from one process to another", { skip }, () => {
 });
 
 test("what the module exports has types", { skip }, () => {
-  const lines = ["import typing", "print(json.dumps([sorted(typing.get_type_hints(getattr(jsgen, it))) for it in jsgen.__all__ if it != 'JsgenError']))"];
-  assert.deepEqual(said(...lines), Array(4).fill(["job", "return"]));
+  const lines = ["import typing", "print(json.dumps({it: sorted(typing.get_type_hints(getattr(jsgen, it))) for it in jsgen.__all__ if it != 'JsgenError'}))"];
+  const calls = ["build_job", "check_job", "legal_job", "map_job", "print_job"].map((name) => [name, ["job", "return"]]);
+  assert.deepEqual(said(...lines), { Built: ["code", "licences", "map"], ...Object.fromEntries(calls) });
   assert.ok(existsSync(top("bindings/python/jsgen/py.typed")));
 });
 

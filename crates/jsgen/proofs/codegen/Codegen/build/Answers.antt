@@ -14,7 +14,7 @@ use Rattle.jsgen_comment_laws.proofs.Laws.{comments_stand}
 use Rattle.jsgen_reading_laws.proofs.Reading.{core_read_back, read_back}
 use Rattle.jsgen_one_reading.proofs.Meaning.{read_only}
 use Rattle.jsgen.specs.Commented.{HasComments}
-use Rattle.jsgen.proofs.Built.{Built, apart_is, built, mapped_map, mapped_text, plain_text}
+use Rattle.jsgen.proofs.WholePrograms.{Built, apart_is, built, mapped_map, mapped_text, plain_text}
 use Rattle.jsgen.proofs.Maps.{if_any, if_ok, names_stand_in, source_is, source_is_short}
 use Rattle.jsgen.proofs.codegen.Codegen.build.Goals as goal
 
