@@ -5,9 +5,10 @@ ghost use Rattle.jsgen.specs.Codegen.{has_failed};
 use crate::level::{context_of, level_of};
 use crate::push::{push_numbers, push_where};
 use jsgen::{Codegen, CodegenError, Context, Gen, GenExpr, TreeFault};
+use jsgen_asked::{Inner, inner_expression};
 use jsgen_syntax::{Memory, Precedence, Span};
 use jsgen_tree::{
-    Declaration, Expression, FormalParameters, GetSpan, Inner, Node, ObjectProperty,
+    Bare, Declaration, Expression, FormalParameters, GetSpan, Node, ObjectProperty,
     ObjectPropertyKind, Program, Statement, VariableDeclaration,
 };
 use std::alloc::Global;
@@ -16,7 +17,7 @@ use std::alloc::Global;
 pub fn expression_in(program: &Program) -> Option<&Expression> {
     match program.body.as_slice().first()?.get() {
         Node::Statement(Statement::ExpressionStatement(node)) => {
-            match node.expression.get().inner_expression() {
+            match inner_expression(node.expression.get()) {
                 Some(Inner::Expression(expression)) => Some(expression),
                 _ => None,
             }
@@ -183,8 +184,8 @@ fn print_parameters(
     }
 }
 
-/// The spans of a program of two statements, of the first one, of its expression, of that without parentheses, of the last once
-/// more, and of the second statement.
+/// The spans of a program of two statements, of the first one, of its expression, of what a parent asks about in its parentheses, of
+/// what stands within all of them, and of the second statement.
 pub fn push_spans(alloc: Global, program: &Program, answer: &mut String) -> Result<(), Memory> {
     let [first, second] = program.body.as_slice() else {
         return Ok(());
@@ -193,10 +194,10 @@ pub fn push_spans(alloc: Global, program: &Program, answer: &mut String) -> Resu
         return Ok(());
     };
     let whole = node.expression.get();
-    let Some(Inner::Expression(inner)) = whole.inner_expression() else {
+    let Some(Inner::Expression(inner)) = inner_expression(whole) else {
         return Ok(());
     };
-    let Inner::Expression(bare) = inner.without_parentheses() else {
+    let Bare::Expression(bare) = whole.without_parentheses() else {
         return Ok(());
     };
     let spans = [
@@ -207,7 +208,7 @@ pub fn push_spans(alloc: Global, program: &Program, answer: &mut String) -> Resu
         bare.span(),
         second.get().span(),
     ];
-    let has_inner = second.get().inner_expression().is_some();
+    let has_inner = inner_expression(second.get()).is_some();
     push_each_span(alloc, &spans, has_inner, answer)
 }
 

@@ -8,7 +8,7 @@ use Rattle.jsgen_tree.specs.Rows.{expression_plain, variable_declarator_row, bin
 use Rattle.jsgen_tree.specs.Plain.{node_plain}
 use Rattle.jsgen_tree.specs.declared.nodes.Node.{Node}
 use Rattle.jsgen_tree.specs.declared.functions.Function.{Function}
-use Rattle.jsgen_tree.proofs.Bound.{name_given}
+use Rattle.jsgen_tree.proofs.Given.{name_given}
 use Rattle.jsgen_syntax.specs.declared.span.Span.{Span}
 use Rattle.jsgen_tree.specs.declared.sets.Expression.{Expression}
 use Rattle.jsgen_tree.specs.declared.sets.Expression.TheVariants as expressions

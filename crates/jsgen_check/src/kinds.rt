@@ -16,7 +16,7 @@ use jsgen_rules::{Classes, check_set, class_fits, fits_accessor, fits_words, fun
 use jsgen_tree::{Expression, Function, NodeSet, NodeType, PropertyKind};
 
 /// Whether an expression may stand at a place that asks for this set, as far as it is a function or a class.
-#[tactic(auto, using(jsgen_tree::proofs::Bound::name_given))]
+#[tactic(auto, using(jsgen_tree::proofs::Given::name_given))]
 pub fn expression_fits_kind<N: CheckNode>(node: &Expression<N>, set: NodeSet) -> bool
     ensures { result ≡ fits_kind set (expression_plain N.plain node.now) }
 {

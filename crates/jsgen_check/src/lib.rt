@@ -51,6 +51,7 @@ use crate::sets::{
     check_declaration_set, check_expression_set, check_statement_set,
 };
 pub use crate::surroundings::Surroundings;
+use jsgen_asked::{as_function, class_head, declared_kind, is_negative, looked_up, written_name};
 use jsgen_model::TreeFault;
 use jsgen_rules::{
     Classes, check_no_optional_link, check_no_uncooked, check_set, class_fits, function_fits,
@@ -66,7 +67,7 @@ pub trait CheckNode {
     ghost use Rattle.std.specs.Prelude.{option_map};
     ghost use Rattle.std.specs.Str.{chars};
     ghost use Rattle.jsgen_tree.specs.Tree.{Tree};
-    ghost use Rattle.jsgen_tree.specs.Inside.{without_parentheses, has_optional_link, looked_up_in, named_by, written_name_in, is_negative};
+    ghost use Rattle.jsgen_tree.specs.Inside.{inside_parentheses, has_optional_link, looked_up_in, named_by, written_name_in, is_negative};
     ghost use Rattle.jsgen_model.specs.Valid.{is_declaration, fits_kind, fits_method, binds_nothing, unbound, has_uncooked};
     ghost use Rattle.jsgen_check.specs.Heads.{misfits_left};
 
@@ -92,7 +93,7 @@ pub trait CheckNode {
 
     /// The reference itself, where it is one, without the parentheses that it may have round it.
     fn looked_up(&self) -> Option<&IdentifierReference>
-        ensures { option_map (λ n. named_by n.now) result ≡ looked_up_in (without_parentheses (plain self.now)) };
+        ensures { option_map (λ n. named_by n.now) result ≡ looked_up_in (inside_parentheses (plain self.now)) };
 
     /// The name that stands there as it is written.
     fn written_name(&self) -> Option<&str>
@@ -100,7 +101,7 @@ pub trait CheckNode {
 
     /// Whether it is a number or a big integer with a minus before it, without the parentheses that it may have round it.
     fn is_negative(&self) -> bool
-        ensures { result ≡ is_negative (without_parentheses (plain self.now)) };
+        ensures { result ≡ is_negative (inside_parentheses (plain self.now)) };
 
     /// Whether one of the links up to this one is optional, where it is a member or a call.
     fn has_optional_link(&self) -> bool
@@ -273,7 +274,12 @@ fn check_links<N: CheckNode>(child: &N, set: NodeSet) -> Result<(), TreeFault>
     if takes_optional_link(set) {
         return Ok(());
     }
-    check_no_optional_link(child.has_optional_link(), child.start())
+    if child.has_optional_link() {
+        return Err(TreeFault::Place {
+            start: child.start(),
+        });
+    }
+    Ok(())
 }
 
 // A piece that stands for nothing stands behind a tag alone.
@@ -283,7 +289,12 @@ fn check_pieces<N: CheckNode>(child: &N, set: NodeSet) -> Result<(), TreeFault>
     if takes_uncooked(set) {
         return Ok(());
     }
-    check_no_uncooked(child.has_uncooked(), child.start())
+    if child.has_uncooked() {
+        return Err(TreeFault::Template {
+            start: child.start(),
+        });
+    }
+    Ok(())
 }
 
 /// The knot: the one recursion.
@@ -300,15 +311,15 @@ impl CheckNode for Node {
 
     fn is_declaration(&self) -> bool {
         is_declaration(
-            self.declared_kind(),
-            self.as_function().is_some() || self.class_head().is_some(),
+            declared_kind(self),
+            as_function(self).is_some() || class_head(self).is_some(),
         )
     }
 
     fn fits_kind(&self, set: NodeSet) -> bool {
-        match self.as_function() {
+        match as_function(self) {
             Some(function) => function_fits(function.kind, function.id.is_some(), set),
-            None => match self.class_head() {
+            None => match class_head(self) {
                 Some((kind, has_name)) => class_fits(kind, has_name, set),
                 None => is_bound(self, set),
             },
@@ -316,22 +327,22 @@ impl CheckNode for Node {
     }
 
     fn fits_method(&self, kind: PropertyKind) -> bool {
-        match self.as_function() {
+        match as_function(self) {
             Some(function) => method_fits(function, kind),
             None => false,
         }
     }
 
     fn looked_up(&self) -> Option<&IdentifierReference> {
-        self.looked_up()
+        looked_up(self)
     }
 
     fn written_name(&self) -> Option<&str> {
-        self.written_name()
+        written_name(self)
     }
 
     fn is_negative(&self) -> bool {
-        self.is_negative()
+        is_negative(self)
     }
 
     fn has_optional_link(&self) -> bool {

@@ -248,21 +248,21 @@ alike (held o items) p q w r t =
       start = start_kept (lay items x) (lay items y) (lay (held o items) p) (lay (held o items) q) (closing_start (ending_at (last_byte o) p) (lay items x)) (closing_start (ending_at (last_byte o) q) (lay items y)) a.start;
       style = style_kept (lay items x) (lay (held o items) p) cx ∙ (a.style ∙ s);
     }
-alike (lined_case start end lead items) p q w r t =
-    let bx : Pen = case_begun (has_orphans start p) lead start p in
-    let by : Pen = case_begun (has_orphans start q) lead start q in
-    let x : Pen = case_mark (has_orphans start p) lead bx in
-    let y : Pen = case_mark (has_orphans start q) lead by in
-    let kx : Keeps p x = case_mark_keeps (has_orphans start p) lead bx ∙ begun_keeps (has_orphans start p) lead start p in
-    let ky : Keeps q y = case_mark_keeps (has_orphans start q) lead by ∙ begun_keeps (has_orphans start q) lead start q in
+alike (lined_case only items) p q w r t =
+    let bx : Pen = case_begun (has_orphans only.start p) only.lead only.start p in
+    let by : Pen = case_begun (has_orphans only.start q) only.lead only.start q in
+    let x : Pen = case_mark (has_orphans only.start p) only.lead bx in
+    let y : Pen = case_mark (has_orphans only.start q) only.lead by in
+    let kx : Keeps p x = case_mark_keeps (has_orphans only.start p) only.lead bx ∙ begun_keeps (has_orphans only.start p) only.lead only.start p in
+    let ky : Keeps q y = case_mark_keeps (has_orphans only.start q) only.lead by ∙ begun_keeps (has_orphans only.start q) only.lead only.start q in
     let s = style_kept p x kx in
-    let a = alike items x y (ap (λ (st : Style). is_white st.indent) s ∙ w) (kept p q x y kx ky r) (start_kept (led lead p) (led lead q) x y (begun_start (has_orphans start p) lead start p) (begun_start (has_orphans start q) lead start q) (led_alike lead p q r t)) in
-    let cx = ended_keeps (has_orphans start p) p.depth end (lay items x) in
+    let a = alike items x y (ap (λ (st : Style). is_white st.indent) s ∙ w) (kept p q x y kx ky r) (start_kept (led only.lead p) (led only.lead q) x y (begun_start (has_orphans only.start p) only.lead only.start p) (begun_start (has_orphans only.start q) only.lead only.start q) (led_alike only.lead p q r t)) in
+    let cx = ended_keeps (has_orphans only.start p) p.depth only.end (lay items x) in
     record {
-      same = λ i. orphan_gap start (comment_gap (start ∷ []) (a.same i ⧺ orphan_gap end no_bones));
-      rest = kept (lay items x) (lay items y) (lay (lined_case start end lead items) p) (lay (lined_case start end lead items) q) cx (ended_keeps (has_orphans start q) q.depth end (lay items y)) a.rest;
-      start = start_kept (lay items x) (lay items y) (lay (lined_case start end lead items) p) (lay (lined_case start end lead items) q) (ended_start (has_orphans start p) p.depth end (lay items x)) (ended_start (has_orphans start q) q.depth end (lay items y)) a.start;
-      style = style_kept (lay items x) (lay (lined_case start end lead items) p) cx ∙ (a.style ∙ s);
+      same = λ i. orphan_gap only.start (comment_gap (only.start ∷ []) (a.same i ⧺ orphan_gap only.end no_bones));
+      rest = kept (lay items x) (lay items y) (lay (lined_case only items) p) (lay (lined_case only items) q) cx (ended_keeps (has_orphans only.start q) q.depth only.end (lay items y)) a.rest;
+      start = start_kept (lay items x) (lay items y) (lay (lined_case only items) p) (lay (lined_case only items) q) (ended_start (has_orphans only.start p) p.depth only.end (lay items x)) (ended_start (has_orphans only.start q) q.depth only.end (lay items y)) a.start;
+      style = style_kept (lay items x) (lay (lined_case only items) p) cx ∙ (a.style ∙ s);
     }
 alike (caught start body items) p q w r t =
     let x : Pen = comments_at all_of_them start p in
@@ -285,20 +285,20 @@ alike (annotation_line indented test o) p q w r t =
     let kx = if_keeps (test && p.style.annotated) p (annotation_line_at indented o p) (annotation_line_keeps indented o p) in
     let ky = if_keeps (test && q.style.annotated) q (annotation_line_at indented o q) (annotation_line_keeps indented o q) in
     record { same = ap (λ (st : Style). annotation_if (test && st.annotated) no_side_effects o) (style_of p q r); rest = kept p q (lay (annotation_line indented test o) p) (lay (annotation_line indented test o) q) kx ky r; start = line_start (test && q.style.annotated) (annotation_line_at indented o q) q refl ∙ (unless_alike (λ st. test && st.annotated) p q r t ∙ sym (line_start (test && p.style.annotated) (annotation_line_at indented o p) p refl)); style = style_kept p (lay (annotation_line indented test o) p) kx }
-alike (annotated test lifted pure span o items) p q w r t =
-    let x0 : Pen = written_if (lifts pure lifted p || test) (opening Round) p in
-    let y0 : Pen = written_if (lifts pure lifted q || test) (opening Round) q in
-    let x : Pen = annotated_if (pure && p.style.annotated) span o p.start x0 in
-    let y : Pen = annotated_if (pure && q.style.annotated) span o q.start y0 in
-    let kx = annotated_keeps (pure && p.style.annotated) span o p.start x0 in
+alike (annotated call items) p q w r t =
+    let x0 : Pen = written_if (lifts call p || call.wrapped) (opening Round) p in
+    let y0 : Pen = written_if (lifts call q || call.wrapped) (opening Round) q in
+    let x : Pen = annotated_if (call.pure && p.style.annotated) call.span call.start p.start x0 in
+    let y : Pen = annotated_if (call.pure && q.style.annotated) call.span call.start q.start y0 in
+    let kx = annotated_keeps (call.pure && p.style.annotated) call.span call.start p.start x0 in
     let s = style_kept x0 x kx in
     let st = style_of p q r in
-    let begins : y.start ≡ x.start = annotated_start (pure && q.style.annotated) span o q.start y0 ∙ ((λ i. if pure && (st i).annotated then t i else unless_printed (((pure && (st i).annotated) && lifted) || test) (t i)) ∙ sym (annotated_start (pure && p.style.annotated) span o p.start x0)) in
-    let a = alike items x y (ap (λ (st : Style). is_white st.indent) s ∙ w) (kept x0 y0 x y kx (annotated_keeps (pure && q.style.annotated) span o q.start y0) r) begins in
+    let begins : y.start ≡ x.start = annotated_start (call.pure && q.style.annotated) call.span call.start q.start y0 ∙ ((λ i. if call.pure && (st i).annotated then t i else unless_printed (((call.pure && (st i).annotated) && call.lifted) || call.wrapped) (t i)) ∙ sym (annotated_start (call.pure && p.style.annotated) call.span call.start p.start x0)) in
+    let a = alike items x y (ap (λ (st : Style). is_white st.indent) s ∙ w) (kept x0 y0 x y kx (annotated_keeps (call.pure && q.style.annotated) call.span call.start q.start y0) r) begins in
     record {
-      same = λ i. in_parentheses (((pure && (st i).annotated) && lifted) || test) (annotation_if (pure && (st i).annotated) is_pure o ⧺ a.same i);
+      same = λ i. in_parentheses (((call.pure && (st i).annotated) && call.lifted) || call.wrapped) (annotation_if (call.pure && (st i).annotated) is_pure call.start ⧺ a.same i);
       rest = a.rest;
-      start = λ i. unless_printed (((pure && (st i).annotated) && lifted) || test) (a.start i);
+      start = λ i. unless_printed (((call.pure && (st i).annotated) && call.lifted) || call.wrapped) (a.start i);
       style = a.style ∙ s;
     }
 alike (commented o items) p q w r t =

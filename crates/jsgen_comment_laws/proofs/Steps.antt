@@ -285,22 +285,22 @@ module _ (k a : List Waiting) where
   lay_does (held o items) p =
       let p1 : Pen = without_ending (last_byte o) p in
       holds_ending k a (last_byte o) (bones items p1) p (lay items p1) (lay (held o items) p) (lay_does items p1) (writes_closing (ending_at (last_byte o) p) (lay items p1))
-  lay_does (lined_case start end lead items) p =
-      let long : Bool = has_orphans start p in
-      let p1 : Pen = case_begun long lead start p in
-      let p2 : Pen = case_mark long lead p1 in
-      does_then k a (does_begun long lead start p) (does_then k a (does_mark long lead p1) (does_then k a (lay_does items p2) (does_ended long p.depth end (lay items p2))))
+  lay_does (lined_case only items) p =
+      let long : Bool = has_orphans only.start p in
+      let p1 : Pen = case_begun long only.lead only.start p in
+      let p2 : Pen = case_mark long only.lead p1 in
+      does_then k a (does_begun long only.lead only.start p) (does_then k a (does_mark long only.lead p1) (does_then k a (lay_does items p2) (does_ended long p.depth only.end (lay items p2))))
   lay_does (caught start body items) p =
       let p1 : Pen = comments_at all_of_them start p in
       does_then k a (does_comments all_of_them start p) (does_then k a (lay_does items p1) (does_block (are_any (group_at start p)) body (lay items p1)))
   lay_does (annotation test kind o) p = annotation_if_on (test && p.style.annotated) kind o (does_annotation k a p.start kind o p)
   lay_does (annotation_line indented test o) p = annotation_if_on (test && p.style.annotated) no_side_effects o (does_annotation_line k a indented o p)
-  lay_does (annotated test lifted pure span o items) p =
-      let wraps : Bool = lifts pure lifted p || test in
-      let on : Bool = pure && p.style.annotated in
+  lay_does (annotated call items) p =
+      let wraps : Bool = lifts call p || call.wrapped in
+      let on : Bool = call.pure && p.style.annotated in
       let p1 : Pen = written_if wraps (opening Round) p in
-      let p2 : Pen = annotated_if on span o p.start p1 in
-      in_round k a wraps (does_then k a (does_annotated on span o p.start p1) (lay_does items p2))
+      let p2 : Pen = annotated_if on call.span call.start p.start p1 in
+      in_round k a wraps (does_then k a (does_annotated on call.span call.start p.start p1) (lay_does items p2))
   lay_does (commented o items) p =
       let stand : Bool = are_any (group_at o p) in
       let p1 : Pen = written_if (is_enclosed o p) (opening Round) p in

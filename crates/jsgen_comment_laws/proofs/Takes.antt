@@ -64,7 +64,7 @@ takes_word o a b = takes_then o (comments all_of_them o ⊕ a) b (takes_first o 
 no_truth : false ≡ true → ⊥
 no_truth e = both_ways false refl e
 
-function_takes : (kind : FunctionKind) (pure pife named : Bool) (o : ℕ) (items : Items) → fits_place sets.ModuleItem kind named ≡ true → Takes o (function_items kind pure pife among_statements o items)
+function_takes : (kind : FunctionKind) (pure pife named : Bool) (o : ℕ) (items : Items) → fits_place sets.ModuleItem kind named ≡ true → Takes o (function_items kind (record { pure = pure; pife = pife; place = among_statements; start = o }) items)
 function_takes function_kinds.Declaration pure pife named o items e = takes_word o _ _
 function_takes function_kinds.Expression pure pife named o items e = absurd (no_truth e)
 

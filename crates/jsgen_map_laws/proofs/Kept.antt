@@ -92,21 +92,21 @@ names_kept src (where_same m n a b) p e = either_kept src (are_printed_alike p.s
 names_kept src (held o items) p e =
     let p1 : Pen = without_ending (last_byte o) p in
     kept_later src (printed_names items p1) (names_kept src items p1 (source_behind src (passes_without (last_byte o) p).adds e)) (passes_closing (ending_at (last_byte o) p) (lay items p1)).adds
-names_kept src (lined_case start end lead items) p e =
-    let long : Bool = has_orphans start p in
-    let p1 : Pen = case_begun long lead start p in
-    let p2 : Pen = case_mark long lead p1 in
-    let s = step_then (passes_begun long lead start p).adds (mark_step long lead p1) in
-    kept_later src (printed_names items p2) (names_kept src items p2 (source_behind src s e)) (passes_ended long p.depth end (lay items p2)).adds
+names_kept src (lined_case only items) p e =
+    let long : Bool = has_orphans only.start p in
+    let p1 : Pen = case_begun long only.lead only.start p in
+    let p2 : Pen = case_mark long only.lead p1 in
+    let s = step_then (passes_begun long only.lead only.start p).adds (mark_step long only.lead p1) in
+    kept_later src (printed_names items p2) (names_kept src items p2 (source_behind src s e)) (passes_ended long p.depth only.end (lay items p2)).adds
 names_kept src (caught start body items) p e =
     let p1 : Pen = comments_at all_of_them start p in
     kept_later src (printed_names items p1) (names_kept src items p1 (source_behind src (passes_comments all_of_them start p).adds e)) (block_step (are_any (group_at start p)) body (lay items p1))
-names_kept src (annotated test lifted pure span o items) p e =
-    let wraps : Bool = lifts pure lifted p || test in
-    let on : Bool = pure && p.style.annotated in
+names_kept src (annotated call items) p e =
+    let wraps : Bool = lifts call p || call.wrapped in
+    let on : Bool = call.pure && p.style.annotated in
     let p1 : Pen = written_if wraps (opening Round) p in
-    let p2 : Pen = annotated_if on span o p.start p1 in
-    let s = step_then (written_if_step wraps (opening Round) p) (annotated_step on span o p.start p1) in
+    let p2 : Pen = annotated_if on call.span call.start p.start p1 in
+    let s = step_then (written_if_step wraps (opening Round) p) (annotated_step on call.span call.start p.start p1) in
     kept_later src (printed_names items p2) (names_kept src items p2 (source_behind src s e)) (written_if_step wraps (closing Round) (lay items p2))
 names_kept src (commented o items) p e =
     let test : Bool = is_enclosed o p in

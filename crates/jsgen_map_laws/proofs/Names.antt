@@ -159,12 +159,12 @@ names_added src (held o items) p e =
     let p1 : Pen = without_ending (last_byte o) p in
     let s = passes_without (last_byte o) p in
     names_round src (printed_names items p1) (quiet src p p1 (marks_kept s)) (names_added src items p1 (source_behind src s.adds e)) (sym (marks_kept (passes_closing (ending_at (last_byte o) p) (lay items p1))))
-names_added src (lined_case start end lead items) p e =
-    let long : Bool = has_orphans start p in
-    let p1 : Pen = case_begun long lead start p in
-    let p2 : Pen = case_mark long lead p1 in
-    let s = passes_begun long lead start p in
-    names_round src (printed_names items p2) (names_then src [] [] (quiet src p p1 (marks_kept s)) (mark_named src long lead p1)) (names_added src items p2 (source_behind src (step_then s.adds (mark_step long lead p1)) e)) (sym (marks_kept (passes_ended long p.depth end (lay items p2))))
+names_added src (lined_case only items) p e =
+    let long : Bool = has_orphans only.start p in
+    let p1 : Pen = case_begun long only.lead only.start p in
+    let p2 : Pen = case_mark long only.lead p1 in
+    let s = passes_begun long only.lead only.start p in
+    names_round src (printed_names items p2) (names_then src [] [] (quiet src p p1 (marks_kept s)) (mark_named src long only.lead p1)) (names_added src items p2 (source_behind src (step_then s.adds (mark_step long only.lead p1)) e)) (sym (marks_kept (passes_ended long p.depth only.end (lay items p2))))
 names_added src (caught start body items) p e =
     let p1 : Pen = comments_at all_of_them start p in
     let s = passes_comments all_of_them start p in
@@ -172,12 +172,12 @@ names_added src (caught start body items) p e =
     let before : Bool = are_any (group_at start p) in
     names_round src (printed_names items p1) (quiet src p p1 (marks_kept s)) (names_added src items p1 (source_behind src s.adds e))
     (sym (marks_kept (passes_space (stood before body q) (comments_at all_of_them body q)) ∙ marks_kept (passes_comments all_of_them body q)))
-names_added src (annotated test lifted pure span o items) p e =
-    let wraps : Bool = lifts pure lifted p || test in
-    let on : Bool = pure && p.style.annotated in
+names_added src (annotated call items) p e =
+    let wraps : Bool = lifts call p || call.wrapped in
+    let on : Bool = call.pure && p.style.annotated in
     let p1 : Pen = written_if wraps (opening Round) p in
-    let p2 : Pen = annotated_if on span o p.start p1 in
-    names_round src (printed_names items p2) (names_then src [] [] (quiet src p p1 refl) (annotated_named src on span o p.start p1)) (names_added src items p2 (source_behind src (step_then (written_if_step wraps (opening Round) p) (annotated_step on span o p.start p1)) e)) refl
+    let p2 : Pen = annotated_if on call.span call.start p.start p1 in
+    names_round src (printed_names items p2) (names_then src [] [] (quiet src p p1 refl) (annotated_named src on call.span call.start p.start p1)) (names_added src items p2 (source_behind src (step_then (written_if_step wraps (opening Round) p) (annotated_step on call.span call.start p.start p1)) e)) refl
 names_added src (commented o items) p e =
     let test : Bool = is_enclosed o p in
     let stand : Bool = are_any (group_at o p) in

@@ -36,9 +36,9 @@ printed_names (parentheses_unless_minified items) pen = printed_names items (wri
 printed_names (unless_minified items) pen = if pen.style.minified then [] else printed_names items pen
 printed_names (where_same m n a b) pen = if are_printed_alike pen.style.tables m n then printed_names a pen else printed_names b pen
 printed_names (held offset items) pen = printed_names items (without_ending (last_byte offset) pen)
-printed_names (lined_case start end lead items) pen = printed_names items (case_mark (has_orphans start pen) lead (case_begun (has_orphans start pen) lead start pen))
+printed_names (lined_case only items) pen = printed_names items (case_mark (has_orphans only.start pen) only.lead (case_begun (has_orphans only.start pen) only.lead only.start pen))
 printed_names (caught start body items) pen = printed_names items (comments_at all_of_them start pen)
-printed_names (annotated test lifted pure span offset items) pen = printed_names items (annotated_from test lifted pure span offset pen)
+printed_names (annotated call items) pen = printed_names items (annotated_from call pen)
 printed_names (commented offset items) pen = printed_names items (commented_from offset pen)
 printed_names (in_lines lines starts end items) pen = printed_names items (lines_opened (are_lined lines starts end pen) pen)
 -- what has no other items in it prints no name: were it to leave a mark with one, the law would fail

@@ -161,22 +161,22 @@ names_stand (held o items) p = λ src e r.
     let p1 : Pen = without_ending (last_byte o) p in
     let s = (passes_without (last_byte o) p).adds in
     stand_round (names_of items p1) s (names_stand items p1 src (source_behind src s e) (right_behind s r)) (passes_closing (ending_at (last_byte o) p) (lay items p1)).adds
-names_stand (lined_case start end lead items) p = λ src e r.
-    let long : Bool = has_orphans start p in
-    let p1 : Pen = case_begun long lead start p in
-    let p2 : Pen = case_mark long lead p1 in
-    let s = step_then (passes_begun long lead start p).adds (mark_step long lead p1) in
-    stand_round (names_of items p2) s (names_stand items p2 src (source_behind src s e) (right_behind s r)) (passes_ended long p.depth end (lay items p2)).adds
+names_stand (lined_case only items) p = λ src e r.
+    let long : Bool = has_orphans only.start p in
+    let p1 : Pen = case_begun long only.lead only.start p in
+    let p2 : Pen = case_mark long only.lead p1 in
+    let s = step_then (passes_begun long only.lead only.start p).adds (mark_step long only.lead p1) in
+    stand_round (names_of items p2) s (names_stand items p2 src (source_behind src s e) (right_behind s r)) (passes_ended long p.depth only.end (lay items p2)).adds
 names_stand (caught start body items) p = λ src e r.
     let p1 : Pen = comments_at all_of_them start p in
     let s = (passes_comments all_of_them start p).adds in
     stand_round (names_of items p1) s (names_stand items p1 src (source_behind src s e) (right_behind s r)) (block_step (are_any (group_at start p)) body (lay items p1))
-names_stand (annotated test lifted pure span o items) p = λ src e r.
-    let wraps : Bool = lifts pure lifted p || test in
-    let on : Bool = pure && p.style.annotated in
+names_stand (annotated call items) p = λ src e r.
+    let wraps : Bool = lifts call p || call.wrapped in
+    let on : Bool = call.pure && p.style.annotated in
     let p1 : Pen = written_if wraps (opening Round) p in
-    let p2 : Pen = annotated_if on span o p.start p1 in
-    let s = step_then (written_if_step wraps (opening Round) p) (annotated_step on span o p.start p1) in
+    let p2 : Pen = annotated_if on call.span call.start p.start p1 in
+    let s = step_then (written_if_step wraps (opening Round) p) (annotated_step on call.span call.start p.start p1) in
     stand_round (names_of items p2) s (names_stand items p2 src (source_behind src s e) (right_behind s r)) (written_if_step wraps (closing Round) (lay items p2))
 names_stand (commented o items) p = λ src e r.
     let test : Bool = is_enclosed o p in

@@ -204,18 +204,18 @@ alike (empty_body o) ms q printed e h = record { marks = ms; same = no_body o (l
 alike (held o items) ms q printed e h =
     let x = alike items ms q printed e h in
     record { marks = x.marks; same = none_held (last_byte o) items (with_marks ms q) ∙ x.same }
-alike (lined_case start end lead items) ms q printed e h =
-    let x = alike items ms (led lead q) printed (led_style lead q ∙ e) h in
-    record { marks = x.marks; same = ap (lay items) (led_alike lead ms q) ∙ x.same }
+alike (lined_case only items) ms q printed e h =
+    let x = alike items ms (led only.lead q) printed (led_style only.lead q ∙ e) h in
+    record { marks = x.marks; same = ap (lay items) (led_alike only.lead ms q) ∙ x.same }
 alike (caught start body items) ms q printed e h =
     let x = alike items ms q printed e h in
     record { marks = x.marks; same = ap (before_block false body) x.same }
 alike (annotation test kind o) ms q printed e h = unless (test && q.style.annotated) _ (ap (λ b. test && b) e ∙ h) (record { marks = ms; same = refl })
 alike (annotation_line own test o) ms q printed e h = unless (test && q.style.annotated) _ (ap (λ b. test && b) e ∙ h) (record { marks = ms; same = refl })
-alike (annotated test lifted pure span o items) ms q printed e h =
-    let f : (pure && q.style.annotated) ≡ false = ap (λ b. pure && b) e ∙ h.0 in
-    let x = alike items ms (written_if test (opening Round) q) printed e h.1 in
-    record { marks = x.marks; same = (λ i. written_if (f i && lifted || test) (closing Round) (lay items (annotated_if (f i) span o q.start (written_if (f i && lifted || test) (opening Round) (with_marks ms (quiet q)))))) ∙ ap (λ p. written_if test (closing Round) p) x.same }
+alike (annotated call items) ms q printed e h =
+    let f : (call.pure && q.style.annotated) ≡ false = ap (λ b. call.pure && b) e ∙ h.0 in
+    let x = alike items ms (written_if call.wrapped (opening Round) q) printed e h.1 in
+    record { marks = x.marks; same = (λ i. written_if (f i && call.lifted || call.wrapped) (closing Round) (lay items (annotated_if (f i) call.span call.start q.start (written_if (f i && call.lifted || call.wrapped) (opening Round) (with_marks ms (quiet q)))))) ∙ ap (λ p. written_if call.wrapped (closing Round) p) x.same }
 alike (commented o items) ms q printed e h =
     let test : Bool = is_barred a_brace q.start in
     let x = alike items ms (begun_at nowhere (written_if test (opening Round) q)) printed e h in
@@ -242,14 +242,14 @@ stored_alike (wrapped test items) q = ap (λ p. written_if test (closing Round) 
 stored_alike (wrapped_at_start own opener items) q = let test : Bool = own || is_barred opener q.start in ap (λ p. written_if test (closing Round) p) (stored_alike items (written_if test (opening Round) q))
 stored_alike (parentheses_unless_minified items) q = let test : Bool = not q.style.minified in ap (λ p. written_if test (closing Round) p) (stored_alike items (written_if test (opening Round) q))
 stored_alike (held o items) q = stored_alike items q
-stored_alike (lined_case start end lead items) q = ap (layout items) (led_quiet lead q) ∙ stored_alike items (led lead q)
+stored_alike (lined_case only items) q = ap (layout items) (led_quiet only.lead q) ∙ stored_alike items (led only.lead q)
 stored_alike (caught start body items) q = stored_alike items q
 stored_alike (unless_minified items) q = either_quiet q.style.minified (quiet q) (layout items (quiet q)) q (layout items q) refl (stored_alike items q)
 stored_alike (where_same m n a b) q = either_quiet (are_printed_alike q.style.tables m n) (layout a (quiet q)) (layout b (quiet q)) (layout a q) (layout b q) (stored_alike a q) (stored_alike b q)
 stored_alike indentation q = indentation_quiet q.style.minified q
 stored_alike (marked_indentation always span) q = indentation_quiet q.style.minified q
 stored_alike statement_end q = end_quiet q.style.minified q
-stored_alike (annotated test lifted pure span o items) q = ap (λ p. written_if test (closing Round) p) (stored_alike items (written_if test (opening Round) q))
+stored_alike (annotated call items) q = ap (λ p. written_if call.wrapped (closing Round) p) (stored_alike items (written_if call.wrapped (opening Round) q))
 stored_alike (commented o items) q = let test : Bool = is_barred a_brace q.start in ap (λ p. begun_at nowhere (written_if test (closing Round) p)) (stored_alike items (begun_at nowhere (written_if test (opening Round) q)))
 stored_alike (member_line o) q = indentation_quiet q.style.minified (written_if (not q.style.minified) (codes "\n") q)
 stored_alike (in_lines lines starts end items) q = stored_alike items q

@@ -80,13 +80,13 @@ alike (held o items) s ms q =
     let y : Alike s (lay items (without_ending last (bare s ms q))) (lay items (without_ending last q)) = record { marks = x.marks; same = ap (lay items) ((passes_without last q).alike s ms) ∙ x.same } in
     let z = going (closing_group (ending_at last q)) y (passes_closing (ending_at last q) (lay items (without_ending last q))) in
     record { marks = z.marks; same = ap (λ cs. closing_group cs (lay items (without_ending last (bare s ms q)))) (ending_alike last s ms q) ∙ z.same }
-alike (lined_case start end lead items) s ms q =
-    let long : Bool = has_orphans start q in
-    let p1 : Pen = case_begun long lead start q in
-    let m = case_alike long lead s ms p1 in
-    let x = alike items s m.marks (case_mark long lead p1) in
-    let y : Alike s (lay items (case_mark long lead (case_begun long lead start (bare s ms q)))) (lay items (case_mark long lead p1)) = record { marks = x.marks; same = ap (λ p. lay items (case_mark long lead p)) ((passes_begun long lead start q).alike s ms) ∙ (ap (lay items) m.same ∙ x.same) } in
-    going (case_ended long q.depth end) y (passes_ended long q.depth end (lay items (case_mark long lead p1)))
+alike (lined_case only items) s ms q =
+    let long : Bool = has_orphans only.start q in
+    let p1 : Pen = case_begun long only.lead only.start q in
+    let m = case_alike long only.lead s ms p1 in
+    let x = alike items s m.marks (case_mark long only.lead p1) in
+    let y : Alike s (lay items (case_mark long only.lead (case_begun long only.lead only.start (bare s ms q)))) (lay items (case_mark long only.lead p1)) = record { marks = x.marks; same = ap (λ p. lay items (case_mark long only.lead p)) ((passes_begun long only.lead only.start q).alike s ms) ∙ (ap (lay items) m.same ∙ x.same) } in
+    going (case_ended long q.depth only.end) y (passes_ended long q.depth only.end (lay items (case_mark long only.lead p1)))
 alike (caught start body items) s ms q =
     let p1 : Pen = comments_at all_of_them start q in
     let x = alike items s ms p1 in
@@ -96,13 +96,13 @@ alike (caught start body items) s ms q =
     record { marks = y.marks; same = ap (before_block before body) y.same ∙ block_alike before body s y.marks r }
 alike (annotation test kind o) s ms q = either_alike (test && q.style.annotated) (record { marks = ms; same = (passes_annotation q.start kind o q).alike s ms }) (record { marks = ms; same = refl })
 alike (annotation_line indented test o) s ms q = either_alike (test && q.style.annotated) (record { marks = ms; same = (passes_annotation_line indented o q).alike s ms }) (record { marks = ms; same = refl })
-alike (annotated test lifted pure span o items) s ms q =
-    let wraps : Bool = lifts pure lifted q || test in
-    let on : Bool = pure && q.style.annotated in
+alike (annotated call items) s ms q =
+    let wraps : Bool = lifts call q || call.wrapped in
+    let on : Bool = call.pure && q.style.annotated in
     let p1 : Pen = written_if wraps (opening Round) q in
-    let a = annotated_alike on span o q.start s ms p1 in
-    let x = alike items s a.marks (annotated_if on span o q.start p1) in
-    let y : Alike s (lay items (annotated_if on span o q.start (written_if wraps (opening Round) (bare s ms q)))) (lay items (annotated_if on span o q.start p1)) = record { marks = x.marks; same = ap (lay items) a.same ∙ x.same } in
+    let a = annotated_alike on call.span call.start q.start s ms p1 in
+    let x = alike items s a.marks (annotated_if on call.span call.start q.start p1) in
+    let y : Alike s (lay items (annotated_if on call.span call.start q.start (written_if wraps (opening Round) (bare s ms q)))) (lay items (annotated_if on call.span call.start q.start p1)) = record { marks = x.marks; same = ap (lay items) a.same ∙ x.same } in
     around wraps y
 alike (commented o items) s ms q =
     let test : Bool = is_enclosed o q in

@@ -113,22 +113,22 @@ lay_steps (empty_body o) p = (passes_empty_body o p).adds
 lay_steps (held o items) p =
     let p1 : Pen = without_ending (last_byte o) p in
     step_then (passes_without (last_byte o) p).adds (step_then (lay_steps items p1) (passes_closing (ending_at (last_byte o) p) (lay items p1)).adds)
-lay_steps (lined_case start end lead items) p =
-    let long : Bool = has_orphans start p in
-    let p1 : Pen = case_begun long lead start p in
-    let p2 : Pen = case_mark long lead p1 in
-    step_then (passes_begun long lead start p).adds (step_then (mark_step long lead p1) (step_then (lay_steps items p2) (passes_ended long p.depth end (lay items p2)).adds))
+lay_steps (lined_case only items) p =
+    let long : Bool = has_orphans only.start p in
+    let p1 : Pen = case_begun long only.lead only.start p in
+    let p2 : Pen = case_mark long only.lead p1 in
+    step_then (passes_begun long only.lead only.start p).adds (step_then (mark_step long only.lead p1) (step_then (lay_steps items p2) (passes_ended long p.depth only.end (lay items p2)).adds))
 lay_steps (caught start body items) p =
     let p1 : Pen = comments_at all_of_them start p in
     step_then (passes_comments all_of_them start p).adds (step_then (lay_steps items p1) (block_step (are_any (group_at start p)) body (lay items p1)))
 lay_steps (annotation test kind o) p = one_of (test && p.style.annotated) (passes_annotation p.start kind o p).adds (none p)
 lay_steps (annotation_line indented test o) p = one_of (test && p.style.annotated) (passes_annotation_line indented o p).adds (none p)
-lay_steps (annotated test lifted pure span o items) p =
-    let wraps : Bool = lifts pure lifted p || test in
-    let on : Bool = pure && p.style.annotated in
+lay_steps (annotated call items) p =
+    let wraps : Bool = lifts call p || call.wrapped in
+    let on : Bool = call.pure && p.style.annotated in
     let p1 : Pen = written_if wraps (opening Round) p in
-    let p2 : Pen = annotated_if on span o p.start p1 in
-    step_then (written_if_step wraps (opening Round) p) (step_then (annotated_step on span o p.start p1) (step_then (lay_steps items p2) (written_if_step wraps (closing Round) (lay items p2))))
+    let p2 : Pen = annotated_if on call.span call.start p.start p1 in
+    step_then (written_if_step wraps (opening Round) p) (step_then (annotated_step on call.span call.start p.start p1) (step_then (lay_steps items p2) (written_if_step wraps (closing Round) (lay items p2))))
 lay_steps (commented o items) p =
     let test : Bool = is_enclosed o p in
     let stand : Bool = are_any (group_at o p) in

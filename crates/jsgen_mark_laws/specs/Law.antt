@@ -64,7 +64,7 @@ with_marks marks pen = record pen { marks = marks }
 abbrev pub PrintsNone : Bool → Items → Type 0
 PrintsNone printed (annotation test kind offset) = (test && printed) ≡ false
 PrintsNone printed (annotation_line indented test offset) = (test && printed) ≡ false
-PrintsNone printed (annotated test lifted pure span offset items) = ((pure && printed) ≡ false) × PrintsNone printed items
+PrintsNone printed (annotated call items) = ((call.pure && printed) ≡ false) × PrintsNone printed items
 PrintsNone printed (a ⊕ b) = PrintsNone printed a × PrintsNone printed b
 PrintsNone printed (deeper items) = PrintsNone printed items
 PrintsNone printed (in_class items) = PrintsNone printed items
@@ -75,7 +75,7 @@ PrintsNone printed (parentheses_unless_minified items) = PrintsNone printed item
 PrintsNone printed (unless_minified items) = PrintsNone printed items
 PrintsNone printed (where_same m n a b) = PrintsNone printed a × PrintsNone printed b
 PrintsNone printed (held offset items) = PrintsNone printed items
-PrintsNone printed (lined_case start end lead items) = PrintsNone printed items
+PrintsNone printed (lined_case only items) = PrintsNone printed items
 PrintsNone printed (caught start body items) = PrintsNone printed items
 PrintsNone printed (commented offset items) = PrintsNone printed items
 PrintsNone printed (in_lines lines starts end items) = PrintsNone printed items

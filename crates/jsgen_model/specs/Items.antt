@@ -23,6 +23,28 @@ pub data Lead : Type 0 where
 pub data Annotation : Type 0 where
   is_pure no_side_effects : Annotation
 
+-- a call that may be annotated as pure
+pub record AnnotatedCall : Type 0 where
+  -- it stands in parentheses
+  pub wrapped : Bool
+  -- it stands in them where its annotation is printed
+  pub lifted : Bool
+  -- it is pure, and its annotation says so
+  pub pure : Bool
+  -- the span whose mark stands before the annotation
+  pub span : Span
+  -- where the call begins, by which its annotation is found
+  pub start : ℕ
+
+-- the one statement of a case
+pub record OnlyStatement : Type 0 where
+  -- where the statement begins
+  pub start : ℕ
+  -- where the case ends
+  pub end : ℕ
+  -- what leads to the statement
+  pub lead : Lead
+
 -- whose arguments stand on lines: a call's, which minified never do where the test holds, or those of `import()`
 pub data Lines : Type 0 where
   of_call : Bool → Lines
@@ -118,17 +140,16 @@ pub data Items : Type 0 where
   empty_body : ℕ → Items
   -- the comments at the last byte before an offset, which are taken before the items, and are printed behind them
   held : ℕ → Items → Items
-  -- the one statement of a case by its start, and by the end of the case: behind what leads to it, or on a line of its own, where an orphan waits before it
-  lined_case : ℕ → ℕ → Lead → Items → Items
+  -- the one statement of a case: behind what leads to it, or on a line of its own, where an orphan waits before it
+  lined_case : OnlyStatement → Items → Items
   -- a `catch` by its start, and by that of its block, before which a space is due where comments stood at either
   caught : ℕ → ℕ → Items → Items
   -- an annotation of what has this offset, where the test holds, before what begins here
   annotation : Bool → Annotation → ℕ → Items
   -- an annotation of a function on a line of its own, where the second test holds, behind indentation where the first does
   annotation_line : Bool → Bool → ℕ → Items
-  -- a call that is pure where the third test holds, by its offset: in parentheses where the first holds, and where the second does and its
-  -- annotation is printed, which stands in them behind a mark of the span
-  annotated : Bool → Bool → Bool → Span → ℕ → Items → Items
+  -- a call behind its annotation, where that is printed, and in parentheses where it stands in some, in which the annotation stands too
+  annotated : AnnotatedCall → Items → Items
   -- an object by its start: in parentheses where comments stand there, which are printed in them, or where a brace may not begin here
   commented : ℕ → Items → Items
   -- what stands before a member of an object by its start: a line end and indentation, or a space, with comments

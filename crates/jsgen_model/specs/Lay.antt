@@ -5,7 +5,7 @@ use Rattle.jsgen_syntax.specs.Raw.{template_text}
 use Rattle.jsgen_syntax.specs.declared.span.Span.{Span}
 use Rattle.jsgen_tree.specs.Named.{printed_name}
 use Rattle.jsgen_model.specs.Punctuator.{Punctuator, Round, opening, closing, punctuator_text}
-use Rattle.jsgen_model.specs.Items.{Items, a_brace, TemplatePart, whole_part, head_part, middle_part, tail_part, ◌⊕◌, name, private_name, template_part, deeper, in_class, brackets, wrapped, wrapped_at_start, parentheses_unless_minified, unless_minified, where_same, mark, end_mark, link_mark, marked_word, marked_operator, marked_number, marked_indentation, indentation, comments, orphans, orphan_lines, empty_body, held, lined_case, caught, annotation, annotation_line, annotated, commented, member_line, member_space, in_lines, line_break, is_pure, Lead, to_empty, all_of_them}
+use Rattle.jsgen_model.specs.Items.{Items, AnnotatedCall, a_brace, TemplatePart, whole_part, head_part, middle_part, tail_part, ◌⊕◌, name, private_name, template_part, deeper, in_class, brackets, wrapped, wrapped_at_start, parentheses_unless_minified, unless_minified, where_same, mark, end_mark, link_mark, marked_word, marked_operator, marked_number, marked_indentation, indentation, comments, orphans, orphan_lines, empty_body, held, lined_case, caught, annotation, annotation_line, annotated, commented, member_line, member_space, in_lines, line_break, is_pure, Lead, to_empty, all_of_them}
 use Rattle.jsgen_model.specs.Marks.{one_more_if, size, other_name_in, has_start_mark, has_end_mark, end_offset, has_link_mark}
 use Rattle.jsgen_model.specs.Layout.{Pen, Start, nowhere, other_end, operator_end, written, written_if, is_apart, joins, number_ending, name_ending, is_barred, deeper_level, entered, with_private_name, are_printed_alike, layout, begun_at}
 use Rattle.jsgen_model.specs.Private.{printed_private}
@@ -100,18 +100,18 @@ commented_from o pen = begun_at nowhere (commented_if (are_any (group_at o pen))
 
 -- ---- annotations
 
--- an annotation is printed, and puts what stands behind it in parentheses
-abbrev pub lifts : Bool → Bool → Pen → Bool
-lifts pure lifted pen = (pure && pen.style.annotated) && lifted
+-- an annotation is printed, and puts the call behind it in parentheses
+abbrev pub lifts : AnnotatedCall → Pen → Bool
+lifts call pen = (call.pure && pen.style.annotated) && call.lifted
 
 -- the annotation of what is pure, where the test holds, which began so
 abbrev pub annotated_if : Bool → Span → ℕ → Start → Pen → Pen
 annotated_if true span o start pen = begun_at start (annotation_at is_pure o (span_mark span pen))
 annotated_if false span o start pen = pen
 
--- what stands before a call that is pure where the third test holds
-abbrev pub annotated_from : Bool → Bool → Bool → Span → ℕ → Pen → Pen
-annotated_from test lifted pure span o pen = annotated_if (pure && pen.style.annotated) span o pen.start (written_if (lifts pure lifted pen || test) (opening Round) pen)
+-- what stands before a call
+abbrev pub annotated_from : AnnotatedCall → Pen → Pen
+annotated_from call pen = annotated_if (call.pure && pen.style.annotated) call.span call.start pen.start (written_if (lifts call pen || call.wrapped) (opening Round) pen)
 
 -- ---- the whole
 
@@ -141,12 +141,11 @@ lay (orphans o) pen = orphans_before o pen
 lay (orphan_lines o) pen = orphan_lines_at o pen
 lay (empty_body o) pen = empty_body_at o pen
 lay (held o items) pen = closing_group (ending_at (last_byte o) pen) (lay items (without_ending (last_byte o) pen))
-lay (lined_case start end lead items) pen = case_ended (has_orphans start pen) pen.depth end (lay items (case_mark (has_orphans start pen) lead (case_begun (has_orphans start pen) lead start pen)))
+lay (lined_case only items) pen = case_ended (has_orphans only.start pen) pen.depth only.end (lay items (case_mark (has_orphans only.start pen) only.lead (case_begun (has_orphans only.start pen) only.lead only.start pen)))
 lay (caught start body items) pen = before_block (are_any (group_at start pen)) body (lay items (comments_at all_of_them start pen))
 lay (annotation test kind o) pen = if test && pen.style.annotated then begun_at pen.start (annotation_at kind o pen) else pen
 lay (annotation_line indented test o) pen = if test && pen.style.annotated then annotation_line_at indented o pen else pen
-lay (annotated test lifted pure span o items) pen =
-    written_if (lifts pure lifted pen || test) (closing Round) (lay items (annotated_from test lifted pure span o pen))
+lay (annotated call items) pen = written_if (lifts call pen || call.wrapped) (closing Round) (lay items (annotated_from call pen))
 lay (commented o items) pen = begun_at nowhere (written_if (is_enclosed o pen) (closing Round) (lay items (commented_from o pen)))
 lay (member_line o) pen = member_line_at o pen
 lay (member_space o) pen = member_space_at o pen

@@ -8,7 +8,7 @@ use Rattle.jsgen_syntax.specs.declared.operator.BinaryOperator.{BinaryOperator}
 use Rattle.jsgen_syntax.specs.declared.precedence.Precedence.TheVariants.{Equals}
 use Rattle.jsgen_syntax.specs.Precedence.{rank}
 use Rattle.jsgen_syntax.specs.Operator.{binary_level}
-use Rattle.jsgen_tree.specs.Inside.{without_parentheses, reference_in, written_name_in}
+use Rattle.jsgen_tree.specs.Inside.{inside_parentheses, reference_in, written_name_in}
 use Rattle.jsgen_tree.specs.Tree.{Tree, Trees, no_trees, more}
 use Rattle.jsgen_tree.specs.Nodes as tree
 use Rattle.jsgen_tree.specs.Values.{string_literal_value, static_member_expression_optional}
@@ -66,4 +66,4 @@ says_default (tree.string_literal a) = bytes_eq (string_literal_value a) (codes 
 says_default t = false
 
 abbrev pub is_export_mark : BinaryOperator → Tree → Bool
-is_export_mark o operand = is_equality o && says_default (without_parentheses operand)
+is_export_mark o operand = is_equality o && says_default (inside_parentheses operand)

@@ -7,7 +7,7 @@ use Rattle.jsgen_place.specs.declared.place.Place.{Place}
 use Rattle.jsgen_place.specs.Place.{child, left_operand, in_brackets, loop_head, among_statements, within_statement, member, behind_private, with_calls, quoted_plainly, linked, is_at_link, called, tag, tagged, constructed, within, wraps, binary_wraps, logical_wraps, call_wraps, chain_wraps, chain_place, arrow_wraps, update_level, plainly}
 use Rattle.jsgen_syntax.specs.declared.operator.BinaryOperator.TheVariants as operators
 use Rattle.jsgen_tree.specs.Named.{as_written}
-use Rattle.jsgen_tree.specs.Inside.{without_parentheses, ends_open, reference_named, binding_named, looked_up_in, bound_in, written_name_in, is_method, behind_minus}
+use Rattle.jsgen_tree.specs.Inside.{inside_parentheses, ends_open, reference_named, binding_named, looked_up_in, bound_in, written_name_in, is_method, behind_minus}
 use Rattle.jsgen_tree.specs.Words.{declaration_word, with_word}
 use Rattle.jsgen_tree.specs.Tree.{Tree, Maybe, absent, given, Trees, no_trees, more, hole, type_of, span_of, MaybeTrees, no_list, listed}
 use Rattle.jsgen_tree.specs.Values.{as_text, directive_directive, variable_declaration_kind, identifier_name_name, label_identifier_name, boolean_literal_value, numeric_literal_kind, big_int_literal_value, string_literal_value, binary_expression_operator, logical_expression_operator, unary_expression_operator, update_expression_operator, update_expression_prefix, object_property_kind, object_property_method, object_property_shorthand, object_property_computed, function_kind, function_is_async, function_generator, function_pure, function_pife, assignment_expression_operator, static_member_expression_optional, computed_member_expression_optional, call_expression_optional, call_expression_pure, new_expression_pure, for_of_statement_is_await, arrow_function_expression_is_async, arrow_function_expression_pure, arrow_function_expression_pife, binding_property_computed, private_identifier_name, private_field_expression_optional, class_kind, method_definition_kind, method_definition_computed, method_definition_is_static, property_definition_computed, property_definition_is_static, assignment_target_property_property_computed, hashbang_value, with_clause_keyword}
@@ -55,7 +55,8 @@ abbrev mutual
       items_if place.in_list (comments all_of_them a.span.start) ⊕ block_items place.in_list (block_braces a.span body (spell_statements body))
   spell (tree.if_statement a test consequent alternate) place =
       items_if place.in_list (comments all_of_them a.span.start ⊕ indentation) ⊕ marked_word a.span (codes "if") ⊕ soft_space ⊕ brackets Round (spell test (in_brackets Lowest))
-      ⊕ consequent_items (span_of consequent) (shape consequent) (ends_open consequent) (spell consequent within_statement) (spell consequent among_statements) (is_given alternate)
+      ⊕ consequent_items (shape consequent) (ends_open consequent)
+      (record { span = span_of consequent; inner = spell consequent within_statement; whole = spell consequent among_statements; else_follows = is_given alternate })
       ⊕ spell_alternate alternate
   spell (tree.for_statement a init test update body) place =
       comments all_of_them a.span.start ⊕ indentation ⊕ marked_word a.span (codes "for") ⊕ soft_space ⊕ brackets Round (spell_if_given init loop_head
@@ -85,7 +86,7 @@ abbrev mutual
   spell (tree.static_member a object property) place = linked_items object (spell object (linked place)) ⊕ name_link (static_member_expression_optional a) ⊕ spell property (child Lowest place)
   spell (tree.computed_member a object expression) place = linked_items object (spell object (linked place)) ⊕ bracket_link (computed_member_expression_optional a) ⊕ brackets Square (spell expression (quoted_plainly place.plain_quotes (in_brackets Lowest)))
   spell (tree.call a callee arguments) place =
-      annotated (call_wraps place) (wraps Postfix place) (call_expression_pure a) a.span a.span.start
+      annotated (record { wrapped = call_wraps place; lifted = wraps Postfix place; pure = call_expression_pure a; span = a.span; start = a.span.start })
       (linked_items callee (spell callee (called (within (call_wraps place) place))) ⊕ bracket_link (call_expression_optional a)
       ⊕ brackets Round (argument_items (is_require_call callee arguments || is_definition_call callee arguments) arguments a.span
       (spell_arguments (is_require_call callee arguments) (is_definition_call callee arguments) arguments (in_brackets Comma))))
@@ -97,7 +98,7 @@ abbrev mutual
       (linked_items argument (spell argument (child Postfix (within (wraps (update_level (update_expression_prefix a)) place) place))))
       (spell argument (child Prefix (within (wraps (update_level (update_expression_prefix a)) place) place))))
   spell (tree.new_expression a callee arguments) place =
-      annotated (wraps New place) (wraps Postfix place) (new_expression_pure a) unmarked a.span.start
+      annotated (record { wrapped = wraps New place; lifted = wraps Postfix place; pure = new_expression_pure a; span = unmarked; start = a.span.start })
       (marked_word a.span (codes "new") ⊕ soft_space ⊕ spell callee (constructed (within (wraps New place) place))
       ⊕ new_arguments (any_given arguments || wraps Postfix place) (argument_items false arguments a.span (spell_arguments false false arguments (in_brackets Comma))))
   -- up to one property stands on one line; as in an array, a comma would stand behind a last one that is left out, but none is
@@ -105,7 +106,7 @@ abbrev mutual
   spell (tree.object_property a key value) place =
       items_if (is_function (type_of value)) (mark a.span) ⊕ method_or_property (is_method (object_property_kind a) (object_property_method a))
       (accessor_word (object_property_kind a) ⊕ method_words value ⊕ key_items (needs_brackets (object_property_computed a) key) key (spell key (in_brackets Comma)) ⊕ spell_method value place)
-      (before_value (object_property_shorthand a) (written_name_in key) (looked_up_in (without_parentheses value)) (key_items (needs_brackets (object_property_computed a) key) key (spell key (in_brackets Comma)))
+      (before_value (object_property_shorthand a) (written_name_in key) (looked_up_in (inside_parentheses value)) (key_items (needs_brackets (object_property_computed a) key) key (spell key (in_brackets Comma)))
       ⊕ before_expression before_it value ⊕ spell value (in_brackets Comma))
   -- an assignment binds to the right, and hands on what is forbidden
   spell (tree.assignment a left right) place =
@@ -126,7 +127,8 @@ abbrev mutual
       ⊕ items_if (arrow_function_expression_is_async a) (marked_word a.span (codes "async") ⊕ soft_space) ⊕ parameter_items (is_name_alone params) (spell params (child Comma (within true place)))
       ⊕ soft_space ⊕ punctuator arrow ⊕ soft_space ⊕ body_begins (type_of body) ⊕ spell body (child Comma (within (arrow_wraps (arrow_function_expression_pife a) place) place)))
   spell (tree.function a id params body) place =
-      function_items (function_kind a) (function_pure a) (function_pife a) place a.span.start (function_words a.span (function_is_async a) (function_generator a) ⊕ spell_if_given id (child Lowest place)
+      function_items (function_kind a) (record { pure = function_pure a; pife = function_pife a; place = place; start = a.span.start })
+      (function_words a.span (function_is_async a) (function_generator a) ⊕ spell_if_given id (child Lowest place)
       ⊕ brackets Round (spell params (with_calls (child Comma place))) ⊕ spell_apart body within_statement)
   spell (tree.function_body a directives statements) place =
       body_braces a.span directives statements (spell_directives directives ⊕ spell_body statements)
@@ -381,7 +383,8 @@ abbrev mutual
   -- the first statement of a case that has no other; the number is where the case ends
   pub spell_only : ℕ → Trees → Items
   spell_only end no_trees = nothing
-  spell_only end (more t ts) = lined_case (span_of t).start end (lead_to (shape t) (span_of t)) (led_items (shape t) (spell t within_statement) (spell t among_statements))
+  spell_only end (more t ts) =
+      lined_case (record { start = (span_of t).start; end = end; lead = lead_to (shape t) (span_of t) }) (led_items (shape t) (spell t within_statement) (spell t among_statements))
   spell_only end (hole ts) = nothing
 
   -- what a case begins with

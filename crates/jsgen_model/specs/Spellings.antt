@@ -24,7 +24,7 @@ use Rattle.jsgen_tree.specs.declared.classes.MethodDefinitionKind.TheVariants as
 use Rattle.jsgen_tree.specs.declared.types.NodeType.{NodeType}
 use Rattle.jsgen_tree.specs.declared.types.NodeType.TheVariants as types
 use Rattle.jsgen_tree.specs.Named.{Named, as_written, own_name}
-use Rattle.jsgen_tree.specs.Inside.{without_parentheses, reference_named, binding_named, looked_up_in, is_proto, is_negative_number}
+use Rattle.jsgen_tree.specs.Inside.{inside_parentheses, reference_named, binding_named, looked_up_in, is_proto, is_negative_number}
 use Rattle.jsgen_tree.specs.Number.{NumericKind, Whole, Raw}
 use Rattle.jsgen_tree.specs.Tree.{Tree, Maybe, absent, given, Trees, no_trees, more, hole, Atoms, type_of, atoms_of, span_of, MaybeTrees, listed}
 use Rattle.jsgen_tree.specs.Values.{identifier_name_name, numeric_literal_negative, numeric_literal_digits, numeric_literal_text, string_literal_value, logical_expression_operator, function_kind, function_is_async, function_generator, function_pure, function_pife, arrow_function_expression_pife, class_kind, template_element_raw}
@@ -73,7 +73,7 @@ mixes t = false
 -- the level of a left operand: just below the operator's, but of `**` its own, and where a prefix operator or `await` may begin the
 -- operand a call's (ECMA-262, 13.6)
 abbrev pub left_level : BinaryOperator → Tree → Precedence
-left_level operators.Exponential left = if is_prefixed (without_parentheses left) then Call else Exponentiation
+left_level operators.Exponential left = if is_prefixed (inside_parentheses left) then Call else Exponentiation
 left_level o left = lower_level o
 
 -- the level of a right operand: the operator's own, but of `**` the one below
@@ -83,7 +83,7 @@ right_level o = binary_level o
 
 -- `??` can't be mixed with `||` and `&&` (ECMA-262, 13.13)
 abbrev pub unmixed : LogicalOperator → Tree → Precedence → Precedence
-unmixed logical_operators.Coalesce operand level = if mixes (without_parentheses operand) then Prefix else level
+unmixed logical_operators.Coalesce operand level = if mixes (inside_parentheses operand) then Prefix else level
 unmixed o operand level = level
 
 -- what a link begins with: of a name a dot, of brackets nothing, and of an optional link `?.`
@@ -139,7 +139,7 @@ string_in t = None
 
 -- the string that a statement is, and nothing else
 abbrev pub string_statement : Tree → Option (List ℕ)
-string_statement (tree.expression_statement a expression) = string_in (without_parentheses expression)
+string_statement (tree.expression_statement a expression) = string_in (inside_parentheses expression)
 string_statement t = None
 
 abbrev pub unless_string : Span → Span → Option (List ℕ) → Items → Items
@@ -148,7 +148,7 @@ unless_string line own None items = items
 
 -- where the string stands
 abbrev pub span_inside : Tree → Span
-span_inside (tree.expression_statement a expression) = span_of (without_parentheses expression)
+span_inside (tree.expression_statement a expression) = span_of (inside_parentheses expression)
 span_inside t = span_of t
 
 -- a string alone, which would be read as a directive, is spelled otherwise than elsewhere (ECMA-262, 11.2.1)
@@ -196,13 +196,23 @@ abbrev pub body_end : Bool → Items
 body_end true = indentation
 body_end false = nothing
 
--- What `if` is followed by, which has a span: within what is around it, or as it stands among statements. Where it ends in an `if`
--- without `else`, it stands in braces
-abbrev pub consequent_items : Span → Shape → Bool → Items → Items → Bool → Items
-consequent_items own shapes.Block false inner whole else_follows = soft_space ⊕ inner ⊕ braces_end else_follows
-consequent_items own shapes.Empty false inner whole else_follows = punctuator semicolon ⊕ soft_line ⊕ body_end else_follows
-consequent_items own s false inner whole else_follows = body_space ⊕ whole ⊕ body_end else_follows
-consequent_items own s true inner whole else_follows = soft_space ⊕ filled_braces own whole ⊕ braces_end else_follows
+-- what `if` is followed by
+pub record Consequent : Type 0 where
+  -- its own span
+  pub span : Span
+  -- its items within what is around it
+  pub inner : Items
+  -- its items as it stands among statements
+  pub whole : Items
+  -- `else` stands behind it
+  pub else_follows : Bool
+
+-- by its shape; where it ends in an `if` without `else`, which the test tells, it stands in braces
+abbrev pub consequent_items : Shape → Bool → Consequent → Items
+consequent_items shapes.Block false c = soft_space ⊕ c.inner ⊕ braces_end c.else_follows
+consequent_items shapes.Empty false c = punctuator semicolon ⊕ soft_line ⊕ body_end c.else_follows
+consequent_items s false c = body_space ⊕ c.whole ⊕ body_end c.else_follows
+consequent_items s true c = soft_space ⊕ filled_braces c.span c.whole ⊕ braces_end c.else_follows
 
 -- what the head of a loop or a label is followed by: a block goes on with the line, and any other statement stands behind one space
 abbrev pub body_items : Shape → Items → Items → Items
@@ -427,12 +437,22 @@ abbrev pub parameter_items : Bool → Items → Items
 parameter_items true items = parentheses_unless_minified items
 parameter_items false items = brackets Round items
 
--- a declaration among statements is a line of its own, and is never in parentheses; the number is where it begins, and the first test
--- tells that it has no side effects
-abbrev pub function_items : FunctionKind → Bool → Bool → Place → ℕ → Items → Items
-function_items function_kinds.Declaration pure pife place start items = items_if place.in_list (comments all_of_them start ⊕ annotation_line true pure start) ⊕ block_items place.in_list items
+-- how a function stands
+pub record FunctionStand : Type 0 where
+  -- an annotation says that it has no side effects
+  pub pure : Bool
+  -- it is marked to stand in parentheses
+  pub pife : Bool
+  -- where it is printed
+  pub place : Place
+  -- where it begins in the source
+  pub start : ℕ
+
+-- a declaration among statements is a line of its own, and is never in parentheses
+abbrev pub function_items : FunctionKind → FunctionStand → Items → Items
+function_items function_kinds.Declaration f items = items_if f.place.in_list (comments all_of_them f.start ⊕ annotation_line true f.pure f.start) ⊕ block_items f.place.in_list items
 -- an expression stands in parentheses where it is marked so, and where a statement or a default export begins with it
-function_items function_kinds.Expression pure pife place start items = annotation pure no_side_effects start ⊕ wrapped_at_start pife a_declaration (comments (before_called pife) start ⊕ items)
+function_items function_kinds.Expression f items = annotation f.pure no_side_effects f.start ⊕ wrapped_at_start f.pife a_declaration (comments (before_called f.pife) f.start ⊕ items)
 
 -- the words before a function's name (ECMA-262, 15.2, 15.5, 15.6 and 15.8); the tests tell that it is `async`, and a generator. Of two
 -- marks of one span, one behind the other, the second is left out

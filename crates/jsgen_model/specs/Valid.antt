@@ -31,7 +31,7 @@ use Rattle.jsgen_tree.specs.Table.{child_sets}
 use Rattle.jsgen_tree.specs.Fields.{fields}
 use Rattle.jsgen_tree.specs.Sets.{in_set, is_expression}
 use Rattle.jsgen_tree.specs.Number.{NumericKind, Whole, Raw}
-use Rattle.jsgen_tree.specs.Inside.{without_parentheses, looked_up_in, reference_named, binding_named, declared_kind, function_in, class_head_in, has_name, written_name_in, is_proto, is_method, is_negative_number, is_negative_big_integer, has_optional_link}
+use Rattle.jsgen_tree.specs.Inside.{inside_parentheses, looked_up_in, reference_named, binding_named, declared_kind, function_in, class_head_in, has_name, written_name_in, is_proto, is_method, is_negative_number, is_negative_big_integer, has_optional_link}
 use Rattle.jsgen_tree.specs.Tree.{Tree, node, Slots, no_slots, one, maybe, many, maybe_many, Maybe, absent, given, Trees, no_trees, more, hole, MaybeTrees, no_list, listed, type_of, span_of}
 use Rattle.jsgen_tree.specs.Nodes as tree
 use Rattle.jsgen_tree.specs.Values.{as_text, program_source, comment_kind, directive_directive, identifier_name_name, label_identifier_name, numeric_literal_kind, numeric_literal_text, big_int_literal_value, reg_exp_literal_pattern, reg_exp_literal_flags, object_property_kind, object_property_method, object_property_shorthand, object_property_computed, function_kind, static_member_expression_optional, computed_member_expression_optional, call_expression_optional, binding_property_computed, private_identifier_name, class_kind, method_definition_kind, method_definition_computed, property_definition_computed, assignment_expression_operator, identifier_reference_name, assignment_target_property_property_computed, template_element_raw, template_element_cooked, hashbang_value, function_is_async, function_generator, arrow_function_expression_is_async, for_of_statement_is_await, yield_expression_delegate}
@@ -330,7 +330,7 @@ named_faults tables s None = faults.Place s.start ∷ []
 named_faults tables s (Some name) = fault_if (not (is_proto (printed_name tables name))) (faults.Name s.start)
 
 abbrev pub shorthand_faults : Tables → Bool → Tree → Tree → List TreeFault
-shorthand_faults tables shorthand key value = if shorthand && option_map_or is_proto (written_name_in key) false then named_faults tables (span_of value) (looked_up_in (without_parentheses value)) else []
+shorthand_faults tables shorthand key value = if shorthand && option_map_or is_proto (written_name_in key) false then named_faults tables (span_of value) (looked_up_in (inside_parentheses value)) else []
 
 -- `super` is an expression that a link follows (ECMA-262, 13.3.7)
 abbrev pub is_super : NodeType → Bool

@@ -5,7 +5,7 @@ use Rattle.std.proofs.lemmas.Bool.{both_ways}
 use Rattle.jsgen_tree.specs.Tree.{Tree, type_of, span_of}
 use Rattle.jsgen_tree.specs.Nodes as tree
 use Rattle.jsgen_tree.specs.Named.{Named, as_written}
-use Rattle.jsgen_tree.specs.Inside.{without_parentheses, is_proto, is_negative_number}
+use Rattle.jsgen_tree.specs.Inside.{inside_parentheses, is_proto, is_negative_number}
 use Rattle.jsgen_model.specs.Punctuator.{colon}
 use Rattle.jsgen_model.specs.Items.{Items, nothing, ◌⊕◌, mark, string, punctuator, soft_space, unless_minified, comments, with_key_annotation}
 use Rattle.jsgen_model.specs.Spell.{string_in, key_text, items_unless, unless_said, before_value, before_bound, before_target}
@@ -15,7 +15,7 @@ use Rattle.jsgen_printer.specs.declared.printer.Printer.{Printer}
 use Rattle.jsgen_printer.proofs.Sequence.{where_same_laid, left_out_laid}
 use Rattle.jsgen_nodes.specs.Keys.{is_string, is_number, is_said, is_value_alone, is_bound_alone, is_key_said}
 
-pub bare_string : (t : Tree) → is_string (type_of t) ≡ true → string_in (without_parentheses t) ≡ string_in t
+pub bare_string : (t : Tree) → is_string (type_of t) ≡ true → string_in (inside_parentheses t) ≡ string_in t
 bare_string (tree.parenthesized a t) h = absurd (both_ways false refl h)
 bare_string t h = refl
 

@@ -4,7 +4,7 @@ ghost use Rattle.std.specs.Str.{chars};
 ghost use Rattle.jsgen_syntax.specs.Units.{js_units};
 ghost use Rattle.jsgen_syntax.specs.declared.precedence.Precedence.TheVariants.{Comma};
 ghost use Rattle.jsgen_tree.specs.Tree.{trees};
-ghost use Rattle.jsgen_tree.specs.Inside.{without_parentheses, looked_up_in, written_name_in, is_negative_number};
+ghost use Rattle.jsgen_tree.specs.Inside.{inside_parentheses, looked_up_in, written_name_in, is_negative_number};
 ghost use Rattle.jsgen_tree.specs.Rows.{array_expression_row, in_array_expression_element, object_property_row, object_expression_row, in_object_property_kind, in_property_key, in_expression};
 ghost use Rattle.jsgen_place.specs.Place.{in_brackets};
 ghost use Rattle.jsgen_model.specs.Punctuator.{Square, Brace, colon};
@@ -156,7 +156,7 @@ fn print_method_property<N: PrintNode>(node: &ObjectProperty<N>, p: &mut Printer
 
 // A property with a value: the value alone, or behind its key.
 fn print_valued_property<N: PrintNode>(node: &ObjectProperty<N>, p: &mut Printer<'_>)
-    ensures { Lays p.old p.new (before_value node.now.shorthand (written_name_in (in_property_key N.plain node.now.key)) (looked_up_in (without_parentheses (in_expression N.plain node.now.value))) (key_of node.now.computed (in_property_key N.plain node.now.key))
+    ensures { Lays p.old p.new (before_value node.now.shorthand (written_name_in (in_property_key N.plain node.now.key)) (looked_up_in (inside_parentheses (in_expression N.plain node.now.value))) (key_of node.now.computed (in_property_key N.plain node.now.key))
         ⊕ before_expression before_it (in_expression N.plain node.now.value) ⊕ spell (in_expression N.plain node.now.value) (in_brackets Comma)) }
 {
     print_before_value(node, p);
@@ -170,7 +170,7 @@ fn print_valued_property<N: PrintNode>(node: &ObjectProperty<N>, p: &mut Printer
 
 // The key and its colon, but where the value alone says the key.
 fn print_before_value<N: PrintNode>(node: &ObjectProperty<N>, p: &mut Printer<'_>)
-    ensures { Lays p.old p.new (before_value node.now.shorthand (written_name_in (in_property_key N.plain node.now.key)) (looked_up_in (without_parentheses (in_expression N.plain node.now.value))) (key_of node.now.computed (in_property_key N.plain node.now.key))) }
+    ensures { Lays p.old p.new (before_value node.now.shorthand (written_name_in (in_property_key N.plain node.now.key)) (looked_up_in (inside_parentheses (in_expression N.plain node.now.value))) (key_of node.now.computed (in_property_key N.plain node.now.key))) }
 {
     if is_value_alone(node, p) {
         return;
@@ -182,7 +182,7 @@ fn print_before_value<N: PrintNode>(node: &ObjectProperty<N>, p: &mut Printer<'_
 
 // Whether the property is its value alone.
 fn is_value_alone<N: PrintNode>(node: &ObjectProperty<N>, p: &Printer<'_>) -> bool
-    ensures { result ≡ is_value_alone (pen_of p.now).style.tables node.now.shorthand (written_name_in (in_property_key N.plain node.now.key)) (looked_up_in (without_parentheses (in_expression N.plain node.now.value))) }
+    ensures { result ≡ is_value_alone (pen_of p.now).style.tables node.now.shorthand (written_name_in (in_property_key N.plain node.now.key)) (looked_up_in (inside_parentheses (in_expression N.plain node.now.value))) }
 {
     match key_name(&node.key) {
         Some(name) => is_alone(node.shorthand, name, is_said(node.value.get(), name, p)),
@@ -192,7 +192,7 @@ fn is_value_alone<N: PrintNode>(node: &ObjectProperty<N>, p: &Printer<'_>) -> bo
 
 /// Whether the value is a reference, and printed as this name is written.
 pub fn is_said<N: PrintNode>(value: &N, name: &str, p: &Printer<'_>) -> bool
-    ensures { result ≡ is_said (pen_of p.now).style.tables (looked_up_in (without_parentheses (N.plain value.now))) (chars name.now) }
+    ensures { result ≡ is_said (pen_of p.now).style.tables (looked_up_in (inside_parentheses (N.plain value.now))) (chars name.now) }
 {
     match value.looked_up() {
         Some(node) => p.prints_as(node.name.as_str(), node.reference, name),

@@ -23,7 +23,7 @@ ghost use Rattle.std.specs.Prelude.{◌≡◌, option_map};
 ghost use Rattle.std.specs.Str.{chars};
 ghost use Rattle.jsgen_syntax.specs.Units.{js_units};
 ghost use Rattle.jsgen_tree.specs.Tree.{Tree, type_of, span_of};
-ghost use Rattle.jsgen_tree.specs.Inside.{without_parentheses, ends_open, looked_up_in, named_by, bound_in, bound_by, written_name_in, is_negative};
+ghost use Rattle.jsgen_tree.specs.Inside.{inside_parentheses, ends_open, looked_up_in, named_by, bound_in, bound_by, written_name_in, is_negative};
 ghost use Rattle.jsgen_tree.specs.Plain.{node_plain};
 ghost use Rattle.jsgen_model.specs.Quotes.{is_member_of, is_named, is_key_of_exports};
 ghost use Rattle.jsgen_model.specs.Spell.{spell, method_words, spell_method, string_in, string_statement, span_inside, target_named, is_declared, before_expression, is_pure_declaration};
@@ -35,6 +35,7 @@ ghost use Rattle.jsgen_questions.specs.Operands.{operand_of};
 use commented::print_comments_before;
 use functions::{print_behind_name, print_method_words};
 pub use inside::{InClass, Inside};
+use jsgen_asked::{as_function, bound, class_head, is_negative, looked_up, written_name};
 use jsgen_place::Place;
 use jsgen_printer::{CommentsBefore, Printer};
 use jsgen_questions::{
@@ -88,11 +89,11 @@ pub trait PrintNode {
 
     /// What matters of it as an operand.
     fn operand(&self) -> Operand
-        ensures { result ≡ operand_of (without_parentheses (plain self.now)) };
+        ensures { result ≡ operand_of (inside_parentheses (plain self.now)) };
 
     /// The string that it is, without the parentheses that it may have round it.
     fn string(&self) -> Option<&JsStr>
-        ensures { option_map (λ v. js_units v.now) result ≡ string_in (without_parentheses (plain self.now)) };
+        ensures { option_map (λ v. js_units v.now) result ≡ string_in (inside_parentheses (plain self.now)) };
 
     /// The string that is the whole of it as a statement.
     fn string_statement(&self) -> Option<&JsStr>
@@ -108,7 +109,7 @@ pub trait PrintNode {
 
     /// The reference itself, with its number, without the parentheses that it may have round it.
     fn looked_up(&self) -> Option<&IdentifierReference>
-        ensures { option_map (λ n. named_by n.now) result ≡ looked_up_in (without_parentheses (plain self.now)) };
+        ensures { option_map (λ n. named_by n.now) result ≡ looked_up_in (inside_parentheses (plain self.now)) };
 
     /// The name that a pattern is, with its number, by itself or with a default.
     fn bound(&self) -> Option<&BindingIdentifier>
@@ -141,7 +142,7 @@ pub trait PrintNode {
 
     /// Whether it is a number or a big integer with a minus before it, without the parentheses that it may have round it.
     fn is_negative(&self) -> bool
-        ensures { result ≡ is_negative (without_parentheses (plain self.now)) };
+        ensures { result ≡ is_negative (inside_parentheses (plain self.now)) };
 }
 
 /// The knot: the one recursion.
@@ -179,7 +180,7 @@ impl PrintNode for Node {
     }
 
     fn is_pure_declaration(&self) -> bool {
-        match self.as_function() {
+        match as_function(self) {
             Some(function) => is_pure_function(function),
             None => false,
         }
@@ -256,11 +257,11 @@ impl PrintNode for Node {
     }
 
     fn looked_up(&self) -> Option<&IdentifierReference> {
-        self.looked_up()
+        looked_up(self)
     }
 
     fn bound(&self) -> Option<&BindingIdentifier> {
-        self.bound()
+        bound(self)
     }
 
     fn bare_looked_up(&self) -> Option<&IdentifierReference> {
@@ -286,13 +287,13 @@ impl PrintNode for Node {
     }
 
     fn written_name(&self) -> Option<&str> {
-        self.written_name()
+        written_name(self)
     }
 
     fn is_declared(&self) -> bool {
-        match self.as_function() {
+        match as_function(self) {
             Some(function) => is_declared_function(function.kind),
-            None => match self.class_head() {
+            None => match class_head(self) {
                 Some((kind, _)) => is_declared_class(kind),
                 None => false,
             },
@@ -300,6 +301,6 @@ impl PrintNode for Node {
     }
 
     fn is_negative(&self) -> bool {
-        self.is_negative()
+        is_negative(self)
     }
 }

@@ -3,7 +3,7 @@ ghost use Rattle.std.specs.Prelude.{◌≡◌, true, false, ◌&&◌, map, optio
 ghost use Rattle.jsgen_syntax.specs.Units.{js_units};
 ghost use Rattle.jsgen_syntax.specs.declared.precedence.Precedence.TheVariants.{Comma, Lowest};
 ghost use Rattle.jsgen_tree.specs.Tree.{trees, span_of};
-ghost use Rattle.jsgen_tree.specs.Inside.{without_parentheses};
+ghost use Rattle.jsgen_tree.specs.Inside.{inside_parentheses};
 ghost use Rattle.jsgen_tree.specs.Rows.{in_argument, in_expression, assignment_target_plain, expression_plain, computed_member_expression_row, call_expression_row};
 ghost use Rattle.jsgen_tree.specs.Plain.{node_plain};
 ghost use Rattle.jsgen_place.specs.Place.{free, at_level, quoted_plainly};
@@ -18,6 +18,7 @@ use crate::PrintNode;
 use crate::collections::key_string;
 use crate::expressions::print_from_callee;
 use crate::sets::print_assignment_target;
+use jsgen_asked::inside_parentheses;
 use jsgen_lists::PlainQuotes;
 use jsgen_place::{Context, Place};
 use jsgen_printer::Printer;
@@ -210,9 +211,9 @@ pub fn try_print_equality_string(
 ) -> bool
     ensures applies { result ≡ ((pen_of p.old).style.minified && is_export_mark operator (expression_plain node_plain operand.now)) }
     ensures text { Lays p.old p.new (where_it_holds ((pen_of p.old).style.minified && is_export_mark operator (expression_plain node_plain operand.now))
-        (plain_string (span_of (without_parentheses (expression_plain node_plain operand.now))) (string_in (without_parentheses (expression_plain node_plain operand.now))))) }
+        (plain_string (span_of (inside_parentheses (expression_plain node_plain operand.now))) (string_in (inside_parentheses (expression_plain node_plain operand.now))))) }
 {
-    let inner = operand.without_parentheses();
+    let inner = inside_parentheses(operand);
     let string = inner_string(inner);
     let applies = p.is_minified() && is_export_mark(operator, string);
     print_string_if(applies, inner_span(inner), string, p);

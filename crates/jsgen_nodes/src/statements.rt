@@ -148,8 +148,8 @@ fn has_alternate<N: PrintNode>(node: &IfStatement<N>) -> bool
 
 // What follows the test. An `else` must not go with an `if` within.
 fn print_consequent<N: PrintNode>(consequent: &N, p: &mut Printer<'_>, else_follows: bool)
-    ensures { Lays p.old p.new (consequent_items (span_of (N.plain consequent.now)) (shape (N.plain consequent.now)) (ends_open (N.plain consequent.now))
-        (spell (N.plain consequent.now) within_statement) (spell (N.plain consequent.now) among_statements) else_follows) }
+    ensures { Lays p.old p.new (consequent_items (shape (N.plain consequent.now)) (ends_open (N.plain consequent.now))
+        (record { span = span_of (N.plain consequent.now); inner = spell (N.plain consequent.now) within_statement; whole = spell (N.plain consequent.now) among_statements; else_follows = else_follows })) }
 {
     if consequent.ends_open() {
         print_braced(consequent, p, else_follows);
@@ -159,8 +159,8 @@ fn print_consequent<N: PrintNode>(consequent: &N, p: &mut Printer<'_>, else_foll
 }
 
 fn print_closed_consequent<N: PrintNode>(consequent: &N, p: &mut Printer<'_>, else_follows: bool)
-    ensures { Lays p.old p.new (consequent_items (span_of (N.plain consequent.now)) (shape (N.plain consequent.now)) false
-        (spell (N.plain consequent.now) within_statement) (spell (N.plain consequent.now) among_statements) else_follows) }
+    ensures { Lays p.old p.new (consequent_items (shape (N.plain consequent.now)) false
+        (record { span = span_of (N.plain consequent.now); inner = spell (N.plain consequent.now) within_statement; whole = spell (N.plain consequent.now) among_statements; else_follows = else_follows })) }
 {
     match shape_of::<_, Inside>(consequent) {
         Shape::Block => {

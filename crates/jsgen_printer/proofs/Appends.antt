@@ -44,16 +44,16 @@ layout_appends (orphans o) pen = (orphans_add o pen).text
 layout_appends (orphan_lines o) pen = (orphan_lines_add o pen).text
 layout_appends (empty_body o) pen = (empty_body_adds o pen).text
 layout_appends (held o a) pen = prefix_of_prefix (prefix_of_prefix (ending_adds (last_byte o) pen).text (layout_appends a (without_ending (last_byte o) pen))) (closing_adds (ending_at (last_byte o) pen) (lay a (without_ending (last_byte o) pen))).text
-layout_appends (lined_case start end lead a) pen =
-    let long = has_orphans start pen in
-    let begun : Pen = case_mark long lead (case_begun long lead start pen) in
-    prefix_of_prefix (prefix_of_prefix (case_adds long lead start pen).text (layout_appends a begun)) (case_end_adds long pen.depth end (lay a begun)).text
+layout_appends (lined_case only a) pen =
+    let long = has_orphans only.start pen in
+    let begun : Pen = case_mark long only.lead (case_begun long only.lead only.start pen) in
+    prefix_of_prefix (prefix_of_prefix (case_adds long only.lead only.start pen).text (layout_appends a begun)) (case_end_adds long pen.depth only.end (lay a begun)).text
 layout_appends (caught start body a) pen =
     let begun : Pen = comments_at all_of_them start pen in
     prefix_of_prefix (prefix_of_prefix (comments_add all_of_them start pen).text (layout_appends a begun)) (block_adds (are_any (group_at start pen)) body (lay a begun)).text
 layout_appends (annotation test kind o) pen = either_appends (test && pen.style.annotated) pen.code _ pen (annotation_adds pen.start kind o pen).text (whole_prefix pen.code)
 layout_appends (annotation_line indented test o) pen = either_appends (test && pen.style.annotated) pen.code _ pen (annotation_line_adds indented o pen).text (whole_prefix pen.code)
-layout_appends (annotated test lifted pure s o a) pen = more_prefix _ (prefix_of_prefix (annotated_adds test lifted pure s o pen).text (layout_appends a (annotated_from test lifted pure s o pen)))
+layout_appends (annotated call a) pen = more_prefix _ (prefix_of_prefix (annotated_adds call pen).text (layout_appends a (annotated_from call pen)))
 layout_appends (commented o a) pen = more_prefix _ (prefix_of_prefix (commented_adds o pen).text (layout_appends a (commented_from o pen)))
 layout_appends (member_line o) pen = (member_line_adds o pen).text
 layout_appends (member_space o) pen = (member_space_adds o pen).text

@@ -73,16 +73,16 @@ keeps_classes (orphans o) pen = (orphans_add o pen).classes
 keeps_classes (orphan_lines o) pen = (orphan_lines_add o pen).classes
 keeps_classes (empty_body o) pen = (empty_body_adds o pen).classes
 keeps_classes (held o a) pen = (closing_adds (ending_at (last_byte o) pen) (lay a (without_ending (last_byte o) pen))).classes ∙ (keeps_classes a (without_ending (last_byte o) pen) ∙ (ending_adds (last_byte o) pen).classes)
-keeps_classes (lined_case start end lead a) pen =
-    let long = has_orphans start pen in
-    let begun : Pen = case_mark long lead (case_begun long lead start pen) in
-    (case_end_adds long pen.depth end (lay a begun)).classes ∙ (keeps_classes a begun ∙ (case_adds long lead start pen).classes)
+keeps_classes (lined_case only a) pen =
+    let long = has_orphans only.start pen in
+    let begun : Pen = case_mark long only.lead (case_begun long only.lead only.start pen) in
+    (case_end_adds long pen.depth only.end (lay a begun)).classes ∙ (keeps_classes a begun ∙ (case_adds long only.lead only.start pen).classes)
 keeps_classes (caught start body a) pen =
     let begun : Pen = comments_at all_of_them start pen in
     (block_adds (are_any (group_at start pen)) body (lay a begun)).classes ∙ (keeps_classes a begun ∙ (comments_add all_of_them start pen).classes)
 keeps_classes (annotation test kind o) pen = either_keeps (test && pen.style.annotated) pen.classes _ pen (annotation_adds pen.start kind o pen).classes refl
 keeps_classes (annotation_line indented test o) pen = either_keeps (test && pen.style.annotated) pen.classes _ pen (annotation_line_adds indented o pen).classes refl
-keeps_classes (annotated test lifted pure s o a) pen = keeps_classes a (annotated_from test lifted pure s o pen) ∙ (annotated_adds test lifted pure s o pen).classes
+keeps_classes (annotated call a) pen = keeps_classes a (annotated_from call pen) ∙ (annotated_adds call pen).classes
 keeps_classes (commented o a) pen = keeps_classes a (commented_from o pen) ∙ (commented_adds o pen).classes
 keeps_classes (member_line o) pen = (member_line_adds o pen).classes
 keeps_classes (member_space o) pen = (member_space_adds o pen).classes

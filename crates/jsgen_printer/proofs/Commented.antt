@@ -2,11 +2,10 @@
 use Rattle.std.proofs.Common.{◌≡◌, ℕ, Bool, true, false, ◌||◌, if◌then◌else◌, Option, Some, None, List, refl, ap, sym, subst, ◌∙◌}
 use Rattle.jsgen_model.specs.Comments.{Comment, are_any}
 use Rattle.jsgen_model.specs.Groups.{last_byte, ending_at, without_ending, closing_group, has_orphans, case_begun, case_ended, comments_at, group_at, are_lined, lines_opened, lines_closed, on_a_line, unless_on_line}
-use Rattle.jsgen_model.specs.Items.{Items, held, lined_case, caught, annotated, commented, in_lines, line_break, Lines, Break, Lead, all_of_them}
+use Rattle.jsgen_model.specs.Items.{Items, AnnotatedCall, held, lined_case, caught, annotated, commented, in_lines, line_break, Lines, Break, Lead, all_of_them}
 use Rattle.jsgen_model.specs.Lay.{lay, case_mark, before_block, lifts, annotated_from, is_enclosed, commented_from}
 use Rattle.jsgen_model.specs.Layout.{Pen, nowhere, begun_at, written_if}
 use Rattle.jsgen_model.specs.Punctuator.{Round, closing}
-use Rattle.jsgen_syntax.specs.declared.span.Span.{Span}
 use Rattle.jsgen_printer.specs.Printer.{pen_of, level_if, case_behind}
 use Rattle.jsgen_printer.specs.Steps.{has_failed, Ends, Goes, Lays}
 use Rattle.jsgen_printer.specs.declared.printer.Printer.{Printer}
@@ -39,12 +38,12 @@ behind_adds : (level : Option ℕ) (end : ℕ) → Appends (case_behind level en
 behind_adds None end pen = (case_end_adds false 0 end pen).text
 behind_adds (Some depth) end pen = (case_end_adds true depth end pen).text
 
-pub lined_case_laid : {a b c d : Printer} {i : Items} (start end : ℕ) (lead : Lead) (level : Option ℕ) → level ≡ level_if (has_orphans start (pen_of a)) (pen_of a).depth → Goes a b (λ pen. case_mark (has_orphans start pen) lead (case_begun (has_orphans start pen) lead start pen)) → Lays b c i → Goes c d (case_behind level end) → Lays a d (lined_case start end lead i)
+pub lined_case_laid : {a b c d : Printer} {i : Items} (start end : ℕ) (lead : Lead) (level : Option ℕ) → level ≡ level_if (has_orphans start (pen_of a)) (pen_of a).depth → Goes a b (λ pen. case_mark (has_orphans start pen) lead (case_begun (has_orphans start pen) lead start pen)) → Lays b c i → Goes c d (case_behind level end) → Lays a d (lined_case (record { start = start; end = end; lead = lead }) i)
 lined_case_laid {a} {b} {c} {d} {i} start end lead level e h inside k =
     let pen = pen_of a in
     let long = has_orphans start pen in
     let inner : Pen = lay i (case_mark long lead (case_begun long lead start pen)) in
-    goes_laid (lined_case start end lead i)
+    goes_laid (lined_case (record { start = start; end = end; lead = lead }) i)
     (ap (λ l. case_behind l end inner) e ∙ behind_case long pen.depth end inner)
     (goes_round i (λ pen. (case_adds (has_orphans start pen) lead start pen).text) (behind_adds level end) h inside k)
 
@@ -56,11 +55,11 @@ caught_laid {a} {b} {c} {d} {i} start body stood e h inside k =
     (goes_round i (λ pen. (comments_add all_of_them start pen).text) (λ pen. (block_adds stood body pen).text) h inside k)
 
 -- a call behind its annotation, in parentheses where it stands in some
-pub annotated_laid : {a b c d : Printer} {i : Items} (test lifted pure : Bool) (s : Span) (o : ℕ) (wraps : Bool) → wraps ≡ (lifts pure lifted (pen_of a) || test) → Goes a b (annotated_from test lifted pure s o) → Lays b c i → Goes c d (written_if wraps (closing Round)) → Lays a d (annotated test lifted pure s o i)
-annotated_laid {a} {b} {c} {d} {i} test lifted pure s o wraps e h inside k =
-    goes_laid (annotated test lifted pure s o i)
-    (ap (λ t. written_if t (closing Round) (lay i (annotated_from test lifted pure s o (pen_of a)))) e)
-    (goes_round i (λ pen. (annotated_adds test lifted pure s o pen).text) (λ pen. prefix_append pen.code _) h inside k)
+pub annotated_laid : {a b c d : Printer} {i : Items} (call : AnnotatedCall) (wraps : Bool) → wraps ≡ (lifts call (pen_of a) || call.wrapped) → Goes a b (annotated_from call) → Lays b c i → Goes c d (written_if wraps (closing Round)) → Lays a d (annotated call i)
+annotated_laid {a} {b} {c} {d} {i} call wraps e h inside k =
+    goes_laid (annotated call i)
+    (ap (λ t. written_if t (closing Round) (lay i (annotated_from call (pen_of a)))) e)
+    (goes_round i (λ pen. (annotated_adds call pen).text) (λ pen. prefix_append pen.code _) h inside k)
 
 -- an object behind its comments
 pub commented_laid : {a b c d : Printer} {i : Items} (o : ℕ) (wraps : Bool) → wraps ≡ is_enclosed o (pen_of a) → Goes a b (commented_from o) → Lays b c i → Goes c d (λ pen. begun_at nowhere (written_if wraps (closing Round) pen)) → Lays a d (commented o i)

@@ -8,7 +8,7 @@ use Rattle.jsgen_tree.specs.declared.statements.CommentKind.TheVariants as kinds
 use Rattle.jsgen_model.specs.Comments.{Comment, are_any, orphans_below, left_below}
 use Rattle.jsgen_model.specs.Groups.{line_ended, indented_here, softly_spaced, used_up_if, indented_if, opens_block, block_line, block_lines, lines_of, is_mid_line, html_close, text_written, comment_written, last_of, on_new_line, at_line_start, before_first, before_later, is_legal, behind_last, is_line, ends_its_line, behind_comment, group, with_store, group_at, without_group, code_ends_in, before_group, behind_group, printed_if, is_printed, comments_at, orphans_before, has_orphans, one_deeper, at_level, soft_line_ended, orphan_lines_at, last_byte, ending_at, without_ending, closing_group, has_no_newlines, body_lines, body_of, empty_body_at, led_on_line, case_begun, case_ended, used_up, annotation_text, fitting_at, without_annotation, annotation_by, annotation_written, annotation_at, annotation_line_at, commented_if, member_line_at, member_space_at, each_on_line, broken_by, broken_at, on_a_line, unless_on_line, break_at, with_lines, lines_opened, indents, lines_closed}
 use Rattle.jsgen_model.specs.Ends.{each_written}
-use Rattle.jsgen_model.specs.Items.{Annotation, is_pure, no_side_effects, Lines, Break, first_argument, other_argument, import_source, import_options, Manner, all_of_them, then_space, with_due_space, before_it, annotation_before_it, with_key_annotation, none_of_them, Lead, to_block, to_body, to_empty}
+use Rattle.jsgen_model.specs.Items.{Annotation, AnnotatedCall, is_pure, no_side_effects, Lines, Break, first_argument, other_argument, import_source, import_options, Manner, all_of_them, then_space, with_due_space, before_it, annotation_before_it, with_key_annotation, none_of_them, Lead, to_block, to_body, to_empty}
 use Rattle.jsgen_model.specs.Lay.{case_mark, stood, before_block, span_mark, lifts, annotated_if, annotated_from, is_enclosed, commented_from}
 use Rattle.jsgen_model.specs.Layout.{Pen, Start, Ending, other_end, written, written_if, text_if, indented, indent_or_space, at_indentation, led, white_if, begun_at}
 use Rattle.jsgen_model.specs.Printing.{IsPrefix}
@@ -297,10 +297,10 @@ annotated_if_adds true s o start pen =
     adds_then marked (annotation_adds start is_pure o at)
 annotated_if_adds false s o start pen = adds_nothing pen
 
-pub annotated_adds : (test lifted pure : Bool) (s : Span) (o : ℕ) (pen : Pen) → Adds pen (annotated_from test lifted pure s o pen)
-annotated_adds test lifted pure s o pen =
-    let wraps : Bool = lifts pure lifted pen || test in
-    adds_then (adds_text_if wraps (opening Round) pen) (annotated_if_adds (pure && pen.style.annotated) s o pen.start (written_if wraps (opening Round) pen))
+pub annotated_adds : (call : AnnotatedCall) (pen : Pen) → Adds pen (annotated_from call pen)
+annotated_adds call pen =
+    let wraps : Bool = lifts call pen || call.wrapped in
+    adds_then (adds_text_if wraps (opening Round) pen) (annotated_if_adds (call.pure && pen.style.annotated) call.span call.start pen.start (written_if wraps (opening Round) pen))
 
 -- ---- in an object, and before it
 

@@ -164,7 +164,7 @@ call_tie a f ts e es s n place =
     let second = sym (is_definition_call_same s.tables s.classes n m f ts) in
     let list = all_arguments_settle (is_require_call f ts) (is_definition_call f ts) ts es s m (in_brackets Comma) in
     let inner = becomes (arguments_settle (is_require_call f ts || is_definition_call f ts) ts a.span list) (λ i. argument_items (first i || second i) ts1 a.span (spell_arguments (first i) (second i) ts1 (in_brackets Comma))) in
-    annotated_settles _ _ _ _ _ (both (linked_settles f (e s n _)) (before (bracket_link_still (call_expression_optional a)) (brackets_settle Round inner)))
+    annotated_settles _ (both (linked_settles f (e s n _)) (before (bracket_link_still (call_expression_optional a)) (brackets_settle Round inner)))
 
 none_given : (ts : Trees) (w : Bool) (m : ℕ) → (any_given ts || w) ≡ false → after_trees ts m ≡ m
 none_given no_trees w m h = refl
@@ -179,7 +179,7 @@ new_tie a f ts e es s n place =
     let given = sym (any_given_same s.tables s.classes m ts) in
     let list = all_arguments_settle false false ts es s m (in_brackets Comma) in
     let inner = becomes (new_arguments_settle (any_given ts || w) (none_given ts w m) (arguments_settle false ts a.span list)) (λ i. new_arguments (given i || w) (argument_items false ts1 a.span (spell_arguments false false ts1 (in_brackets Comma)))) in
-    annotated_settles _ _ _ _ _ (before refl (before refl (both (e s n _) inner)))
+    annotated_settles _ (before refl (before refl (both (e s n _) inner)))
 
 pub import_call_tie : (a : Atoms) (t : Tree) (m : Maybe) → Tie t → TieIfGiven m → Tie (tree.import_call a t m)
 import_call_tie a t m e f s n place =

@@ -4,7 +4,7 @@ use Rattle.jsgen_syntax.specs.declared.precedence.Precedence.TheVariants.{Comma}
 use Rattle.jsgen_tree.specs.Tree.{Tree, Atoms, Maybe, Trees, type_of}
 use Rattle.jsgen_tree.specs.Nodes as tree
 use Rattle.jsgen_tree.specs.Values.{object_property_kind, object_property_method, object_property_shorthand, object_property_computed, function_kind, function_is_async, function_generator, function_pure, function_pife, arrow_function_expression_is_async, arrow_function_expression_pife, binding_property_computed, class_kind, method_definition_kind, method_definition_computed, method_definition_is_static, property_definition_computed, property_definition_is_static, assignment_target_property_property_computed}
-use Rattle.jsgen_tree.specs.Inside.{without_parentheses, looked_up_in, bound_in, written_name_in, is_method}
+use Rattle.jsgen_tree.specs.Inside.{inside_parentheses, looked_up_in, bound_in, written_name_in, is_method}
 use Rattle.jsgen_place.specs.declared.place.Place.{Place}
 use Rattle.jsgen_place.specs.Place.{child, in_brackets, within, member, arrow_wraps}
 use Rattle.jsgen_model.specs.Punctuator.{Round, Square, Brace, colon}
@@ -44,7 +44,7 @@ arrow_function_tie a p b e f s n place =
 pub function_tie : (a : Atoms) (id : Maybe) (p : Tree) (b : Maybe) → TieIfGiven id → Tie p → TieIfGiven b → Tie (tree.function a id p b)
 function_tie a id p b e f g s n place =
     let m : ℕ = after_maybe id n in
-    function_settles (function_kind a) (function_pure a) (function_pife a) place a.span.start (both (function_words_settle a.span (function_is_async a) (function_generator a)) (both (given_settles id e s n _) (both (brackets_settle Round (f s m _)) (apart_settles b g s (after p m) _))))
+    function_settles (function_kind a) (record { pure = function_pure a; pife = function_pife a; place = place; start = a.span.start }) (both (function_words_settle a.span (function_is_async a) (function_generator a)) (both (given_settles id e s n _) (both (brackets_settle Round (f s m _)) (apart_settles b g s (after p m) _))))
 
 -- of a method, whose function has no name with a class in it
 pub method_tie : (a : Atoms) (id : Maybe) (p : Tree) (b : Maybe) → ((n : ℕ) → after_maybe id n ≡ n) → Tie p → TieIfGiven b → TieMethod (tree.function a id p b)
@@ -100,7 +100,7 @@ object_property_tie a key value e f g s n place =
     let head = key_tie computed key e s n in
     let written = sym (written_name_in_same s.tables s.classes n key) in
     let said = sym (question_same s.tables s.classes looked_up_in (looked_up_in_same s.tables s.classes) m value) in
-    let first = becomes (before_value_settles shorthand (written_name_in key) (looked_up_in (without_parentheses value)) (written_name_after n key) head) (λ i. before_value shorthand (written i) (said i) (key_items (needs_brackets computed key1) key1 (spell key1 (in_brackets Comma)))) in
+    let first = becomes (before_value_settles shorthand (written_name_in key) (looked_up_in (inside_parentheses value)) (written_name_after n key) head) (λ i. before_value shorthand (written i) (said i) (key_items (needs_brackets computed key1) key1 (spell key1 (in_brackets Comma)))) in
     both (by_type m (λ type. items_if (is_function type) (mark a.span)) value (if_still (is_function (type_of value)) (mark a.span) refl))
     (property_settles (is_method (object_property_kind a) (object_property_method a))
     (λ h. before (accessor_still (object_property_kind a)) (both (method_words_settle m value) (both head (f h s m place))))

@@ -63,9 +63,9 @@ same_style (where_same m k a b) p = either (are_printed_alike p.style.tables m k
     either false f g = g
 same_style (in_class i) p = same_style i (entered p)
 same_style (held offset i) p = same_style i p
-same_style (lined_case start end lead i) p = same_style i (led lead p) ∙ led_style lead p
+same_style (lined_case only i) p = same_style i (led only.lead p) ∙ led_style only.lead p
 same_style (caught start body i) p = same_style i p
-same_style (annotated test lifted pure span offset i) p = same_style i (written_if test (opening Round) p)
+same_style (annotated call i) p = same_style i (written_if call.wrapped (opening Round) p)
 same_style (commented offset i) p = same_style i (begun_at nowhere (written_if (is_barred a_brace p.start) (opening Round) p))
 same_style (in_lines lines starts end i) p = same_style i p
 same_style (line_break at) p = break_style at p
@@ -137,13 +137,13 @@ laid_out tables classes n (where_same m k a b) p e = subst (λ t. (if are_printe
     go false f g = g
 laid_out tables classes n (in_class i) p e = ap (in_classes classes) (laid_out tables (classes_within tables n classes) (suc n) i (entered p) e)
 laid_out tables classes n (held offset i) p e = laid_out tables classes n i p e
-laid_out tables classes n (lined_case start end lead i) p e =
-    let q : Pen = led lead p in
-    let same = led_style lead p in
+laid_out tables classes n (lined_case only i) p e =
+    let q : Pen = led only.lead p in
+    let same = led_style only.lead p in
     let inner = laid_out tables classes n i q (ap (λ style. style.tables) same ∙ e) in
-    ap (layout i) (led_tied tables classes n lead p) ∙ subst (λ style. Laid tables classes n i style.minified q) same inner
+    ap (layout i) (led_tied tables classes n only.lead p) ∙ subst (λ style. Laid tables classes n i style.minified q) same inner
 laid_out tables classes n (caught start body i) p e = laid_out tables classes n i p e
-laid_out tables classes n (annotated test lifted pure span offset i) p e = ap (λ q. written_if test (closing Round) q) (laid_out tables classes n i (written_if test (opening Round) p) e)
+laid_out tables classes n (annotated call i) p e = ap (λ q. written_if call.wrapped (closing Round) q) (laid_out tables classes n i (written_if call.wrapped (opening Round) p) e)
 laid_out tables classes n (commented offset i) p e =
     let test : Bool = is_barred a_brace p.start in
     ap (λ q. begun_at nowhere (written_if test (closing Round) q)) (laid_out tables classes n i (begun_at nowhere (written_if test (opening Round) p)) e)

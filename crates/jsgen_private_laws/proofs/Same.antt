@@ -4,7 +4,7 @@ use Rattle.std.specs.Option.{option_map}
 use Rattle.jsgen_tree.specs.Job.{Tables}
 use Rattle.jsgen_tree.specs.Tree.{Tree, Maybe, absent, given, type_of, span_of}
 use Rattle.jsgen_tree.specs.Nodes as tree
-use Rattle.jsgen_tree.specs.Inside.{ends_open, function_in, has_name, class_head_in, declared_kind, is_only_expression, without_parentheses, IsInside, has_optional_link, reference_in, looked_up_in, bound_in, written_name_in, is_negative_number, is_negative_big_integer, is_negative}
+use Rattle.jsgen_tree.specs.Inside.{ends_open, function_in, has_name, class_head_in, declared_kind, is_only_expression, inside_parentheses, IsInside, has_optional_link, reference_in, looked_up_in, bound_in, written_name_in, is_negative_number, is_negative_big_integer, is_negative}
 use Rattle.jsgen_tree.specs.Values.{static_member_expression_optional, computed_member_expression_optional, call_expression_optional, private_field_expression_optional}
 use Rattle.jsgen_model.specs.Resolved.{resolved, resolved_maybe}
 
@@ -27,18 +27,18 @@ module _ (tables : Tables) (classes : List ℕ) where
   chosen_same n b false x y u v e f g = ap (λ d. cond d x u) e ∙ g
 
   -- what stands there is found before and behind
-  pub without_parentheses_same : (n : ℕ) (t : Tree) → without_parentheses (resolved tables classes n t) ≡ resolved tables classes n (without_parentheses t)
-  without_parentheses_same n (tree.parenthesized a e) = chosen_same n _ _ _ _ (tree.parenthesized a (resolved tables classes n e)) (tree.parenthesized a e) (ap is_only_expression (type_same n e)) (without_parentheses_same n e) refl
-  without_parentheses_same n (tree.private_identifier a) = refl
-  without_parentheses_same n (tree.class_body a ts) = refl
-  without_parentheses_same n t = refl
+  pub inside_parentheses_same : (n : ℕ) (t : Tree) → inside_parentheses (resolved tables classes n t) ≡ resolved tables classes n (inside_parentheses t)
+  inside_parentheses_same n (tree.parenthesized a e) = chosen_same n _ _ _ _ (tree.parenthesized a (resolved tables classes n e)) (tree.parenthesized a e) (ap is_only_expression (type_same n e)) (inside_parentheses_same n e) refl
+  inside_parentheses_same n (tree.private_identifier a) = refl
+  inside_parentheses_same n (tree.class_body a ts) = refl
+  inside_parentheses_same n t = refl
 
   -- so what has one answer for each tree has one for what stands there
-  pub question_same : {A : Type 0} (question : Tree → A) → ((k : ℕ) (u : Tree) → question (resolved tables classes k u) ≡ question u) → (n : ℕ) (t : Tree) → question (without_parentheses (resolved tables classes n t)) ≡ question (without_parentheses t)
-  question_same question same n t = ap question (without_parentheses_same n t) ∙ same n (without_parentheses t)
+  pub question_same : {A : Type 0} (question : Tree → A) → ((k : ℕ) (u : Tree) → question (resolved tables classes k u) ≡ question u) → (n : ℕ) (t : Tree) → question (inside_parentheses (resolved tables classes n t)) ≡ question (inside_parentheses t)
+  question_same question same n t = ap question (inside_parentheses_same n t) ∙ same n (inside_parentheses t)
 
   pub inside_same : (n : ℕ) (outer inner : Tree) → IsInside outer inner → IsInside (resolved tables classes n outer) (resolved tables classes n inner)
-  inside_same n outer inner i = (ap is_only_expression (type_same n outer) ∙ i.0, ap (resolved tables classes n) i.1 ∙ sym (without_parentheses_same n outer))
+  inside_same n outer inner i = (ap is_only_expression (type_same n outer) ∙ i.0, ap (resolved tables classes n) i.1 ∙ sym (inside_parentheses_same n outer))
 
   -- ---- statements, functions and classes
 

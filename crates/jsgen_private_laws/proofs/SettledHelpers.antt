@@ -18,7 +18,7 @@ use Rattle.jsgen_place.specs.declared.shape.Shape.TheVariants as shapes
 use Rattle.jsgen_tree.specs.Named.{Named}
 use Rattle.jsgen_tree.specs.Tree.{Tree, Trees, no_trees, more, hole, type_of, span_of}
 use Rattle.jsgen_tree.specs.Nodes as tree
-use Rattle.jsgen_tree.specs.Inside.{without_parentheses, ends_open, is_only_expression}
+use Rattle.jsgen_tree.specs.Inside.{inside_parentheses, ends_open, is_only_expression}
 use Rattle.jsgen_model.specs.Punctuator.{Round, Brace}
 use Rattle.jsgen_model.specs.Items.{Items, ◌⊕◌, Manner, nothing, word, operator, comments, link_mark, of_call, end_mark, in_lines, lined_case}
 use Rattle.jsgen_model.specs.Resolved.{resolved, resolved_trees, after, after_trees}
@@ -115,10 +115,10 @@ pub as_statement_settles : {s : Scope} {n m : ℕ} {i j : Items} (test : Bool) (
 as_statement_settles test start e = both (plain_if test _ refl) (both e (plain_if test _ refl))
 
 -- a string counts no class, wherever it stands in parentheses
-pub after_inside : (n : ℕ) (t : Tree) → after (without_parentheses t) n ≡ after t n
+pub after_inside : (n : ℕ) (t : Tree) → after (inside_parentheses t) n ≡ after t n
 after_inside n (tree.parenthesized a e) = by (is_only_expression (type_of e)) (after_inside n e)
   where
-    by : (b : Bool) → after (without_parentheses e) n ≡ after e n → after (if b then without_parentheses e else tree.parenthesized a e) n ≡ after e n
+    by : (b : Bool) → after (inside_parentheses e) n ≡ after e n → after (if b then inside_parentheses e else tree.parenthesized a e) n ≡ after e n
     by true h = h
     by false h = refl
 after_inside n t = refl
@@ -128,7 +128,7 @@ string_in_after n (tree.string_literal a) w e = refl
 string_in_after n t w e = absurd (both_ways false refl (ap is_some e))
 
 pub string_statement_after : (n : ℕ) (t : Tree) (w : List ℕ) → string_statement t ≡ Some w → after t n ≡ n
-string_statement_after n (tree.expression_statement a expression) w e = sym (after_inside n expression) ∙ string_in_after n (without_parentheses expression) w e
+string_statement_after n (tree.expression_statement a expression) w e = sym (after_inside n expression) ∙ string_in_after n (inside_parentheses expression) w e
 string_statement_after n t w e = absurd (both_ways false refl (ap is_some e))
 
 unless_string_settles : {s : Scope} {n m : ℕ} {i j : Items} (line own : Span) (o : Option (List ℕ)) → ((w : List ℕ) → o ≡ Some w → m ≡ n) → Settles s n i j m → Settles s n (unless_string line own o i) (unless_string line own o j) m
@@ -168,18 +168,18 @@ pub body_end_still : (b : Bool) → is_still (body_end b) ≡ true
 body_end_still true = refl
 body_end_still false = refl
 
-consequent_by : {s : Scope} {n m : ℕ} {i j k l : Items} (own : Span) (of : Shape) (dangles alternate : Bool) → (of ≡ shapes.Empty → m ≡ n) → Settles s n i j m → Settles s n k l m → Settles s n (consequent_items own of dangles i k alternate) (consequent_items own of dangles j l alternate) m
+consequent_by : {s : Scope} {n m : ℕ} {i j k l : Items} (own : Span) (of : Shape) (dangles alternate : Bool) → (of ≡ shapes.Empty → m ≡ n) → Settles s n i j m → Settles s n k l m → Settles s n (consequent_items of dangles (record { span = own; inner = i; whole = k; else_follows = alternate })) (consequent_items of dangles (record { span = own; inner = j; whole = l; else_follows = alternate })) m
 consequent_by own shapes.Block false alternate h e f = before refl (behind e (braces_end_still alternate))
 consequent_by own shapes.Empty false alternate h e f = counts (before refl (before refl (plain (body_end_still alternate)))) (sym (h refl))
 consequent_by own of false alternate h e f = before refl (behind f (body_end_still alternate))
 consequent_by own of true alternate h e f = before refl (behind (filled_settles own f) (braces_end_still alternate))
 
-pub consequent_settles : {s : Scope} {n : ℕ} {i j k l : Items} (t : Tree) (alternate : Bool) → (shape t ≡ shapes.Empty → after t n ≡ n) → Settles s n i j (after t n) → Settles s n k l (after t n) → Settles s n (consequent_items (span_of t) (shape t) (ends_open t) i k alternate) (consequent_items (span_of (resolved s.tables s.classes n t)) (shape (resolved s.tables s.classes n t)) (ends_open (resolved s.tables s.classes n t)) j l alternate) (after t n)
+pub consequent_settles : {s : Scope} {n : ℕ} {i j k l : Items} (t : Tree) (alternate : Bool) → (shape t ≡ shapes.Empty → after t n ≡ n) → Settles s n i j (after t n) → Settles s n k l (after t n) → Settles s n (consequent_items (shape t) (ends_open t) (record { span = span_of t; inner = i; whole = k; else_follows = alternate })) (consequent_items (shape (resolved s.tables s.classes n t)) (ends_open (resolved s.tables s.classes n t)) (record { span = span_of (resolved s.tables s.classes n t); inner = j; whole = l; else_follows = alternate })) (after t n)
 consequent_settles {s} {n} {i} {j} {k} {l} t alternate h e f =
     let own = span_same s.tables s.classes n t in
     let of = shape_same s.tables s.classes n t in
     let dangles = ends_open_same s.tables s.classes n t in
-    becomes (consequent_by (span_of t) (shape t) (ends_open t) alternate h e f) (sym (λ x. consequent_items (own x) (of x) (dangles x) j l alternate))
+    becomes (consequent_by (span_of t) (shape t) (ends_open t) alternate h e f) (sym (λ x. consequent_items (of x) (dangles x) (record { span = own x; inner = j; whole = l; else_follows = alternate })))
 
 body_by : {s : Scope} {n m : ℕ} {i j k l : Items} (of : Shape) → (of ≡ shapes.Empty → m ≡ n) → Settles s n i j m → Settles s n k l m → Settles s n (body_items of i k) (body_items of j l) m
 body_by shapes.Block h e f = before refl (behind e refl)
@@ -213,11 +213,11 @@ led_by shapes.Empty h e f = counts (plain refl) (sym (h refl))
 led_by of h e f = f
 
 -- the one statement of a case that ends there
-pub only_settles : {s : Scope} {n : ℕ} {i j k l : Items} (end : ℕ) (t : Tree) → (shape t ≡ shapes.Empty → after t n ≡ n) → Settles s n i j (after t n) → Settles s n k l (after t n) → Settles s n (lined_case (span_of t).start end (lead_to (shape t) (span_of t)) (led_items (shape t) i k)) (lined_case (span_of (resolved s.tables s.classes n t)).start end (lead_to (shape (resolved s.tables s.classes n t)) (span_of (resolved s.tables s.classes n t))) (led_items (shape (resolved s.tables s.classes n t)) j l)) (after t n)
+pub only_settles : {s : Scope} {n : ℕ} {i j k l : Items} (end : ℕ) (t : Tree) → (shape t ≡ shapes.Empty → after t n ≡ n) → Settles s n i j (after t n) → Settles s n k l (after t n) → Settles s n (lined_case (record { start = (span_of t).start; end = end; lead = lead_to (shape t) (span_of t) }) (led_items (shape t) i k)) (lined_case (record { start = (span_of (resolved s.tables s.classes n t)).start; end = end; lead = lead_to (shape (resolved s.tables s.classes n t)) (span_of (resolved s.tables s.classes n t)) }) (led_items (shape (resolved s.tables s.classes n t)) j l)) (after t n)
 only_settles {s} {n} {i} {j} {k} {l} end t h e f =
     let own = span_same s.tables s.classes n t in
     let of = shape_same s.tables s.classes n t in
-    becomes (lined_settles (span_of t).start end (lead_to (shape t) (span_of t)) (led_by (shape t) h e f)) (sym (λ x. lined_case (own x).start end (lead_to (of x) (own x)) (led_items (of x) j l)))
+    becomes (lined_settles (record { start = (span_of t).start; end = end; lead = lead_to (shape t) (span_of t) }) (led_by (shape t) h e f)) (sym (λ x. lined_case (record { start = (own x).start; end = end; lead = lead_to (of x) (own x) }) (led_items (of x) j l)))
 
 pub case_settles : {s : Scope} {n m : ℕ} {i j k l : Items} (ts : Trees) → (is_one ts ≡ true → Settles s n i j m) → Settles s n k l m → Settles s n (case_items ts i k) (case_items (resolved_trees s.tables s.classes n ts) j l) m
 case_settles no_trees e f = before refl (deeper_settles f)

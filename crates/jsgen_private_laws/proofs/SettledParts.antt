@@ -26,7 +26,7 @@ use Rattle.jsgen_model.specs.Numbers.{takes_no_dot}
 use Rattle.jsgen_model.specs.Punctuator.{Round, Square, Brace}
 use Rattle.jsgen_model.specs.Items.{Items, ◌⊕◌, a_declaration, a_brace, brackets, soft_space, word}
 use Rattle.jsgen_model.specs.Resolved.{resolved, resolved_maybe, resolved_trees, after, after_maybe, after_trees}
-use Rattle.jsgen_model.specs.Spellings.{ends_in_hole, comma_if, comma_if_any, key_text, key_items, items_unless, unless_said, unless_short, before_value, before_bound, pattern_braces, behind_elements, accessor_word, method_or_property, signed, number_items, big_integer_items, parameter_items, function_items, function_words, method_words, body_braces, body_begins, comma_between, class_items, element_end, element_items, method_kind_word, own_or_renamed, before_target, assignment_items, export_named, unless_named, unless_same, as_name, import_items, others_items, clause_items, spaced_braces, attribute_key, space_by, exported_end, default_items}
+use Rattle.jsgen_model.specs.Spellings.{ends_in_hole, comma_if, comma_if_any, key_text, key_items, items_unless, unless_said, unless_short, before_value, before_bound, pattern_braces, behind_elements, accessor_word, method_or_property, signed, number_items, big_integer_items, parameter_items, FunctionStand, function_items, function_words, method_words, body_braces, body_begins, comma_between, class_items, element_end, element_items, method_kind_word, own_or_renamed, before_target, assignment_items, export_named, unless_named, unless_same, as_name, import_items, others_items, clause_items, spaced_braces, attribute_key, space_by, exported_end, default_items}
 use Rattle.jsgen_private_laws.proofs.SpelledQuestions.{ends_in_hole_same, key_text_same, method_words_same, export_named_same, attribute_key_same}
 use Rattle.jsgen_private_laws.proofs.Settled.{Scope}
 use Rattle.jsgen_private_laws.proofs.Settles.{Settles, is_still, plain, both, before, behind, becomes, counts, brackets_settle, wrapped_settles, at_start_settles, parentheses_settle, left_out_settles, where_same_settles, held_settles}
@@ -165,9 +165,9 @@ pub parameter_settles : {s : Scope} {n m : ℕ} {i j : Items} (b : Bool) → Set
 parameter_settles true e = parentheses_settle e
 parameter_settles false e = brackets_settle Round e
 
-pub function_settles : {s : Scope} {n m : ℕ} {i j : Items} (kind : FunctionKind) (pure pife : Bool) (place : Place) (start : ℕ) → Settles s n i j m → Settles s n (function_items kind pure pife place start i) (function_items kind pure pife place start j) m
-function_settles function_kinds.Declaration pure pife place start e = both (plain_if place.in_list _ refl) (block_settles place.in_list e)
-function_settles function_kinds.Expression pure pife place start e = before refl (at_start_settles pife a_declaration (before refl e))
+pub function_settles : {s : Scope} {n m : ℕ} {i j : Items} (kind : FunctionKind) (f : FunctionStand) → Settles s n i j m → Settles s n (function_items kind f i) (function_items kind f j) m
+function_settles function_kinds.Declaration f e = both (plain_if f.place.in_list _ refl) (block_settles f.place.in_list e)
+function_settles function_kinds.Expression f e = before refl (at_start_settles f.pife a_declaration (before refl e))
 
 pub function_words_settle : {s : Scope} {n : ℕ} (own : Span) (is_async generator : Bool) → Settles s n (function_words own is_async generator) (function_words own is_async generator) n
 function_words_settle own is_async generator = both (plain_if is_async _ refl) (before refl (plain_if generator _ refl))

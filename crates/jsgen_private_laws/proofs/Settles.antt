@@ -1,10 +1,9 @@
 -- How items settle, joined from how their parts do.
 use Rattle.std.proofs.Common.{◌≡◌, ℕ, suc, List, Bool, true, false, ◌&&◌, if◌then◌else◌, refl, ap, ◌∙◌}
 use Rattle.std.proofs.lemmas.Bool.{both_ways, and_parts}
-use Rattle.jsgen_syntax.specs.declared.span.Span.{Span}
 use Rattle.jsgen_tree.specs.Named.{Named}
 use Rattle.jsgen_model.specs.Punctuator.{Bracket}
-use Rattle.jsgen_model.specs.Items.{Items, ◌⊕◌, Opener, Lines, Lead, private_name, deeper, in_class, brackets, wrapped, wrapped_at_start, parentheses_unless_minified, unless_minified, where_same, held, lined_case, caught, annotated, commented, in_lines}
+use Rattle.jsgen_model.specs.Items.{Items, AnnotatedCall, OnlyStatement, ◌⊕◌, Opener, Lines, private_name, deeper, in_class, brackets, wrapped, wrapped_at_start, parentheses_unless_minified, unless_minified, where_same, held, lined_case, caught, annotated, commented, in_lines}
 use Rattle.jsgen_model.specs.Layout.{are_printed_alike}
 use Rattle.jsgen_private_laws.proofs.Settled.{Scope, inside, after_items, settled}
 
@@ -27,9 +26,9 @@ is_still (parentheses_unless_minified i) = is_still i
 is_still (unless_minified i) = is_still i
 is_still (where_same m k a b) = is_still a && is_still b
 is_still (held offset i) = is_still i
-is_still (lined_case start end lead i) = is_still i
+is_still (lined_case only i) = is_still i
 is_still (caught start body i) = is_still i
-is_still (annotated test lifted pure span offset i) = is_still i
+is_still (annotated call i) = is_still i
 is_still (commented offset i) = is_still i
 is_still (in_lines lines starts end i) = is_still i
 is_still i = true
@@ -78,14 +77,14 @@ in_class_settles e = record { is = ap in_class e.is; next = e.next }
 pub held_settles : {s : Scope} {n m : ℕ} {i j : Items} (offset : ℕ) → Settles s n i j m → Settles s n (held offset i) (held offset j) m
 held_settles offset e = record { is = ap (held offset) e.is; next = e.next }
 
-pub lined_settles : {s : Scope} {n m : ℕ} {i j : Items} (start end : ℕ) (lead : Lead) → Settles s n i j m → Settles s n (lined_case start end lead i) (lined_case start end lead j) m
-lined_settles start end lead e = record { is = ap (lined_case start end lead) e.is; next = e.next }
+pub lined_settles : {s : Scope} {n m : ℕ} {i j : Items} (only : OnlyStatement) → Settles s n i j m → Settles s n (lined_case only i) (lined_case only j) m
+lined_settles only e = record { is = ap (lined_case only) e.is; next = e.next }
 
 pub caught_settles : {s : Scope} {n m : ℕ} {i j : Items} (start body : ℕ) → Settles s n i j m → Settles s n (caught start body i) (caught start body j) m
 caught_settles start body e = record { is = ap (caught start body) e.is; next = e.next }
 
-pub annotated_settles : {s : Scope} {n m : ℕ} {i j : Items} (test lifted pure : Bool) (span : Span) (offset : ℕ) → Settles s n i j m → Settles s n (annotated test lifted pure span offset i) (annotated test lifted pure span offset j) m
-annotated_settles test lifted pure span offset e = record { is = ap (annotated test lifted pure span offset) e.is; next = e.next }
+pub annotated_settles : {s : Scope} {n m : ℕ} {i j : Items} (call : AnnotatedCall) → Settles s n i j m → Settles s n (annotated call i) (annotated call j) m
+annotated_settles call e = record { is = ap (annotated call) e.is; next = e.next }
 
 pub commented_settles : {s : Scope} {n m : ℕ} {i j : Items} (offset : ℕ) → Settles s n i j m → Settles s n (commented offset i) (commented offset j) m
 commented_settles offset e = record { is = ap (commented offset) e.is; next = e.next }
@@ -107,9 +106,9 @@ still (parentheses_unless_minified i) e = parentheses_settle (still i e)
 still (unless_minified i) e = left_out_settles (still i e)
 still (where_same m k a b) e = let p = and_parts (is_still a) (is_still b) e in where_same_settles m k (still a p.0) (still b p.1)
 still (held offset i) e = held_settles offset (still i e)
-still (lined_case start end lead i) e = lined_settles start end lead (still i e)
+still (lined_case only i) e = lined_settles only (still i e)
 still (caught start body i) e = caught_settles start body (still i e)
-still (annotated test lifted pure span offset i) e = annotated_settles test lifted pure span offset (still i e)
+still (annotated call i) e = annotated_settles call (still i e)
 still (commented offset i) e = commented_settles offset (still i e)
 still (in_lines lines starts end i) e = in_lines_settle lines starts end (still i e)
 still i e = record { is = refl; next = refl }

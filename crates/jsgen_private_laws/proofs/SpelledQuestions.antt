@@ -12,7 +12,7 @@ use Rattle.jsgen_tree.specs.Job.{Tables}
 use Rattle.jsgen_tree.specs.Tree.{Tree, Maybe, absent, given, Trees, no_trees, more, hole, MaybeTrees, no_list, listed, span_of}
 use Rattle.jsgen_tree.specs.Nodes as tree
 use Rattle.jsgen_tree.specs.Values.{static_member_expression_optional}
-use Rattle.jsgen_tree.specs.Inside.{without_parentheses}
+use Rattle.jsgen_tree.specs.Inside.{inside_parentheses}
 use Rattle.jsgen_model.specs.Items.{Items, Manner, ◌⊕◌, comments}
 use Rattle.jsgen_model.specs.Resolved.{resolved, resolved_maybe, resolved_trees, resolved_maybe_trees, after}
 use Rattle.jsgen_model.specs.Spellings.{is_prefixed, mixes, left_level, unmixed, any_given, starts_of, string_in, string_statement, span_inside, shape_of_type, shape, is_given, count, are_more, ends_in_hole, is_marked_as_called, before_expression, key_text, needs_brackets, is_name_alone, method_words, target_named, is_one, export_named, attribute_key, is_empty_list, starts_if, is_declared, is_pure_declaration}
@@ -31,7 +31,7 @@ module _ (tables : Tables) (classes : List ℕ) where
   is_prefixed_of_same n (tree.class_body a ts) = refl
   is_prefixed_of_same n t = refl
 
-  pub is_prefixed_same : (n : ℕ) (t : Tree) → is_prefixed (without_parentheses (resolved tables classes n t)) ≡ is_prefixed (without_parentheses t)
+  pub is_prefixed_same : (n : ℕ) (t : Tree) → is_prefixed (inside_parentheses (resolved tables classes n t)) ≡ is_prefixed (inside_parentheses t)
   is_prefixed_same n t = question_same tables classes is_prefixed is_prefixed_of_same n t
 
   pub left_level_same : (n : ℕ) (o : BinaryOperator) (t : Tree) → left_level o (resolved tables classes n t) ≡ left_level o t

@@ -83,7 +83,7 @@ if_tie a t c m h k e f g s n place =
     let o : ℕ = after t n in
     let c1 : Tree = resolved s.tables s.classes o c in
     let given = sym (is_given_same s.tables s.classes (after c o) m) in
-    let consequent = becomes (consequent_settles c (is_given m) (λ x. h x o) (f s o within_statement) (f s o among_statements)) (λ i. consequent_items (span_of c1) (shape c1) (ends_open c1) (spell c1 within_statement) (spell c1 among_statements) (given i)) in
+    let consequent = becomes (consequent_settles c (is_given m) (λ x. h x o) (f s o within_statement) (f s o among_statements)) (λ i. consequent_items (shape c1) (ends_open c1) (record { span = span_of c1; inner = spell c1 within_statement; whole = spell c1 among_statements; else_follows = given i })) in
     both (plain_if place.in_list _ refl) (before refl (before refl (both (brackets_settle Round (e s n _)) (both consequent (else_settles m k g s (after c o))))))
 
 pub for_tie : (a : Atoms) (init test update : Maybe) (b : Tree) → IsEmptyAlone b → TieIfGiven init → TieIfGiven test → TieIfGiven update → Tie b → Tie (tree.for_statement a init test update b)

@@ -9,6 +9,7 @@ ghost use Rattle.jsgen_model.specs.Quotes.{is_named, is_member_of};
 ghost use Rattle.jsgen_model.specs.Spell.{target_named};
 ghost use Rattle.jsgen_questions.specs.Names.{is_reference, is_binding_name};
 
+use jsgen_asked::reference;
 use jsgen_tree::{
     AssignmentTarget, BindingPattern, Expression, IdentifierReference, Node, NodeType, Statement,
     StaticMemberExpression,
@@ -25,7 +26,7 @@ fn bare_reference(node: &Node) -> Option<&str>
     ensures { option_map (λ s. chars s.now) result ≡ reference_in (node_plain node.now) }
 {
     if is_reference(node.node_type()) {
-        node.reference()
+        reference(node)
     } else {
         None
     }

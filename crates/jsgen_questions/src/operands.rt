@@ -3,13 +3,14 @@ ghost use Rattle.std.specs.Prelude.{◌≡◌};
 ghost use Rattle.jsgen_syntax.specs.declared.operator.BinaryOperator.TheVariants as operators;
 ghost use Rattle.jsgen_syntax.specs.declared.operator.LogicalOperator.TheVariants as logical_operators;
 ghost use Rattle.jsgen_tree.specs.Tree.{Tree};
-ghost use Rattle.jsgen_tree.specs.Inside.{without_parentheses};
+ghost use Rattle.jsgen_tree.specs.Inside.{inside_parentheses};
 ghost use Rattle.jsgen_tree.specs.Plain.{node_plain};
 ghost use Rattle.jsgen_model.specs.Spell.{left_level, right_level, unmixed, is_or_or_and};
 ghost use Rattle.jsgen_questions.specs.Operands.{operand_of};
 
+use jsgen_asked::{Inner, inner_expression};
 use jsgen_syntax::{BinaryOperator, GetPrecedence, LogicalOperator, Precedence};
-use jsgen_tree::{Expression, Inner, Node};
+use jsgen_tree::{Expression, Node};
 
 /// What matters of an operand, without the parentheses that it may have round it.
 #[derive(Clone, Copy)]
@@ -34,9 +35,9 @@ impl Operand {
 
 /// What matters of a node as an operand.
 pub fn operand_of(node: &Node) -> Operand
-    ensures { result ≡ operand_of (without_parentheses (node_plain node.now)) }
+    ensures { result ≡ operand_of (inside_parentheses (node_plain node.now)) }
 {
-    match node.inner_expression() {
+    match inner_expression(node) {
         Some(
             Inner::Expression(
                 Expression::NumericLiteral(_)
@@ -61,7 +62,7 @@ fn is_or_or_and(operator: LogicalOperator) -> bool
 
 /// Just below the operator's own; but of `**`, which groups to the right, its own, and where a prefix operator or `await` may begin the operand a call's.
 pub fn left_level(operator: BinaryOperator, left: Operand) -> Precedence
-    ensures { (t : Tree) → left ≡ operand_of (without_parentheses t) → result ≡ left_level operator t }
+    ensures { (t : Tree) → left ≡ operand_of (inside_parentheses t) → result ≡ left_level operator t }
 {
     match operator {
         BinaryOperator::Exponential => base_level(left),
@@ -70,7 +71,7 @@ pub fn left_level(operator: BinaryOperator, left: Operand) -> Precedence
 }
 
 fn base_level(left: Operand) -> Precedence
-    ensures { (t : Tree) → left ≡ operand_of (without_parentheses t) → result ≡ left_level operators.Exponential t }
+    ensures { (t : Tree) → left ≡ operand_of (inside_parentheses t) → result ≡ left_level operators.Exponential t }
 {
     if left.is_prefixed {
         Precedence::Call
@@ -91,7 +92,7 @@ pub fn right_level(operator: BinaryOperator) -> Precedence
 
 /// The level of an operand of `??` is raised, so that `||` and `&&` stand in parentheses there (ECMA-262, 13.13).
 pub fn unmixed(operator: LogicalOperator, operand: Operand, level: Precedence) -> Precedence
-    ensures { (t : Tree) → operand ≡ operand_of (without_parentheses t) → result ≡ unmixed operator t level }
+    ensures { (t : Tree) → operand ≡ operand_of (inside_parentheses t) → result ≡ unmixed operator t level }
 {
     match operator {
         LogicalOperator::Coalesce => coalesced(operand, level),
@@ -100,7 +101,7 @@ pub fn unmixed(operator: LogicalOperator, operand: Operand, level: Precedence) -
 }
 
 fn coalesced(operand: Operand, level: Precedence) -> Precedence
-    ensures { (t : Tree) → operand ≡ operand_of (without_parentheses t) → result ≡ unmixed logical_operators.Coalesce t level }
+    ensures { (t : Tree) → operand ≡ operand_of (inside_parentheses t) → result ≡ unmixed logical_operators.Coalesce t level }
 {
     if operand.mixes {
         Precedence::Prefix

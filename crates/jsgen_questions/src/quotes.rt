@@ -3,7 +3,7 @@ ghost use Rattle.std.specs.Prelude.{◌≡◌, Option, Some, None, option_map, c
 ghost use Rattle.std.specs.Str.{encode_utf8_all};
 ghost use Rattle.jsgen_syntax.specs.Units.{js_units, joined_units, wtf8_units};
 ghost use Rattle.jsgen_tree.specs.Tree.{Tree, Trees};
-ghost use Rattle.jsgen_tree.specs.Inside.{without_parentheses};
+ghost use Rattle.jsgen_tree.specs.Inside.{inside_parentheses};
 ghost use Rattle.jsgen_model.specs.Quotes.{is_named, is_one_string, is_require_call, defines_property, has_second_string, is_definition_call, is_equality, says_default, is_export_mark};
 ghost use Rattle.jsgen_model.specs.Spell.{string_in};
 
@@ -25,7 +25,7 @@ pub fn is_definition_call(defines: bool, second_string: bool) -> bool
 
 /// Whether an operand, which may be this string, is compared as `"default"` or `"__esModule"`.
 pub fn is_export_mark(operator: BinaryOperator, string: Option<&JsStr>) -> bool
-    ensures { (operand : Tree) → option_map (λ v. js_units v.now) string.entry ≡ string_in (without_parentheses operand) → result ≡ is_export_mark operator operand }
+    ensures { (operand : Tree) → option_map (λ v. js_units v.now) string.entry ≡ string_in (inside_parentheses operand) → result ≡ is_export_mark operator operand }
 {
     is_equality(operator) && says_default(string)
 }

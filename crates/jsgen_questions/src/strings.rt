@@ -1,21 +1,22 @@
 // Which strings stand alone, without the parentheses that they may have round them.
 ghost use Rattle.std.specs.Prelude.{◌≡◌, option_map};
 ghost use Rattle.jsgen_syntax.specs.Units.{js_units};
-ghost use Rattle.jsgen_tree.specs.Inside.{without_parentheses};
-ghost use Rattle.jsgen_tree.specs.Inner.{inner_plain};
+ghost use Rattle.jsgen_tree.specs.Inside.{inside_parentheses};
+ghost use Rattle.jsgen_asked.specs.Inner.{inner_plain};
 ghost use Rattle.jsgen_tree.specs.Rows.{expression_plain};
 ghost use Rattle.jsgen_tree.specs.Plain.{node_plain};
 ghost use Rattle.jsgen_tree.specs.Tree.{span_of};
 ghost use Rattle.jsgen_model.specs.Spell.{string_in, string_statement, span_inside};
 
+use jsgen_asked::{Inner, inner_expression};
 use jsgen_syntax::{JsStr, Span};
-use jsgen_tree::{Expression, GetSpan, Inner, Node, Statement};
+use jsgen_tree::{Expression, GetSpan, Node, Statement};
 
 /// The string that a node is, without the parentheses that it may have round it.
 pub fn string(node: &Node) -> Option<&JsStr>
-    ensures { option_map (λ v. js_units v.now) result ≡ string_in (without_parentheses (node_plain node.now)) }
+    ensures { option_map (λ v. js_units v.now) result ≡ string_in (inside_parentheses (node_plain node.now)) }
 {
-    match node.inner_expression() {
+    match inner_expression(node) {
         Some(inner) => inner_string(inner),
         None => None,
     }
@@ -62,9 +63,9 @@ pub fn inside_span(node: &Node) -> Span
 
 // Where a node stands, without the parentheses that it may have round it.
 fn bare_span(node: &Node) -> Span
-    ensures { result ≡ span_of (without_parentheses (node_plain node.now)) }
+    ensures { result ≡ span_of (inside_parentheses (node_plain node.now)) }
 {
-    match node.inner_expression() {
+    match inner_expression(node) {
         Some(inner) => inner_span(inner),
         None => node.span(),
     }

@@ -5,7 +5,7 @@ use Rattle.std.proofs.Math.Bool.{and-false}
 use Rattle.jsgen_syntax.specs.declared.precedence.Precedence.TheVariants.{Comma, Postfix}
 use Rattle.jsgen_place.specs.declared.place.Place.{Place}
 use Rattle.jsgen_place.specs.Place.{in_brackets, among_statements, within_statement, wraps}
-use Rattle.jsgen_tree.specs.Inside.{without_parentheses, ends_open, looked_up_in, bound_in, written_name_in, is_method, behind_minus}
+use Rattle.jsgen_tree.specs.Inside.{inside_parentheses, ends_open, looked_up_in, bound_in, written_name_in, is_method, behind_minus}
 use Rattle.jsgen_tree.specs.Tree.{Tree, Maybe, absent, given, Trees, no_trees, more, hole, type_of, MaybeTrees, no_list, listed}
 use Rattle.jsgen_tree.specs.Values.{numeric_literal_kind, big_int_literal_value, binary_expression_operator, logical_expression_operator, unary_expression_operator, update_expression_operator, update_expression_prefix, object_property_kind, object_property_method, object_property_shorthand, object_property_computed, function_kind, function_is_async, function_generator, function_pure, assignment_expression_operator, static_member_expression_optional, computed_member_expression_optional, call_expression_optional, call_expression_pure, new_expression_pure, for_of_statement_is_await, arrow_function_expression_is_async, arrow_function_expression_pure, binding_property_computed, private_field_expression_optional, class_kind, method_definition_kind, method_definition_computed, method_definition_is_static, property_definition_computed, property_definition_is_static, assignment_target_property_property_computed, yield_expression_delegate}
 use Rattle.jsgen_model.specs.Operators.{unary_sign}
@@ -15,7 +15,7 @@ use Rattle.jsgen_tree.specs.Nodes as tree
 use Rattle.jsgen_tree.specs.Options.{Comments, is_none}
 use Rattle.jsgen_model.specs.Items.{Items, ◌⊕◌, deeper, in_class, brackets, wrapped, wrapped_at_start, parentheses_unless_minified, unless_minified, where_same, held, lined_case, caught, annotation, annotation_line, annotated, commented, in_lines}
 use Rattle.jsgen_model.specs.Plain.{is_quiet_row, are_off, IsQuiet}
-use Rattle.jsgen_model.specs.Spell.{any_given, shape, is_given, are_more, ends_in_hole, needs_brackets, is_name_alone, is_function, target_named, is_one, is_declared, spell, spell_method, spell_directives, spell_body, spell_statements, spell_cases, spell_elements_of_class, spell_substitutions, spell_behind_comma, spell_heritage, spell_behind_word, spell_specifiers, spell_clause, spell_behind_default, spell_attributes, spell_exported, spell_list, spell_arguments, spell_behind_first, spell_more, spell_elements, spell_more_elements, spell_properties, spell_more_properties, spell_alternate, spell_only, spell_test, spell_caught, spell_finalizer, spell_apart, spell_if_given, spell_value, first_pen}
+use Rattle.jsgen_model.specs.Spell.{any_given, shape, are_more, ends_in_hole, needs_brackets, is_name_alone, is_function, target_named, is_one, is_declared, spell, spell_method, spell_directives, spell_body, spell_statements, spell_cases, spell_elements_of_class, spell_substitutions, spell_behind_comma, spell_heritage, spell_behind_word, spell_specifiers, spell_clause, spell_behind_default, spell_attributes, spell_exported, spell_list, spell_arguments, spell_behind_first, spell_more, spell_elements, spell_more_elements, spell_properties, spell_more_properties, spell_alternate, spell_only, spell_test, spell_caught, spell_finalizer, spell_apart, spell_if_given, spell_value, first_pen}
 use Rattle.jsgen_mark_laws.specs.Law.{PrintsNone}
 use Rattle.jsgen_reading_laws.proofs.Unmarked.{Unannotated, unmarked_none, declared_none, operator_item_none, logical_item_none, unary_sign_none, behind_unary_none, update_item_none, assignment_item_none, marked_none, update_items_none, name_link_none, bracket_link_none, new_arguments_none, items_if_none, first_statement_none, braces_none, block_braces_none, consequent_items_none, body_items_none, alternate_items_none, do_items_none, led_items_none, case_items_none, before_of_none, line_or_space_none, on_lines_none, comma_if_none, object_inside_none, before_member_none, before_expression_none, key_items_none, before_value_none, before_bound_none, pattern_braces_none, behind_elements_none, accessor_word_none, method_or_property_none, number_items_none, big_integer_items_none, parameter_items_none, function_items_none, function_words_none, method_words_none, body_braces_none, body_begins_none, comma_between_none, class_items_none, method_kind_word_none, own_or_renamed_none, before_target_none, assignment_items_none, first_piece_none, unless_same_none, import_items_none, others_items_none, clause_items_none, spaced_braces_none, attribute_key_none, space_by_none, exported_end_none, default_items_none}
 
@@ -24,7 +24,7 @@ use Rattle.jsgen_reading_laws.proofs.Unmarked.{Unannotated, unmarked_none, decla
 pub never : (items : Items) → PrintsNone false items
 never (annotation test kind offset) = and-false test
 never (annotation_line indented test offset) = and-false test
-never (annotated test lifted pure span offset items) = (and-false pure, never items)
+never (annotated call items) = (and-false call.pure, never items)
 never (a ⊕ b) = (never a, never b)
 never (deeper items) = never items
 never (in_class items) = never items
@@ -35,7 +35,7 @@ never (parentheses_unless_minified items) = never items
 never (unless_minified items) = never items
 never (where_same m n a b) = (never a, never b)
 never (held offset items) = never items
-never (lined_case start end lead items) = never items
+never (lined_case only items) = never items
 never (caught start body items) = never items
 never (commented offset items) = never items
 never (in_lines lines starts end items) = never items
@@ -64,7 +64,7 @@ mutual
   tree_none (tree.if_statement a test consequent alternate) place h =
       let inner = tree_none consequent within_statement h.1.1.0 in
       let whole = tree_none consequent among_statements h.1.1.0 in
-      (items_if_none place.in_list _ (tt, tt), (tt, (tt, (tree_none test _ h.1.0, (consequent_items_none _ (shape consequent) (ends_open consequent) _ _ (is_given alternate) inner whole, alternate_none alternate h.1.1.1.0)))))
+      (items_if_none place.in_list _ (tt, tt), (tt, (tt, (tree_none test _ h.1.0, (consequent_items_none (shape consequent) (ends_open consequent) _ inner whole, alternate_none alternate h.1.1.1.0)))))
   tree_none (tree.for_statement a init test update body) place h =
       let inner = tree_none body within_statement h.1.1.1.1.0 in
       let whole = tree_none body among_statements h.1.1.1.1.0 in
@@ -105,7 +105,7 @@ mutual
       (tt, (object_inside_none properties _ (properties_none _ properties _ h.1.0, comma_if_none (ends_in_hole properties)), tt))
   tree_none (tree.object_property a key value) place h =
       let said = key_items_none (needs_brackets (object_property_computed a) key) key (spell key (in_brackets Comma)) (tree_none key _ h.1.0) in
-      (items_if_none (is_function (type_of value)) _ tt, method_or_property_none (is_method (object_property_kind a) (object_property_method a)) _ _ (accessor_word_none (object_property_kind a), (method_words_none value, (said, method_none value _ h.1.1.0))) (before_value_none (object_property_shorthand a) (written_name_in key) (looked_up_in (without_parentheses value)) _ said, (before_expression_none _ value, tree_none value _ h.1.1.0)))
+      (items_if_none (is_function (type_of value)) _ tt, method_or_property_none (is_method (object_property_kind a) (object_property_method a)) _ _ (accessor_word_none (object_property_kind a), (method_words_none value, (said, method_none value _ h.1.1.0))) (before_value_none (object_property_shorthand a) (written_name_in key) (looked_up_in (inside_parentheses value)) _ said, (before_expression_none _ value, tree_none value _ h.1.1.0)))
   tree_none (tree.assignment a left right) place h =
       assignment_items_none (type_of left) _ _ (tt, (tree_none left _ h.1.0, (tt, (assignment_item_none (assignment_expression_operator a), (tt, tree_none right _ h.1.1.0)))))
   tree_none (tree.array_target a elements rest) place h =
@@ -121,7 +121,7 @@ mutual
   tree_none (tree.arrow_function a params body) place h =
       (unmarked_none (arrow_function_expression_pure a) h.0, (tt, (items_if_none (arrow_function_expression_is_async a) _ (tt, tt), (parameter_items_none (is_name_alone params) _ (tree_none params _ h.1.0), (tt, (tt, (tt, (body_begins_none (type_of body), tree_none body _ h.1.1.0))))))))
   tree_none (tree.function a id params body) place h =
-      function_items_none (function_kind a) (function_pure a) _ place _ _ (unmarked_none (function_pure a) h.0) (function_words_none a.span (function_is_async a) (function_generator a), (if_given_none id _ h.1.0, (tree_none params _ h.1.1.0, apart_none body _ h.1.1.1.0)))
+      function_items_none (function_kind a) _ _ (unmarked_none (function_pure a) h.0) (function_words_none a.span (function_is_async a) (function_generator a), (if_given_none id _ h.1.0, (tree_none params _ h.1.1.0, apart_none body _ h.1.1.1.0)))
   tree_none (tree.function_body a directives statements) place h =
       body_braces_none _ directives statements _ (directives_none directives h.1.0, body_none statements h.1.1.0)
   tree_none (tree.object_pattern a properties rest) place h =

@@ -36,6 +36,7 @@ use Rattle.jsgen_tree.specs.Tree.{Tree, Maybe, absent, given, Trees, no_trees, m
 use Rattle.jsgen_tree.specs.Values.{numeric_literal_negative, function_kind, function_pure, function_is_async, function_generator, string_literal_value}
 use Rattle.jsgen_model.specs.Items.{Items, Manner, TemplatePart, nothing, word, operator, comments}
 use Rattle.jsgen_model.specs.Operators.{operator_item, logical_item, unary_sign, marked, behind_unary, update_item, assignment_item}
+use Rattle.jsgen_model.specs.Spellings.{Consequent, FunctionStand}
 use Rattle.jsgen_model.specs.Spell.{update_items, name_link, bracket_link, new_arguments, items_if, string_statement, unless_string, first_statement, braces, block_braces, block_items, braces_end, body_end, consequent_items, body_items, alternate_items, do_items, led_items, case_items, apart_from_of, before_of, line_or_space, on_lines, comma_if, comma_if_any, ends_in_hole, object_inside, before_member, is_marked_as_called, before_expression, key_text, key_items, items_unless, unless_said, before_value, before_bound, pattern_braces, behind_elements, accessor_word, method_or_property, signed, number_items, big_integer_items, parameter_items, function_items, function_words, method_words, body_braces, body_begins, comma_between, class_items, method_kind_word, own_or_renamed, before_target, assignment_items, first_piece, export_named, unless_named, unless_same, as_name, import_items, others_items, clause_items, spaced_braces, attribute_key, space_by, exported_end, default_items, span_inside, is_declared_function, is_pure_declaration}
 use Rattle.jsgen_model.specs.Plain.{is_quiet_row}
 use Rattle.jsgen_mark_laws.specs.Law.{PrintsNone}
@@ -125,11 +126,11 @@ body_end_none : (else_follows : Bool) → Unannotated (body_end else_follows)
 body_end_none true = tt
 body_end_none false = tt
 
-pub consequent_items_none : (own : Span) (s : Shape) (open_end : Bool) (inner whole : Items) (else_follows : Bool) → Unannotated inner → Unannotated whole → Unannotated (consequent_items own s open_end inner whole else_follows)
-consequent_items_none own shapes.Block false inner whole else_follows h k = (tt, (h, braces_end_none else_follows))
-consequent_items_none own shapes.Empty false inner whole else_follows h k = (tt, (tt, body_end_none else_follows))
-consequent_items_none own s false inner whole else_follows h k = (tt, (k, body_end_none else_follows))
-consequent_items_none own s true inner whole else_follows h k = (tt, ((tt, ((tt, (k, (tt, tt))), tt)), braces_end_none else_follows))
+pub consequent_items_none : (s : Shape) (open_end : Bool) (c : Consequent) → Unannotated c.inner → Unannotated c.whole → Unannotated (consequent_items s open_end c)
+consequent_items_none shapes.Block false c h k = (tt, (h, braces_end_none c.else_follows))
+consequent_items_none shapes.Empty false c h k = (tt, (tt, body_end_none c.else_follows))
+consequent_items_none s false c h k = (tt, (k, body_end_none c.else_follows))
+consequent_items_none s true c h k = (tt, ((tt, ((tt, (k, (tt, tt))), tt)), braces_end_none c.else_follows))
 
 pub body_items_none : (s : Shape) (inner whole : Items) → Unannotated inner → Unannotated whole → Unannotated (body_items s inner whole)
 body_items_none shapes.Block inner whole h k = (tt, (h, tt))
@@ -275,9 +276,9 @@ pub parameter_items_none : (is_name : Bool) (items : Items) → Unannotated item
 parameter_items_none true items h = h
 parameter_items_none false items h = h
 
-pub function_items_none : (kind : FunctionKind) (pure pife : Bool) (place : Place) (start : ℕ) (items : Items) → (pure && true) ≡ false → Unannotated items → Unannotated (function_items kind pure pife place start items)
-function_items_none function_kinds.Declaration pure pife place start items e h = (items_if_none place.in_list _ (tt, e), block_items_none place.in_list items h)
-function_items_none function_kinds.Expression pure pife place start items e h = (e, (tt, h))
+pub function_items_none : (kind : FunctionKind) (f : FunctionStand) (items : Items) → (f.pure && true) ≡ false → Unannotated items → Unannotated (function_items kind f items)
+function_items_none function_kinds.Declaration f items e h = (items_if_none f.place.in_list _ (tt, e), block_items_none f.place.in_list items h)
+function_items_none function_kinds.Expression f items e h = (e, (tt, h))
 
 pub function_words_none : (s : Span) (is_async generator : Bool) → Unannotated (function_words s is_async generator)
 function_words_none s is_async generator = (items_if_none is_async _ (tt, tt), (tt, items_if_none generator _ (tt, tt)))

@@ -9,7 +9,7 @@ use Rattle.jsgen_tree.specs.Tree.{Tree, Atoms, type_of}
 use Rattle.jsgen_tree.specs.Nodes as tree
 use Rattle.jsgen_tree.specs.Places.{bare}
 use Rattle.jsgen_tree.specs.Values.{numeric_literal_kind, numeric_literal_negative, big_int_literal_value, string_literal_value, logical_expression_operator}
-use Rattle.jsgen_tree.specs.Inside.{without_parentheses, looked_up_in, behind_minus}
+use Rattle.jsgen_tree.specs.Inside.{inside_parentheses, looked_up_in, behind_minus}
 use Rattle.jsgen_model.specs.Grammar.{Allowed}
 use Rattle.jsgen_model.specs.Normal.{normal, chain, by_text, number_text, minus_before, big_integer}
 use Rattle.jsgen_model.specs.Renamed.{renamed}
@@ -45,23 +45,23 @@ IsStringOf names t us = (are_units us ≡ true) × (normal (renamed names t) ≡
 
 -- a function's parentheses stay, which is one for all that is asked
 abbrev pub Parenthesized : Tree → Type 0
-Parenthesized t = (a : Atoms) → let u : Tree = without_parentheses (tree.parenthesized a t) in (mixes u ≡ mixes (without_parentheses t)) × (string_in u ≡ string_in (without_parentheses t)) × (is_signed u ≡ is_signed (without_parentheses t)) × (looked_up_in u ≡ looked_up_in (without_parentheses t))
+Parenthesized t = (a : Atoms) → let u : Tree = inside_parentheses (tree.parenthesized a t) in (mixes u ≡ mixes (inside_parentheses t)) × (string_in u ≡ string_in (inside_parentheses t)) × (is_signed u ≡ is_signed (inside_parentheses t)) × (looked_up_in u ≡ looked_up_in (inside_parentheses t))
 
 pub record Asked (names : Tables) (t : Tree) : Type 0 where
   -- it begins behind the arrow of a function, and in parentheses it answers as without them
   pub begins : body_begins (type_of t) ≡ arrow_body_begins
   pub parenthesized : Parenthesized t
   -- the normal form tells which operands mix, which are a string, unless they are a template of one piece, and which are unary operations
-  pub mixed : is_mixed (normal (renamed names t)) ≡ mixes (without_parentheses t)
-  pub string : IsInBackticks t ⊎ (is_string (normal (renamed names t)) ≡ is_some (string_in (without_parentheses t)))
-  pub inside : (us : List ℕ) → string_in (without_parentheses t) ≡ Some us → IsStringOf names t us
-  pub unary : is_unary (normal (renamed names t)) ≡ is_signed (without_parentheses t)
+  pub mixed : is_mixed (normal (renamed names t)) ≡ mixes (inside_parentheses t)
+  pub string : IsInBackticks t ⊎ (is_string (normal (renamed names t)) ≡ is_some (string_in (inside_parentheses t)))
+  pub inside : (us : List ℕ) → string_in (inside_parentheses t) ≡ Some us → IsStringOf names t us
+  pub unary : is_unary (normal (renamed names t)) ≡ is_signed (inside_parentheses t)
 
 none_is_some : (us : List ℕ) → None ≡ Some us → ⊥
 none_is_some us e = both_ways false refl (ap is_some e)
 
 -- an expression that is no string, and has no parentheses round it
-no_string : {names : Tables} {t : Tree} → body_begins (type_of t) ≡ arrow_body_begins → Parenthesized t → is_mixed (normal (renamed names t)) ≡ mixes (without_parentheses t) → is_string (normal (renamed names t)) ≡ false → string_in (without_parentheses t) ≡ None → is_unary (normal (renamed names t)) ≡ is_signed (without_parentheses t) → Asked names t
+no_string : {names : Tables} {t : Tree} → body_begins (type_of t) ≡ arrow_body_begins → Parenthesized t → is_mixed (normal (renamed names t)) ≡ mixes (inside_parentheses t) → is_string (normal (renamed names t)) ≡ false → string_in (inside_parentheses t) ≡ None → is_unary (normal (renamed names t)) ≡ is_signed (inside_parentheses t) → Asked names t
 no_string e o m s n u = record { begins = e; parenthesized = o; mixed = m; string = inr (s ∙ sym (ap is_some n)); inside = λ us h. absurd (none_is_some us (sym n ∙ h)); unary = u }
 
 abbrev number_form : Atoms → Tree

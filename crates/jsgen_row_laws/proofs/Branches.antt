@@ -16,6 +16,7 @@ use Rattle.jsgen_model.specs.Grammar as grammar
 use Rattle.jsgen_model.specs.Normal.{normal, normal_trees, unbraced, nothing_of}
 use Rattle.jsgen_model.specs.Renamed.{renamed}
 use Rattle.jsgen_place.specs.Place.{among_statements, within_statement, in_brackets}
+use Rattle.jsgen_model.specs.Spellings.{Consequent}
 use Rattle.jsgen_model.specs.Spell.{spell, filled_braces, shape, braces_end, body_end, consequent_items, body_items, alternate_items, spell_alternate}
 use Rattle.jsgen_place.specs.declared.shape.Shape.{Shape}
 use Rattle.jsgen_place.specs.declared.shape.Shape.TheVariants as shapes
@@ -67,11 +68,11 @@ added_braces : {names : Tables} (own : Span) (c : Allowed) (t : Tree) (else_foll
 added_braces {names} own c t e whole o row p l z y k =
     stands_since (λ last ts u s r. r e (λ h. refl)) (λ u s. s) (block_of false (λ us s. same_unbraced (renamed names t) us o s) (filled_written own whole row p l z k))
 
-braced : (own : Span) (s : Shape) (inner whole : Items) (else_follows : Bool) → consequent_items own s true inner whole else_follows ≡ soft_space ⊕ (filled_braces own whole ⊕ braces_end else_follows)
-braced own shapes.Block inner whole e = refl
-braced own s inner whole e = refl
+braced : (s : Shape) (c : Consequent) → consequent_items s true c ≡ soft_space ⊕ (filled_braces c.span c.whole ⊕ braces_end c.else_follows)
+braced shapes.Block c = refl
+braced s c = refl
 
-good_consequent : {names : Tables} (c : Allowed) (t : Tree) (else_follows : Bool) → ends_open (normal (renamed names t)) ≡ ends_open t → EmptyAlone names t → Stated names c t → ConsequentAt names c else_follows t (consequent_items (span_of t) (shape t) (ends_open t) (spell t within_statement) (spell t among_statements) else_follows)
+good_consequent : {names : Tables} (c : Allowed) (t : Tree) (else_follows : Bool) → ends_open (normal (renamed names t)) ≡ ends_open t → EmptyAlone names t → Stated names c t → ConsequentAt names c else_follows t (consequent_items (shape t) (ends_open t) (record { span = span_of t; inner = spell t within_statement; whole = spell t among_statements; else_follows = else_follows }))
 good_consequent {names} c t e n m f = by (ends_open t) refl
   where
     inner : Items
@@ -80,20 +81,23 @@ good_consequent {names} c t e n m f = by (ends_open t) refl
     whole : Items
     whole = spell t among_statements
 
+    own : Consequent
+    own = record { span = span_of t; inner = inner; whole = whole; else_follows = e }
+
     as_it_is : (items : Items) → ends_open t ≡ false → StatedAt names c t items → ConsequentAt names c e t items
     as_it_is items o g p l z y k = stands_since (λ last ts u s r. r e (λ h. o)) (λ u s. ap unbraced s) (g p l z y k)
 
-    by_shape : (s : Shape) → shape t ≡ s → ends_open t ≡ false → ConsequentAt names c e t (consequent_items (span_of t) s false inner whole e)
+    by_shape : (s : Shape) → shape t ≡ s → ends_open t ≡ false → ConsequentAt names c e t (consequent_items s false own)
     by_shape shapes.Block i o = behind_blank soft_space (inner ⊕ braces_end e) soft_blank (before_blank inner (braces_end e) (as_it_is inner o (f.within (ap goes_on i))) (braces_end_blank e))
     by_shape shapes.Empty i o =
         let g = before_blank (punctuator semicolon) soft_line (good_semicolon c (ends_open t) (sym (m i))) soft_line_written in
         before_blank (punctuator semicolon ⊕ soft_line) (body_end e) (as_it_is (punctuator semicolon ⊕ soft_line) o g) (body_end_blank e)
     by_shape s i o = behind_blank body_space (whole ⊕ body_end e) body_blank (before_blank whole (body_end e) (as_it_is whole o (f.among)) (body_end_blank e))
 
-    by : (is_open : Bool) → ends_open t ≡ is_open → ConsequentAt names c e t (consequent_items (span_of t) (shape t) is_open inner whole e)
+    by : (is_open : Bool) → ends_open t ≡ is_open → ConsequentAt names c e t (consequent_items (shape t) is_open own)
     by false o = by_shape (shape t) refl o
     by true o =
-        subst (λ items. ConsequentAt names c e t items) (sym (braced (span_of t) (shape t) inner whole e))
+        subst (λ items. ConsequentAt names c e t items) (sym (braced (shape t) own))
         (behind_blank soft_space (filled_braces (span_of t) whole ⊕ braces_end e) soft_blank (before_blank (filled_braces (span_of t) whole) (braces_end e) (added_braces (span_of t) c t e whole (n ∙ o) (row_alone (statements_join c) t whole (listed_statement t f))) (braces_end_blank e)))
 
 -- ---- alternates
@@ -119,7 +123,7 @@ if_reads r s true n = absurd (both_ways true (n refl) refl)
 
 -- the test and the consequent, in front of what the alternate gives
 abbrev if_items : Tree → Tree → Bool → Items → Items
-if_items t s else_follows others = word (codes "if") ⊕ (soft_space ⊕ (brackets Round (spell t (in_brackets levels.Lowest)) ⊕ (consequent_items (span_of s) (shape s) (ends_open s) (spell s within_statement) (spell s among_statements) else_follows ⊕ others)))
+if_items t s else_follows others = word (codes "if") ⊕ (soft_space ⊕ (brackets Round (spell t (in_brackets levels.Lowest)) ⊕ (consequent_items (shape s) (ends_open s) (record { span = span_of s; inner = spell s within_statement; whole = spell s among_statements; else_follows = else_follows }) ⊕ others)))
 
 if_head : {names : Tables} (c : Allowed) (t : Tree) → Printed names c t → (p : Pen) (l : Last) → p.pending_semicolon ≡ false → Knows names p l → GoodHead names (codes "if") p l (layout (head_items (codes "if") t) p) c t
 if_head = good_head (codes "if") (letters_spelled 105 (codes "f") refl)

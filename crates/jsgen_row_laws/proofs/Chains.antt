@@ -8,7 +8,7 @@ use Rattle.jsgen_syntax.specs.declared.operator.LogicalOperator.TheVariants.{Or,
 use Rattle.jsgen_syntax.specs.declared.precedence.Precedence.{Precedence}
 use Rattle.jsgen_syntax.specs.declared.precedence.Precedence.TheVariants as levels
 use Rattle.jsgen_tree.specs.Job.{Tables}
-use Rattle.jsgen_tree.specs.Inside.{without_parentheses}
+use Rattle.jsgen_tree.specs.Inside.{inside_parentheses}
 use Rattle.jsgen_tree.specs.Atom.{logical_operator}
 use Rattle.jsgen_tree.specs.Tree.{Tree, Atoms}
 use Rattle.jsgen_tree.specs.Places.{bare}
@@ -164,20 +164,20 @@ head_at_short d h (grammar.an_operation o m p k q s t) = absurd (omega (arith, o
 head_at_short d h r = absurd (omega (arith, ap number_of d))
 
 -- in parentheses where it mixes
-head_there : {names : Tables} (c : Allowed) (t : Tree) (at : Precedence → Place) (level : Precedence) → is_mixed (normal (renamed names t)) ≡ mixes (without_parentheses t) → PrintedBy names c grammar.Update (spell t (at levels.Prefix)) t
+head_there : {names : Tables} (c : Allowed) (t : Tree) (at : Precedence → Place) (level : Precedence) → is_mixed (normal (renamed names t)) ≡ mixes (inside_parentheses t) → PrintedBy names c grammar.Update (spell t (at levels.Prefix)) t
     → PrintedBy names c grammar.ShortCircuit (spell t (at level)) t → PrintedBy names c grammar.CoalesceHead (spell t (at (unmixed Coalesce t level))) t
-head_there {names} c t at level e f g p l z y k = go (mixes (without_parentheses t)) e
+head_there {names} c t at level e f g p l z y k = go (mixes (inside_parentheses t)) e
   where
     go : (b : Bool) → is_mixed (normal (renamed names t)) ≡ b → Good names p l (layout (spell t (at (cond b levels.Prefix level))) p) c grammar.CoalesceHead t
     go true m = good_at (λ ts u r. grammar.a_bit_or_head (lifted false levels.Prefix levels.LogicalAnd (omega arith) r)) (f p l z y k)
     go false m = good_since (λ ts u s r. head_at_short refl (ap is_mixed s ∙ m) r) (g p l z y k)
 
-left_printed : {names : Tables} (o : LogicalOperator) (c : Allowed) (t : Tree) → Printed names c t → is_mixed (normal (renamed names t)) ≡ mixes (without_parentheses t) → (place : Place) → PrintedBy names (under place c) (operand_goal o) (spell t (left_operand (unmixed o t (logical_lower_level o)) place)) t
+left_printed : {names : Tables} (o : LogicalOperator) (c : Allowed) (t : Tree) → Printed names c t → is_mixed (normal (renamed names t)) ≡ mixes (inside_parentheses t) → (place : Place) → PrintedBy names (under place c) (operand_goal o) (spell t (left_operand (unmixed o t (logical_lower_level o)) place)) t
 left_printed Or c t f m place = f (left_operand levels.NullishCoalescing place)
 left_printed And c t f m place = f (left_operand levels.LogicalOr place)
 left_printed Coalesce c t f m place = head_there (under place c) t (λ level. left_operand level place) levels.Conditional m (f (left_operand levels.Prefix place)) (f (left_operand levels.Conditional place))
 
-right_printed : {names : Tables} (o : LogicalOperator) (c : Allowed) (t : Tree) → Printed names c t → is_mixed (normal (renamed names t)) ≡ mixes (without_parentheses t) → (place : Place) → PrintedBy names (under place c) (operand_goal o) (spell t (child (unmixed o t (logical_level o)) place)) t
+right_printed : {names : Tables} (o : LogicalOperator) (c : Allowed) (t : Tree) → Printed names c t → is_mixed (normal (renamed names t)) ≡ mixes (inside_parentheses t) → (place : Place) → PrintedBy names (under place c) (operand_goal o) (spell t (child (unmixed o t (logical_level o)) place)) t
 right_printed Or c t f m place = f (child levels.LogicalOr place)
 right_printed And c t f m place = f (child levels.LogicalAnd place)
 right_printed Coalesce c t f m place = head_there (under place c) t (λ level. child level place) levels.NullishCoalescing m (f (child levels.Prefix place)) (f (child levels.NullishCoalescing place))
@@ -187,7 +187,7 @@ right_printed Coalesce c t f m place = head_there (under place c) t (λ level. c
 same_chain : (o : LogicalOperator) (u v x y : Tree) → normal u ≡ normal x → normal v ≡ normal y → chain (bare (logical_operator o ∷ [])) (joined (links o (normal u)) (links o (normal v))) ≡ chain (bare (logical_operator o ∷ [])) (joined (links o (normal x)) (links o (normal y)))
 same_chain o u v x y e f = λ i. chain (bare (logical_operator o ∷ [])) (joined (links o (e i)) (links o (f i)))
 
-pub good_logical_operation : {names : Tables} (c : Allowed) (a : Atoms) (x y : Tree) → Printed names c x → Printed names c y → is_mixed (normal (renamed names x)) ≡ mixes (without_parentheses x) → is_mixed (normal (renamed names y)) ≡ mixes (without_parentheses y) → Printed names c (tree.logical a x y)
+pub good_logical_operation : {names : Tables} (c : Allowed) (a : Atoms) (x y : Tree) → Printed names c x → Printed names c y → is_mixed (normal (renamed names x)) ≡ mixes (inside_parentheses x) → is_mixed (normal (renamed names y)) ≡ mixes (inside_parentheses y) → Printed names c (tree.logical a x y)
 good_logical_operation {names} c a x y f g mx my place =
     let o : LogicalOperator = logical_expression_operator a in
     good_wrapped c place (own_goal o) (logical_wraps o place) (λ w. spell x (left_operand (unmixed o x (logical_lower_level o)) (within w place)) ⊕ (soft_space ⊕ (logical_item o ⊕ (soft_space ⊕ (before_expression annotation_before_it y ⊕ spell y (child (unmixed o y (logical_level o)) (within w place))))))) (tree.logical a x y)

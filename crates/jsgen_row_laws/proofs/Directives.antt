@@ -8,7 +8,7 @@ use Rattle.jsgen_syntax.specs.declared.quote.Quote.TheVariants.{Backtick}
 use Rattle.jsgen_syntax.proofs.Strings.{escaped_value}
 use Rattle.jsgen_syntax.specs.declared.precedence.Precedence.TheVariants as levels
 use Rattle.jsgen_tree.specs.Job.{Tables}
-use Rattle.jsgen_tree.specs.Inside.{without_parentheses}
+use Rattle.jsgen_tree.specs.Inside.{inside_parentheses}
 use Rattle.jsgen_tree.specs.Atom.{units}
 use Rattle.jsgen_tree.specs.Tree.{Tree, Trees, no_trees, more, Atoms, span_of}
 use Rattle.jsgen_tree.specs.Places.{bare}
@@ -181,13 +181,13 @@ template_written c a e h p l z y k =
 -- ---- the first item of a body
 
 pub first_stated : {names : Tables} {c : Allowed} {t : Tree} → IsItem names c t → Listed names c t → StandsAt names (First c) (SameTree names t) (first_statement t (spell t among_statements))
-first_stated {names} {c} (family.a_statement (family.an_expression_statement {a} {e} v)) f = go (string_in (without_parentheses e)) refl
+first_stated {names} {c} (family.a_statement (family.an_expression_statement {a} {e} v)) f = go (string_in (inside_parentheses e)) refl
   where
-    go : (o : Option (List ℕ)) → string_in (without_parentheses e) ≡ o → StandsAt names (First c) (SameTree names (tree.expression_statement a e)) (unless_string a.span (span_of (without_parentheses e)) o (spell (tree.expression_statement a e) among_statements))
+    go : (o : Option (List ℕ)) → string_in (inside_parentheses e) ≡ o → StandsAt names (First c) (SameTree names (tree.expression_statement a e)) (unless_string a.span (span_of (inside_parentheses e)) o (spell (tree.expression_statement a e) among_statements))
     go (Some us) s = let k = (asked v).inside us s in whole_line (parentheses_unless_minified (first_string us)) (string_written c a e us k.0 k.1)
     go None s = unless_template (asked v).string
       where
-        unless_template : IsInBackticks e ⊎ (is_string (normal (renamed names e)) ≡ is_some (string_in (without_parentheses e))) → StandsAt names (First c) (SameTree names (tree.expression_statement a e)) (spell (tree.expression_statement a e) among_statements)
+        unless_template : IsInBackticks e ⊎ (is_string (normal (renamed names e)) ≡ is_some (string_in (inside_parentheses e))) → StandsAt names (First c) (SameTree names (tree.expression_statement a e)) (spell (tree.expression_statement a e) among_statements)
         unless_template (inl h) = whole_line (statement_begins ⊕ spell e (in_brackets levels.Lowest)) (template_written c a e h)
         unless_template (inr n) = no_string_first (tree.expression_statement a e) f (n ∙ ap is_some s)
 first_stated {t = t} (family.a_statement v) f = no_string_first t f refl

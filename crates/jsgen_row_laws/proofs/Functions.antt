@@ -25,6 +25,7 @@ use Rattle.jsgen_model.specs.Renamed.{renamed, renamed_maybe}
 use Rattle.jsgen_place.specs.declared.place.Place.{Place}
 use Rattle.jsgen_place.specs.Place.{among_statements, within_statement, child, in_brackets, within, with_calls}
 use Rattle.jsgen_model.specs.Spell.{spell, spell_if_given, spell_directives, spell_body, function_items, function_words, body_braces}
+use Rattle.jsgen_model.specs.Spellings.{FunctionStand}
 use Rattle.jsgen_token_laws.proofs.Characters.{letters_spelled}
 use Rattle.jsgen_token_laws.proofs.Last.{Last, Open, After, line_of, Knows}
 use Rattle.jsgen_token_laws.proofs.Writes.{Writes, wrote_none, wrote_both}
@@ -279,9 +280,13 @@ good_whole_function {names} {kind} {nameless} {id} false true a t u h m n f g pl
 good_whole_function {names} {kind} {nameless} {id} true false a t u h m n f g place = from_word (codes "async") (hard_space ⊕ (word (codes "function") ⊕ named_items id t u place)) async_spelled (λ mark ts r. read_async names kind nameless mark (tree.function a id t (given u)) r) (hard_spaced (keyword_on_line (codes "function") function_spelled refl ⨾ behind_words a t u h m n f g place))
 good_whole_function {names} {kind} {nameless} {id} true true a t u h m n f g place = from_word (codes "async") (hard_space ⊕ (word (codes "function") ⊕ ((punctuator star ⊕ soft_space) ⊕ named_items id t u place))) async_spelled (λ mark ts r. read_async_generator names kind nameless mark (tree.function a id t (given u)) r) (hard_spaced (keyword_on_line (codes "function") function_spelled refl ⨾ (before_space (star_sign refl) ⨾ behind_words a t u h m n f g place)))
 
+-- how it stands at a place
+abbrev stand : Atoms → Place → FunctionStand
+stand a place = record { pure = function_pure a; pife = function_pife a; place = place; start = a.span.start }
+
 -- as it is spelled
-spelled_function : (a : Atoms) (kind : FunctionKind) (async generator : Bool) (id : Maybe) (t u : Tree) (place : Place) → function_kind a ≡ kind → IsMarked a async generator → function_items kind (function_pure a) (function_pife a) place a.span.start (items_from a.span async generator id t u place) ≡ function_items (function_kind a) (function_pure a) (function_pife a) place a.span.start (items_from a.span (function_is_async a) (function_generator a) id t u place)
-spelled_function a kind async generator id t u place h m = λ i. function_items (sym h i) (function_pure a) (function_pife a) place a.span.start (items_from a.span (sym m.0 i) (sym m.1 i) id t u place)
+spelled_function : (a : Atoms) (kind : FunctionKind) (async generator : Bool) (id : Maybe) (t u : Tree) (place : Place) → function_kind a ≡ kind → IsMarked a async generator → function_items kind (stand a place) (items_from a.span async generator id t u place) ≡ function_items (function_kind a) (stand a place) (items_from a.span (function_is_async a) (function_generator a) id t u place)
+spelled_function a kind async generator id t u place h m = λ i. function_items (sym h i) (stand a place) (items_from a.span (sym m.0 i) (sym m.1 i) id t u place)
 
 -- ---- in an expression
 

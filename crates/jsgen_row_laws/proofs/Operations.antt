@@ -7,7 +7,7 @@ use Rattle.jsgen_syntax.specs.declared.operator.BinaryOperator.{BinaryOperator}
 use Rattle.jsgen_syntax.specs.declared.operator.BinaryOperator.TheVariants as operators
 use Rattle.jsgen_syntax.specs.declared.precedence.Precedence.TheVariants as levels
 use Rattle.jsgen_tree.specs.Job.{Tables}
-use Rattle.jsgen_tree.specs.Inside.{without_parentheses}
+use Rattle.jsgen_tree.specs.Inside.{inside_parentheses}
 use Rattle.jsgen_tree.specs.Atom.{binary_operator}
 use Rattle.jsgen_tree.specs.Tree.{Tree, Atoms}
 use Rattle.jsgen_tree.specs.Places.{bare}
@@ -86,14 +86,14 @@ not_prefixed t h = refl
 
 -- of a unary operation, and of a number with a minus before it, the normal form is one, and of nothing else
 abbrev IsToldByForm : Tables → Tree → Type 0
-IsToldByForm names t = is_unary (normal (renamed names t)) ≡ is_signed (without_parentheses t)
+IsToldByForm names t = is_unary (normal (renamed names t)) ≡ is_signed (inside_parentheses t)
 
 power_left : {names : Tables} (plain : Bool) (c : Allowed) (t : Tree) → IsToldByForm names t → Printed names c t → (place : Place) → PrintedBy names (under place c) grammar.Update (spell t (quoted_plainly plain (left_operand (left_level operators.Exponential t) place))) t
-power_left {names} plain c t h f place p l z y k = go (is_prefixed (without_parentheses t)) refl
+power_left {names} plain c t h f place p l z y k = go (is_prefixed (inside_parentheses t)) refl
   where
-    go : (b : Bool) → is_prefixed (without_parentheses t) ≡ b → Good names p l (layout (spell t (quoted_plainly plain (left_operand (cond b levels.Call levels.Exponentiation) place))) p) (under place c) grammar.Update t
+    go : (b : Bool) → is_prefixed (inside_parentheses t) ≡ b → Good names p l (layout (spell t (quoted_plainly plain (left_operand (cond b levels.Call levels.Exponentiation) place))) p) (under place c) grammar.Update t
     go true e = good_at (λ ts u. lifted place.context.forbids_call levels.Call levels.Prefix (omega arith)) (f (quoted_plainly plain (left_operand levels.Call place)) p l z y k)
-    go false e = good_since (λ ts u s r. no_unary refl (ap is_unary s ∙ h ∙ not_prefixed (without_parentheses t) e) r) (f (quoted_plainly plain (left_operand levels.Exponentiation place)) p l z y k)
+    go false e = good_since (λ ts u s r. no_unary refl (ap is_unary s ∙ h ∙ not_prefixed (inside_parentheses t) e) r) (f (quoted_plainly plain (left_operand levels.Exponentiation place)) p l z y k)
 
 -- ---- the operands
 

@@ -20,7 +20,7 @@ use Rattle.jsgen_tree.specs.Tree.{Tree, Atoms, span_of, type_of}
 use Rattle.jsgen_tree.specs.Nodes as tree
 use Rattle.jsgen_tree.specs.Places.{bare}
 use Rattle.jsgen_tree.specs.Named.{Named, as_written, printed_name}
-use Rattle.jsgen_tree.specs.Inside.{without_parentheses, looked_up_in, reference_named, written_name_in, is_proto, is_method, behind_minus, is_negative_big_integer}
+use Rattle.jsgen_tree.specs.Inside.{inside_parentheses, looked_up_in, reference_named, written_name_in, is_proto, is_method, behind_minus, is_negative_big_integer}
 use Rattle.jsgen_tree.specs.Values.{identifier_name_name, numeric_literal_kind, numeric_literal_negative, numeric_literal_digits, numeric_literal_text, big_int_literal_value, string_literal_value, object_property_kind, object_property_method, object_property_shorthand, object_property_computed}
 use Rattle.jsgen_tree.specs.declared.collections.PropertyKind.{PropertyKind}
 use Rattle.jsgen_tree.specs.declared.collections.PropertyKind.TheVariants as kinds
@@ -232,7 +232,7 @@ good_spread_property c a e f = spread_in c a e (in_brackets levels.Comma) (λ ma
 
 -- the name by which a value is printed that is a reference, in parentheses or not
 abbrev printed_in : Tables → Tree → Option (List ℕ)
-printed_in names value = option_map (λ n. printed_name names n) (looked_up_in (without_parentheses value))
+printed_in names value = option_map (λ n. printed_name names n) (looked_up_in (inside_parentheses value))
 
 -- the value says the name that is the key
 abbrev says_name : Bool → List ℕ → Option (List ℕ) → Bool
@@ -275,7 +275,7 @@ abbrev pub method_items : Atoms → Tree → Tree → Items
 method_items a x v = accessor_word (object_property_kind a) ⊕ (method_words v ⊕ (key_items (needs_brackets (object_property_computed a) x) x (spell x (in_brackets levels.Comma)) ⊕ spell_method v (in_brackets levels.Comma)))
 
 abbrev before_items : Atoms → Tree → Tree → Items
-before_items a x v = before_value (object_property_shorthand a) (written_name_in x) (looked_up_in (without_parentheses v)) (key_items (needs_brackets (object_property_computed a) x) x (spell x (in_brackets levels.Comma)))
+before_items a x v = before_value (object_property_shorthand a) (written_name_in x) (looked_up_in (inside_parentheses v)) (key_items (needs_brackets (object_property_computed a) x) x (spell x (in_brackets levels.Comma)))
 
 abbrev pub plain_items : Atoms → Tree → Tree → Items
 plain_items a x v = before_items a x v ⊕ (before_expression before_it v ⊕ spell v (in_brackets levels.Comma))
@@ -287,7 +287,7 @@ property_spelled p a x v m h = λ i. layout (method_or_property (h i) (method_it
 property_laid : {names : Tables} (p : Pen) (a : Atoms) (x v : Tree) (short : Bool) → is_method (object_property_kind a) (object_property_method a) ≡ false → p.style.tables ≡ names → is_short names (object_property_shorthand a) x v ≡ short → layout (spell (tree.object_property a x v) (in_brackets levels.Comma)) p ≡ layout (spell v (in_brackets levels.Comma)) (layout (if short then nothing else key_items (needs_brackets (object_property_computed a) x) x (spell x (in_brackets levels.Comma)) ⊕ (punctuator colon ⊕ soft_space)) p)
 property_laid p a x v short m t s =
     let key : Items = key_items (needs_brackets (object_property_computed a) x) x (spell x (in_brackets levels.Comma)) in
-    property_spelled p a x v false m ∙ ap (layout (spell v (in_brackets levels.Comma))) (comments_laid before_it v (layout (before_items a x v) p) ∙ (before_laid p (object_property_shorthand a) (written_name_in x) (looked_up_in (without_parentheses v)) key t ∙ ap (λ y. layout (if y then nothing else key ⊕ (punctuator colon ⊕ soft_space)) p) s))
+    property_spelled p a x v false m ∙ ap (layout (spell v (in_brackets levels.Comma))) (comments_laid before_it v (layout (before_items a x v) p) ∙ (before_laid p (object_property_shorthand a) (written_name_in x) (looked_up_in (inside_parentheses v)) key t ∙ ap (λ y. layout (if y then nothing else key ⊕ (punctuator colon ⊕ soft_space)) p) s))
 
 -- an expression that is a reference of this name, in parentheses or not
 record Refers (names : Tables) (t : Tree) (n : Named) : Type 0 where
@@ -298,7 +298,7 @@ record Refers (names : Tables) (t : Tree) (n : Named) : Type 0 where
 none_is_some : {A : Type 0} (v : A) → None ≡ Some v → ⊥
 none_is_some v e = both_ways false refl (ap is_some e)
 
-referred : {names : Tables} {c : Allowed} {t : Tree} → IsExpression names c t → (n : Named) → looked_up_in (without_parentheses t) ≡ Some n → Refers names t n
+referred : {names : Tables} {c : Allowed} {t : Tree} → IsExpression names c t → (n : Named) → looked_up_in (inside_parentheses t) ≡ Some n → Refers names t n
 referred {names} (family.a_reference {a} h) n s =
     let e = same_Some (reference_named a) n s in
     record { laid = λ place p. ap (λ m. with_name_written (printed_name p.style.tables m) p) e; free = subst (λ m. is_free_name (printed_name names m) ≡ true) e h; form = ap (λ m. tree.identifier_reference (unnumbered (printed_name names m))) e }
@@ -328,14 +328,14 @@ by_name : {names : Tables} (shorthand : Bool) (w : List ℕ) (o : Option Named) 
 by_name shorthand w None e h = absurd (both_ways false refl h)
 by_name {names} shorthand w (Some v) e h = record { named = v; reference = refl; printed = (bytes_eq-Decides (printed_name names v) w).0 h; proto = ap (λ x. x && true) e ∙ ap (λ x. x && shorthand) (sym e) }
 
-said : {names : Tables} (shorthand : Bool) (a : Atoms) (value : Tree) → shorthand_faults names shorthand (tree.identifier_name a) value ≡ [] → is_short names shorthand (tree.identifier_name a) value ≡ true → Says names shorthand (identifier_name_name a) (looked_up_in (without_parentheses value))
+said : {names : Tables} (shorthand : Bool) (a : Atoms) (value : Tree) → shorthand_faults names shorthand (tree.identifier_name a) value ≡ [] → is_short names shorthand (tree.identifier_name a) value ≡ true → Says names shorthand (identifier_name_name a) (looked_up_in (inside_parentheses value))
 said {names} shorthand a value f h = by (is_proto (identifier_name_name a)) refl f h
   where
     w : List ℕ
     w = identifier_name_name a
 
     o : Option Named
-    o = looked_up_in (without_parentheses value)
+    o = looked_up_in (inside_parentheses value)
 
     by : (b : Bool) → is_proto w ≡ b → (if shorthand && b then named_faults names (span_of value) o else []) ≡ [] → (if b then shorthand else option_map_or (λ v. bytes_eq v w) (printed_in names value) false) ≡ true → Says names shorthand w o
     by true e f h = by_rule shorthand w value o e h (subst (λ s. (if s && true then named_faults names (span_of value) o else []) ≡ []) h f)

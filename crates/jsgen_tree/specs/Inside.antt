@@ -57,15 +57,20 @@ is_only_expression types.Function = false
 is_only_expression types.Class = false
 is_only_expression type = is_expression type
 
--- What stands within the parentheses that an expression may have round it. Round a function or a class they stay, which is one for all that is
--- asked of what stands there
+-- what stands within all parentheses that a tree has round it
 abbrev pub without_parentheses : Tree → Tree
-without_parentheses (parenthesized a expression) = if is_only_expression (type_of expression) then without_parentheses expression else parenthesized a expression
+without_parentheses (parenthesized a expression) = without_parentheses expression
 without_parentheses t = t
+
+-- What a parent asks about: what stands within the parentheses that an expression may have round it, but that round a function or a class
+-- they stay, which is one for all that is asked of what stands there
+abbrev pub inside_parentheses : Tree → Tree
+inside_parentheses (parenthesized a expression) = if is_only_expression (type_of expression) then inside_parentheses expression else parenthesized a expression
+inside_parentheses t = t
 
 -- an expression that is no function or class, and what stands within its parentheses
 abbrev pub IsInside : Tree → Tree → Type 0
-IsInside outer inner = (is_only_expression (type_of outer) ≡ true) × (inner ≡ without_parentheses outer)
+IsInside outer inner = (is_only_expression (type_of outer) ≡ true) × (inner ≡ inside_parentheses outer)
 
 -- the links of a member or a call are those behind one another up to this one; one of them is `?.`
 abbrev pub has_optional_link : Tree → Bool

@@ -16,7 +16,7 @@ pub mod Inside
 pub mod Characters
 pub mod Rows
 pub mod Plain
-pub mod Inner
+pub mod Stripped
 pub mod Spans
 pub mod Options
 pub mod Scoping

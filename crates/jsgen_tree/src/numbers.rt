@@ -1,14 +1,10 @@
 // The value of a number, and whether a minus stands before a number.
 ghost use Rattle.std.specs.Prelude.{◌≡◌, option_map};
 ghost use Rattle.std.specs.Str.{chars};
-ghost use Rattle.jsgen_tree.specs.Inside.{without_parentheses, is_negative, after_minus, unless_minus, behind_minus};
+ghost use Rattle.jsgen_tree.specs.Inside.{is_negative, after_minus, unless_minus, behind_minus};
 ghost use Rattle.jsgen_tree.specs.Rows.{numeric_literal_row};
-ghost use Rattle.jsgen_tree.specs.Plain.{node_plain};
 
 use crate::expressions::NumericLiteral;
-use crate::inside::Inner;
-use crate::nodes::Node;
-use crate::sets::Expression;
 
 /// The value of a number.
 #[derive(Drop)]
@@ -53,21 +49,6 @@ impl NumericLiteral {
         match &self.value {
             NumericValue::Whole { negative, .. } => *negative,
             NumericValue::Raw(_) => false,
-        }
-    }
-}
-
-impl Node {
-    /// Whether it is a number or a big integer with a minus before it, without the parentheses that it may have round it.
-    pub fn is_negative(&self) -> bool
-        ensures { result ≡ is_negative (without_parentheses (node_plain self.now)) }
-    {
-        match self.inner_expression() {
-            Some(Inner::Expression(Expression::NumericLiteral(node))) => node.is_negative(),
-            Some(Inner::Expression(Expression::BigIntLiteral(node))) => {
-                behind_minus(node.value.as_str()).is_some()
-            }
-            _ => false,
         }
     }
 }

@@ -1,4 +1,4 @@
-"""proofs/Members.antt: whether the members of a set that nests are expressions and nothing else, where the set itself says it."""
+"""jsgen_asked's proofs/Members.antt: whether the members of a set that nests are expressions and nothing else, where the set itself says it."""
 
 import layout
 from files.proofs_cases import aliases, variant
@@ -14,7 +14,7 @@ def write(table):
              ("Rattle.jsgen_tree.proofs.Knot", ["plain_" + snake(s.name) for s in table.nesting()]),
              (f"{DECLARED}.nodes.Node", ["Node"])] + TREE + row_names(table) + sets_in_antt(table)
     every = [(f"{DECLARED}.nodes.Node.TheVariants", "nodes")] + aliases(table)
-    return {"proofs/Members.antt": layout.antt("The types of the members of a set.", homes, every, "\n\n".join(parts))}
+    return {"crates/jsgen_asked/proofs/Members.antt": layout.antt("The types of the members of a set.", homes, every, "\n\n".join(parts))}
 
 
 def answer(table, s):

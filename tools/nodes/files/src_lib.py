@@ -12,7 +12,8 @@ HEAD = """//! The tree of a program, owned by boxes and lists, the options of pr
 """
 
 # What stands in files that are written by hand.
-BY_HAND = {"inside": ["Inner"], "kinds": [], "laws": ["equality_is_by_value", "fields_are_named", "operators_are_named"], "names": ["is_proto"], "numbers": ["NumericValue", "behind_minus"], "options": ["CodegenOptions", "CommentOptions", "LegalComment"],
+BY_HAND = {"kinds": [], "laws": ["equality_is_by_value", "fields_are_named", "operators_are_named"], "names": ["is_proto"], "numbers": ["NumericValue", "behind_minus"], "parentheses": ["Bare"],
+           "options": ["CodegenOptions", "CommentOptions", "LegalComment"],
            "scoping": ["PrivateMappings", "Scoping", "Tables"]}
 
 

@@ -6,5 +6,11 @@ pub returns-then-takes_optional_link : goal.returns-then-takes_optional_link
 unfolding verdict
 returns-then-takes_optional_link g c = rw (sym c.takes_optional_link.ensures, c.if-takes_optional_link.true) refl
 
+pub returns-then-has_optional_link : goal.returns-then-has_optional_link
+unfolding verdict
+returns-then-has_optional_link g c =
+    rw (sym c.takes_optional_link.ensures, c.if-takes_optional_link.false, sym c.has_optional_link.ensures, c.if-has_optional_link.true, c.start.ensures) refl
+
 pub returns : goal.returns
-returns g c = rw (sym c.takes_optional_link.ensures, c.if-takes_optional_link.false) (rw (c.has_optional_link.ensures, c.start.ensures) at c.check_no_optional_link.ensures)
+unfolding verdict
+returns g c = rw (sym c.takes_optional_link.ensures, c.if-takes_optional_link.false, sym c.has_optional_link.ensures, c.if-has_optional_link.false) refl

@@ -5,7 +5,7 @@ ghost use Rattle.std.specs.Prelude.{◌≡◌, not, ◌&&◌, false, option_map}
 ghost use Rattle.std.specs.Option.{option_map_or};
 ghost use Rattle.std.specs.Str.{chars};
 ghost use Rattle.jsgen_tree.specs.Tree.{type_of, span_of};
-ghost use Rattle.jsgen_tree.specs.Inside.{without_parentheses, looked_up_in, written_name_in, is_proto, is_negative_number, is_negative_big_integer};
+ghost use Rattle.jsgen_tree.specs.Inside.{inside_parentheses, looked_up_in, written_name_in, is_proto, is_negative_number, is_negative_big_integer};
 ghost use Rattle.jsgen_tree.specs.Rows.{object_property_row, in_property_key, in_expression};
 ghost use Rattle.jsgen_tree.specs.Scoping.{tables_plain};
 ghost use Rattle.jsgen_tree.specs.Sets.{is_expression};
@@ -168,7 +168,7 @@ fn is_proto_key<N: CheckNode>(key: &PropertyKey<N>) -> bool
 
 /// That it is a reference which is printed as `__proto__`.
 fn check_named<N: CheckNode>(tables: Tables<'_>, value: &ExpressionNode<N>) -> Result<(), TreeFault>
-    ensures { result ≡ verdict (named_faults (tables_plain tables.entry) (span_of (in_expression N.plain value.now)) (looked_up_in (without_parentheses (in_expression N.plain value.now)))) }
+    ensures { result ≡ verdict (named_faults (tables_plain tables.entry) (span_of (in_expression N.plain value.now)) (looked_up_in (inside_parentheses (in_expression N.plain value.now)))) }
 {
     let start = value.get().start();
     match value.get().looked_up() {

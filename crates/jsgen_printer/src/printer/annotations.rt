@@ -118,8 +118,8 @@ impl<'a> Printer<'a> {
         span: Span,
         offset: u32,
     ) -> bool
-        ensures wraps { result ≡ (lifts pure lifted (pen_of self.old) || test) }
-        ensures goes { Goes self.old self.new (annotated_from test lifted pure span offset) }
+        ensures wraps { result ≡ (lifts (record { wrapped = test; lifted = lifted; pure = pure; span = span; start = offset }) (pen_of self.old) || test) }
+        ensures goes { Goes self.old self.new (annotated_from (record { wrapped = test; lifted = lifted; pure = pure; span = span; start = offset })) }
     {
         let wraps = self.wraps_call(test, lifted, pure);
         let annotates = self.annotates(pure);
@@ -138,7 +138,7 @@ impl<'a> Printer<'a> {
 
     // Whether a call stands in parentheses.
     fn wraps_call(&self, test: bool, lifted: bool, pure: bool) -> bool
-        ensures { result ≡ (lifts pure lifted (pen_of self.now) || test) }
+        ensures { result ≡ (((pure && (pen_of self.now).style.annotated) && lifted) || test) }
     {
         (self.annotates(pure) && lifted) || test
     }

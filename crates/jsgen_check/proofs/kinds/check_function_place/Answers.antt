@@ -3,7 +3,7 @@ use Rattle.std.proofs.lemmas.List.{append-nil}
 use Rattle.jsgen_tree.specs.Rows.{binding_identifier_row, function_row}
 use Rattle.jsgen_tree.specs.declared.types.NodeSet.TheVariants as sets
 use Rattle.jsgen_tree.specs.declared.types.NodeType.TheVariants as types
-use Rattle.jsgen_tree.proofs.Bound.{name_given}
+use Rattle.jsgen_tree.proofs.Given.{name_given}
 use Rattle.jsgen_model.specs.Valid.{fault_if, fits_place, may_stand}
 use Rattle.jsgen_model.specs.declared.fault.TreeFault.TheVariants as faults
 use Rattle.jsgen_rules.specs.Verdict.{verdict}

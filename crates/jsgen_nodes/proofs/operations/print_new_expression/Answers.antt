@@ -7,4 +7,4 @@ pub returns : goal.returns
 returns g c =
     let node = c.args.node.now in
     let inside = c.print_marked_word.ensures ⨾ (c.print_soft_space.ensures ⨾ ((rw (c.constructed.ensures, c.get.ensures) at c.print.ensures) ⨾ (rw c.deref.ensures.value at c.print_new_arguments.ensures))) in
-    rw (c.within-within.ensures, c.wraps-lifted.ensures, c.wraps-wrap.ensures) at (annotated_laid c.wraps-wrap.result c.wraps-lifted.result node.pure unmarked node.span.start c.begin_call-wraps.result c.begin_call-wraps.ensures.wraps c.begin_call-wraps.ensures.goes inside c.print_closing_if.ensures)
+    rw (c.within-within.ensures, c.wraps-lifted.ensures, c.wraps-wrap.ensures) at (annotated_laid (record { wrapped = c.wraps-wrap.result; lifted = c.wraps-lifted.result; pure = node.pure; span = unmarked; start = node.span.start }) c.begin_call-wraps.result c.begin_call-wraps.ensures.wraps c.begin_call-wraps.ensures.goes inside c.print_closing_if.ensures)

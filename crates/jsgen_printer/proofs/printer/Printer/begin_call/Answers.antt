@@ -13,6 +13,6 @@ returns-clause-goes c =
     let pen = pen_of c.args.self.now in
     let wraps = c.wraps_call-wraps.ensures in
     let on = c.annotates-annotates.ensures in
-    goes_as (annotated_from c.args.test c.args.lifted c.args.pure c.args.span c.args.offset)
+    goes_as (annotated_from (record { wrapped = c.args.test; lifted = c.args.lifted; pure = c.args.pure; span = c.args.span; start = c.args.offset }))
     (λ i. annotated_if (on i) c.args.span c.args.offset pen.start (written_if (wraps i) (opening Round) pen))
     (goes_then (λ p. prefix_append p.code _) (λ p. (annotated_if_adds _ c.args.span c.args.offset (start_of c.args.self.now.start) p).text) c.print_opening_if.ensures c.print_call_annotation_if.ensures)

@@ -1,6 +1,6 @@
 use Rattle.std.proofs.Common.{rules}
 use Rattle.jsgen_tree.proofs.Knot.{plain_expression, plain_statement, plain_declaration, plain_binding_pattern, plain_class_element, plain_assignment_target}
-use Rattle.jsgen_tree.proofs.nodes.Node.+declared_kind.Goals as goal
+use Rattle.jsgen_asked.proofs.kinds.+declared_kind.Goals as goal
 
 pub returns-in-Expression : goal.returns-in-Expression
 returns-in-Expression t c = search (rules, plain_expression)

@@ -1,7 +1,7 @@
 use Rattle.std.proofs.Common.{rules, refl}
 use Rattle.jsgen_tree.proofs.Knot.{plain_expression, plain_statement, plain_declaration, plain_binding_pattern, plain_class_element, plain_assignment_target}
-use Rattle.jsgen_tree.proofs.Bound.{bound_row}
-use Rattle.jsgen_tree.proofs.nodes.Node.+bound.Goals as goal
+use Rattle.jsgen_asked.proofs.BoundNames.{bound_row}
+use Rattle.jsgen_asked.proofs.names.+bound.Goals as goal
 
 pub returns-in-Expression : goal.returns-in-Expression
 returns-in-Expression t c = search (rules, plain_expression)

@@ -1,11 +1,10 @@
--- The name that a pattern is, and whether a class has one.
-use Rattle.std.proofs.Common.{◌≡◌, ℕ, Option, Some, None, is_some, option_map, refl, ap}
-use Rattle.jsgen_tree.specs.Tree.{Tree, optional}
+-- The name that a pattern is.
+use Rattle.std.proofs.Common.{◌≡◌, ℕ, Option, Some, None, refl, ap}
 use Rattle.jsgen_tree.specs.Characters.{characters, number_if_given}
 use Rattle.jsgen_tree.specs.Values.{as_number_if_given}
 use Rattle.jsgen_tree.specs.Rows.{binding_identifier_row}
 use Rattle.jsgen_tree.specs.Named.{bound}
-use Rattle.jsgen_tree.specs.Inside.{bound_in, bound_by, has_name}
+use Rattle.jsgen_tree.specs.Inside.{bound_in, bound_by}
 use Rattle.jsgen_tree.specs.declared.statements.BindingIdentifier.{BindingIdentifier}
 
 number_given : (s : Option ℕ) → s ≡ as_number_if_given (number_if_given s)
@@ -14,7 +13,3 @@ number_given (Some n) = refl
 
 pub bound_row : (n : BindingIdentifier) → Some (bound_by n) ≡ bound_in (binding_identifier_row n)
 bound_row n = ap (λ s. Some (bound s (characters n.name))) (number_given n.symbol)
-
-pub name_given : {A : Type 0} (f : A → Tree) (o : Option A) → has_name (optional (option_map f o)) ≡ is_some o
-name_given f None = refl
-name_given f (Some x) = refl

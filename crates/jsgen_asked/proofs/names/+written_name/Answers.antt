@@ -1,12 +1,9 @@
 use Rattle.std.proofs.Common.{rules}
 use Rattle.jsgen_tree.proofs.Knot.{plain_expression, plain_statement, plain_declaration, plain_binding_pattern, plain_class_element, plain_assignment_target}
-use Rattle.jsgen_tree.proofs.nodes.Node.+as_function.Goals as goal
+use Rattle.jsgen_asked.proofs.names.+written_name.Goals as goal
 
-pub returns-in-Function : goal.returns-in-Function
-returns-in-Function t c = search (rules, plain_expression)
-
-pub returns-in_default : goal.returns-in_default
-returns-in_default t c = search (rules, plain_expression)
+pub returns-in-Expression : goal.returns-in-Expression
+returns-in-Expression t c = search (rules, plain_expression)
 
 pub returns-in-AssignmentTarget : goal.returns-in-AssignmentTarget
 returns-in-AssignmentTarget t c = search (rules, plain_assignment_target)
@@ -14,14 +11,11 @@ returns-in-AssignmentTarget t c = search (rules, plain_assignment_target)
 pub returns-in-Declaration-statement : goal.returns-in-Declaration-statement
 returns-in-Declaration-statement t c = search (rules, plain_statement)
 
-pub returns-in_default-statement : goal.returns-in_default-statement
-returns-in_default-statement t c = search (rules, plain_statement)
+pub returns-in_default : goal.returns-in_default
+returns-in_default t c = search (rules, plain_statement)
 
-pub returns-in-Function-declaration : goal.returns-in-Function-declaration
-returns-in-Function-declaration t c = search (rules, plain_declaration)
-
-pub returns-in_default-declaration : goal.returns-in_default-declaration
-returns-in_default-declaration t c = search (rules, plain_declaration)
+pub returns-in-Declaration : goal.returns-in-Declaration
+returns-in-Declaration t c = search (rules, plain_declaration)
 
 pub returns-in-BindingPattern : goal.returns-in-BindingPattern
 returns-in-BindingPattern t c = search (rules, plain_binding_pattern)
