@@ -5,6 +5,8 @@ import { unitsOf } from "./texts.mjs";
 
 const MAGIC = 0x4647534a;
 const HEAD_WORDS = 8;
+// The last word, of which no number is told.
+const MOST_WORD = 2 ** 32 - 1;
 // Below it digits are a number, and from it on a text.
 const DIGITS_LIMIT = 2 ** 31;
 // How much room there is at first: words of rows by the length of the source, if that is known, and of the rest a part of these.
@@ -174,6 +176,7 @@ export class FlatRows {
   }
 
   number(field, number) {
+    if (number >>> 0 !== number || number === MOST_WORD) throw new TypeError(`the ${field.name} ${number} is no whole number below ${MOST_WORD}`);
     this.set(field, number + 1);
   }
 

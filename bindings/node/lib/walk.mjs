@@ -162,7 +162,7 @@ export class Walk {
   numberOf(node, table) {
     if (this.names === null) return undefined;
     const number = this.names[table].get(node);
-    if (number >>> 0 !== number) this.fail(node, "isn't in the tables of new names, which are of another tree, or of this one before it was changed");
+    if (number === undefined) this.fail(node, "isn't in the tables of new names, which are of another tree, or of this one before it was changed");
     return number;
   }
 
