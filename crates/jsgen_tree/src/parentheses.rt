@@ -1,15 +1,15 @@
 // What stands within all parentheses.
-ghost use Rattle.std.specs.Prelude.{◌≡◌};
+ghost use Rattle.std.specs.Prelude.{◌≡◌, true};
 ghost use Rattle.jsgen_tree.specs.Inside.{without_parentheses};
-ghost use Rattle.jsgen_tree.specs.Stripped.{bare_plain};
+ghost use Rattle.jsgen_tree.specs.Stripped.{bare_plain, is_stripped};
 ghost use Rattle.jsgen_tree.specs.Rows.{expression_plain};
 ghost use Rattle.jsgen_tree.specs.Plain.{node_plain};
 
 use crate::nodes::Node;
 use crate::sets::{Expression, Statement};
 
-/// What stands within all parentheses that an expression has round it. It is always an expression: a child that is one is made of
-/// nothing else, which the proof doesn't know, so that it has a name for what else might stand there.
+/// What stands within all parentheses that an expression has round it: an expression that has none of its own (`is_stripped`). Where
+/// a child that ought to be an expression is made of something else, which no valid tree has, it is `Other`.
 #[derive(Clone, Copy)]
 pub enum Bare<'t> {
     Expression(&'t Expression),
@@ -20,7 +20,8 @@ impl Expression {
     /// What stands within all parentheses round it (ParenthesizedExpression), and itself where it has none.
     #[cycle(bare)]
     pub fn without_parentheses(&self) -> Bare<'_>
-        ensures { bare_plain result ≡ without_parentheses (expression_plain node_plain self.now) }
+        ensures bare { bare_plain result ≡ without_parentheses (expression_plain node_plain self.now) }
+        ensures stripped { is_stripped result ≡ true }
     {
         match self {
             Expression::ParenthesizedExpression(outer) => {
@@ -35,7 +36,8 @@ impl Node {
     /// What stands within all parentheses round it, and itself where it has none.
     #[cycle(bare)]
     pub fn without_parentheses(&self) -> Bare<'_>
-        ensures { bare_plain result ≡ without_parentheses (node_plain self.now) }
+        ensures bare { bare_plain result ≡ without_parentheses (node_plain self.now) }
+        ensures stripped { is_stripped result ≡ true }
     {
         match self {
             Node::Expression(expression) => expression.without_parentheses(),
