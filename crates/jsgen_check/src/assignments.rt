@@ -5,8 +5,8 @@ ghost use Rattle.jsgen_tree.specs.Rows.{conditional_expression_row, sequence_exp
 ghost use Rattle.jsgen_model.specs.Resolved.{after};
 ghost use Rattle.jsgen_check.specs.Verdict.{surroundings_plain, tree_verdict, SameNumber};
 
-use crate::children::check_expressions;
 use crate::heights::{check_node, higher};
+use crate::lists::check_expressions;
 use crate::rules::{check_assignment_expression_rules, check_sequence_expression_rules};
 use crate::{CheckNode, Surroundings, check_child};
 use jsgen_model::TreeFault;

@@ -7,8 +7,8 @@ ghost use Rattle.jsgen_model.specs.Resolved.{after, after_trees};
 ghost use Rattle.jsgen_model.specs.Valid.{within_class};
 ghost use Rattle.jsgen_check.specs.Verdict.{surroundings_plain, tree_verdict, children_verdict, SameNumber};
 
-use crate::children::check_class_elements;
 use crate::heights::check_node;
+use crate::lists::check_class_elements;
 use crate::{CheckNode, Surroundings};
 use jsgen_model::TreeFault;
 use jsgen_rules::{Classes, has_table, number_behind};

@@ -1,392 +1,44 @@
 // Generated from tools/nodes/table.txt; edit that and run tools/nodes/generate.
-// Lists, children that may be absent, and sets that don't nest.
-ghost use Rattle.std.specs.Prelude.{◌≡◌, map, option_map};
-ghost use Rattle.jsgen_tree.specs.Tree.{optional, optional_list, trees, holed};
-ghost use Rattle.jsgen_tree.specs.Rows.{in_expression, in_argument, in_array_expression_element, in_chain_element, in_simple_assignment_target, in_assignment_target_maybe_default, in_assignment_target_property, in_arrow_function_body, in_for_statement_init, in_for_statement_left, in_object_property_kind, in_property_key, in_statement, in_binding_pattern, in_class_element, in_module_export_name, in_import_declaration_specifier, in_import_attribute_key, in_export_default_declaration_kind, comment_row, directive_row, variable_declarator_row, binding_identifier_row, block_statement_row, formal_parameter_row, formal_parameter_rest_row, function_body_row, template_element_row, label_identifier_row, switch_case_row, catch_clause_row, binding_property_row, binding_rest_element_row, assignment_target_rest_row, hashbang_row, with_clause_row, import_attribute_row, export_specifier_row};
-ghost use Rattle.jsgen_model.specs.Resolved.{after, after_maybe, after_trees, after_maybe_trees};
-ghost use Rattle.jsgen_check.specs.Verdict.{surroundings_plain, child_verdict, maybe_verdict, children_verdict, maybe_children_verdict, SameNumber};
+// Children that may be absent, and sets that don't nest.
+ghost use Rattle.std.specs.Prelude.{◌≡◌, option_map};
+ghost use Rattle.jsgen_tree.specs.Tree.{optional};
+ghost use Rattle.jsgen_tree.specs.Rows.{in_expression, in_argument, in_array_expression_element, in_chain_element, in_simple_assignment_target, in_assignment_target_maybe_default, in_assignment_target_property, in_arrow_function_body, in_for_statement_init, in_for_statement_left, in_object_property_kind, in_property_key, in_statement, in_binding_pattern, in_module_export_name, in_import_declaration_specifier, in_import_attribute_key, in_export_default_declaration_kind, binding_identifier_row, block_statement_row, formal_parameter_rest_row, function_body_row, label_identifier_row, catch_clause_row, binding_rest_element_row, assignment_target_rest_row, hashbang_row, with_clause_row};
+ghost use Rattle.jsgen_model.specs.Resolved.{after, after_maybe};
+ghost use Rattle.jsgen_check.specs.Verdict.{surroundings_plain, child_verdict, maybe_verdict, SameNumber};
 ghost use Rattle.jsgen_tree.specs.declared.types.NodeSet.TheVariants as sets;
 
-use crate::choices::{check_catch_clause, check_switch_case};
+use crate::choices::check_catch_clause;
 use crate::classes::{check_class, check_private_field_expression, check_private_identifier};
 use crate::collections::{check_object_property, check_spread_element};
 use crate::expressions::{
     check_call_expression, check_computed_member_expression, check_identifier_name,
     check_identifier_reference, check_static_member_expression, check_string_literal,
 };
-use crate::functions::{
-    check_formal_parameter, check_formal_parameter_rest, check_function, check_function_body,
-};
-use crate::heights::higher;
+use crate::functions::{check_formal_parameter_rest, check_function, check_function_body};
 use crate::loops::check_label_identifier;
 use crate::modules::{
-    check_export_specifier, check_hashbang, check_import_attribute, check_import_default_specifier,
-    check_import_namespace_specifier, check_import_specifier, check_with_clause,
+    check_hashbang, check_import_default_specifier, check_import_namespace_specifier,
+    check_import_specifier, check_with_clause,
 };
-use crate::patterns::{check_binding_property, check_binding_rest_element};
+use crate::patterns::check_binding_rest_element;
 use crate::statements::{
-    check_binding_identifier, check_block_statement, check_comment, check_directive,
-    check_variable_declaration, check_variable_declarator,
+    check_binding_identifier, check_block_statement, check_variable_declaration,
 };
 use crate::targets::{
     check_assignment_target_property_identifier, check_assignment_target_property_property,
     check_assignment_target_rest, check_assignment_target_with_default,
 };
-use crate::templates::check_template_element;
 use crate::{CheckNode, Surroundings, check_child};
 use jsgen_model::TreeFault;
 use jsgen_rules::Classes;
 use jsgen_tree::{
     Argument, ArrayExpressionElement, ArrowFunctionBody, AssignmentTargetMaybeDefault,
     AssignmentTargetProperty, AssignmentTargetRest, BindingIdentifier, BindingPatternNode,
-    BindingProperty, BindingRestElement, BlockStatement, CatchClause, ChainElement,
-    ClassElementNode, Comment, Directive, ExportDefaultDeclarationKind, ExportSpecifier,
-    ExpressionNode, ForStatementInit, ForStatementLeft, FormalParameter, FormalParameterRest,
-    FunctionBody, Hashbang, ImportAttribute, ImportAttributeKey, ImportDeclarationSpecifier,
-    LabelIdentifier, ModuleExportName, NodeSet, ObjectPropertyKind, PropertyKey,
-    SimpleAssignmentTarget, StatementNode, SwitchCase, TemplateElement, VariableDeclarator,
-    WithClause,
+    BindingRestElement, BlockStatement, CatchClause, ChainElement, ExportDefaultDeclarationKind,
+    ExpressionNode, ForStatementInit, ForStatementLeft, FormalParameterRest, FunctionBody,
+    Hashbang, ImportAttributeKey, ImportDeclarationSpecifier, LabelIdentifier, ModuleExportName,
+    NodeSet, ObjectPropertyKind, PropertyKey, SimpleAssignmentTarget, StatementNode, WithClause,
 };
-
-pub fn check_comments(
-    nodes: &[Comment],
-    around: &Surroundings<'_>,
-    classes: Option<&Classes<'_>>,
-    next: &mut usize,
-) -> Result<u64, TreeFault>
-    ensures found { result ≡ children_verdict (surroundings_plain around.now classes.entry) next.old sets.Comment (trees (map comment_row nodes.now)) }
-    ensures number { SameNumber (surroundings_plain around.now classes.entry) next.new (after_trees (trees (map comment_row nodes.now)) next.old) }
-{
-    let mut below = Ok(0);
-    for node in nodes {
-        let found = check_comment(node, around, classes, next);
-        below = higher(below, found);
-    }
-    below
-}
-
-pub fn check_directives(
-    nodes: &[Directive],
-    around: &Surroundings<'_>,
-    classes: Option<&Classes<'_>>,
-    next: &mut usize,
-) -> Result<u64, TreeFault>
-    ensures found { result ≡ children_verdict (surroundings_plain around.now classes.entry) next.old sets.Directive (trees (map directive_row nodes.now)) }
-    ensures number { SameNumber (surroundings_plain around.now classes.entry) next.new (after_trees (trees (map directive_row nodes.now)) next.old) }
-{
-    let mut below = Ok(0);
-    for node in nodes {
-        let found = check_directive(node, around, classes, next);
-        below = higher(below, found);
-    }
-    below
-}
-
-pub fn check_module_items<N: CheckNode>(
-    nodes: &[StatementNode<N>],
-    around: &Surroundings<'_>,
-    classes: Option<&Classes<'_>>,
-    next: &mut usize,
-) -> Result<u64, TreeFault>
-    ensures found { result ≡ children_verdict (surroundings_plain around.now classes.entry) next.old sets.ModuleItem (trees (map (in_statement N.plain) nodes.now)) }
-    ensures number { SameNumber (surroundings_plain around.now classes.entry) next.new (after_trees (trees (map (in_statement N.plain) nodes.now)) next.old) }
-{
-    let mut below = Ok(0);
-    for node in nodes {
-        let found = check_child(node.get(), NodeSet::ModuleItem, around, classes, next);
-        below = higher(below, found);
-    }
-    below
-}
-
-pub fn check_variable_declarators<N: CheckNode>(
-    nodes: &[VariableDeclarator<N>],
-    around: &Surroundings<'_>,
-    classes: Option<&Classes<'_>>,
-    next: &mut usize,
-) -> Result<u64, TreeFault>
-    ensures found { result ≡ children_verdict (surroundings_plain around.now classes.entry) next.old sets.VariableDeclarator (trees (map (variable_declarator_row N.plain) nodes.now)) }
-    ensures number { SameNumber (surroundings_plain around.now classes.entry) next.new (after_trees (trees (map (variable_declarator_row N.plain) nodes.now)) next.old) }
-{
-    let mut below = Ok(0);
-    for node in nodes {
-        let found = check_variable_declarator(node, around, classes, next);
-        below = higher(below, found);
-    }
-    below
-}
-
-pub fn check_statements<N: CheckNode>(
-    nodes: &[StatementNode<N>],
-    around: &Surroundings<'_>,
-    classes: Option<&Classes<'_>>,
-    next: &mut usize,
-) -> Result<u64, TreeFault>
-    ensures found { result ≡ children_verdict (surroundings_plain around.now classes.entry) next.old sets.Statement (trees (map (in_statement N.plain) nodes.now)) }
-    ensures number { SameNumber (surroundings_plain around.now classes.entry) next.new (after_trees (trees (map (in_statement N.plain) nodes.now)) next.old) }
-{
-    let mut below = Ok(0);
-    for node in nodes {
-        let found = check_child(node.get(), NodeSet::Statement, around, classes, next);
-        below = higher(below, found);
-    }
-    below
-}
-
-pub fn check_arguments<N: CheckNode>(
-    nodes: &[Argument<N>],
-    around: &Surroundings<'_>,
-    classes: Option<&Classes<'_>>,
-    next: &mut usize,
-) -> Result<u64, TreeFault>
-    ensures found { result ≡ children_verdict (surroundings_plain around.now classes.entry) next.old sets.Argument (trees (map (in_argument N.plain) nodes.now)) }
-    ensures number { SameNumber (surroundings_plain around.now classes.entry) next.new (after_trees (trees (map (in_argument N.plain) nodes.now)) next.old) }
-{
-    let mut below = Ok(0);
-    for node in nodes {
-        let found = check_argument(node, around, classes, next);
-        below = higher(below, found);
-    }
-    below
-}
-
-pub fn check_object_property_kinds<N: CheckNode>(
-    nodes: &[ObjectPropertyKind<N>],
-    around: &Surroundings<'_>,
-    classes: Option<&Classes<'_>>,
-    next: &mut usize,
-) -> Result<u64, TreeFault>
-    ensures found { result ≡ children_verdict (surroundings_plain around.now classes.entry) next.old sets.ObjectPropertyKind (trees (map (in_object_property_kind N.plain) nodes.now)) }
-    ensures number { SameNumber (surroundings_plain around.now classes.entry) next.new (after_trees (trees (map (in_object_property_kind N.plain) nodes.now)) next.old) }
-{
-    let mut below = Ok(0);
-    for node in nodes {
-        let found = check_object_property_kind(node, around, classes, next);
-        below = higher(below, found);
-    }
-    below
-}
-
-pub fn check_expressions<N: CheckNode>(
-    nodes: &[ExpressionNode<N>],
-    around: &Surroundings<'_>,
-    classes: Option<&Classes<'_>>,
-    next: &mut usize,
-) -> Result<u64, TreeFault>
-    ensures found { result ≡ children_verdict (surroundings_plain around.now classes.entry) next.old sets.Expression (trees (map (in_expression N.plain) nodes.now)) }
-    ensures number { SameNumber (surroundings_plain around.now classes.entry) next.new (after_trees (trees (map (in_expression N.plain) nodes.now)) next.old) }
-{
-    let mut below = Ok(0);
-    for node in nodes {
-        let found = check_child(node.get(), NodeSet::Expression, around, classes, next);
-        below = higher(below, found);
-    }
-    below
-}
-
-pub fn check_each_formal_parameter<N: CheckNode>(
-    nodes: &[FormalParameter<N>],
-    around: &Surroundings<'_>,
-    classes: Option<&Classes<'_>>,
-    next: &mut usize,
-) -> Result<u64, TreeFault>
-    ensures found { result ≡ children_verdict (surroundings_plain around.now classes.entry) next.old sets.FormalParameter (trees (map (formal_parameter_row N.plain) nodes.now)) }
-    ensures number { SameNumber (surroundings_plain around.now classes.entry) next.new (after_trees (trees (map (formal_parameter_row N.plain) nodes.now)) next.old) }
-{
-    let mut below = Ok(0);
-    for node in nodes {
-        let found = check_formal_parameter(node, around, classes, next);
-        below = higher(below, found);
-    }
-    below
-}
-
-pub fn check_template_elements(
-    nodes: &[TemplateElement],
-    around: &Surroundings<'_>,
-    classes: Option<&Classes<'_>>,
-    next: &mut usize,
-) -> Result<u64, TreeFault>
-    ensures found { result ≡ children_verdict (surroundings_plain around.now classes.entry) next.old sets.TemplateElement (trees (map template_element_row nodes.now)) }
-    ensures number { SameNumber (surroundings_plain around.now classes.entry) next.new (after_trees (trees (map template_element_row nodes.now)) next.old) }
-{
-    let mut below = Ok(0);
-    for node in nodes {
-        let found = check_template_element(node, around, classes, next);
-        below = higher(below, found);
-    }
-    below
-}
-
-pub fn check_switch_cases<N: CheckNode>(
-    nodes: &[SwitchCase<N>],
-    around: &Surroundings<'_>,
-    classes: Option<&Classes<'_>>,
-    next: &mut usize,
-) -> Result<u64, TreeFault>
-    ensures found { result ≡ children_verdict (surroundings_plain around.now classes.entry) next.old sets.SwitchCase (trees (map (switch_case_row N.plain) nodes.now)) }
-    ensures number { SameNumber (surroundings_plain around.now classes.entry) next.new (after_trees (trees (map (switch_case_row N.plain) nodes.now)) next.old) }
-{
-    let mut below = Ok(0);
-    for node in nodes {
-        let found = check_switch_case(node, around, classes, next);
-        below = higher(below, found);
-    }
-    below
-}
-
-pub fn check_binding_properties<N: CheckNode>(
-    nodes: &[BindingProperty<N>],
-    around: &Surroundings<'_>,
-    classes: Option<&Classes<'_>>,
-    next: &mut usize,
-) -> Result<u64, TreeFault>
-    ensures found { result ≡ children_verdict (surroundings_plain around.now classes.entry) next.old sets.BindingProperty (trees (map (binding_property_row N.plain) nodes.now)) }
-    ensures number { SameNumber (surroundings_plain around.now classes.entry) next.new (after_trees (trees (map (binding_property_row N.plain) nodes.now)) next.old) }
-{
-    let mut below = Ok(0);
-    for node in nodes {
-        let found = check_binding_property(node, around, classes, next);
-        below = higher(below, found);
-    }
-    below
-}
-
-pub fn check_assignment_target_properties<N: CheckNode>(
-    nodes: &[AssignmentTargetProperty<N>],
-    around: &Surroundings<'_>,
-    classes: Option<&Classes<'_>>,
-    next: &mut usize,
-) -> Result<u64, TreeFault>
-    ensures found { result ≡ children_verdict (surroundings_plain around.now classes.entry) next.old sets.AssignmentTargetProperty (trees (map (in_assignment_target_property N.plain) nodes.now)) }
-    ensures number { SameNumber (surroundings_plain around.now classes.entry) next.new (after_trees (trees (map (in_assignment_target_property N.plain) nodes.now)) next.old) }
-{
-    let mut below = Ok(0);
-    for node in nodes {
-        let found = check_assignment_target_property(node, around, classes, next);
-        below = higher(below, found);
-    }
-    below
-}
-
-pub fn check_class_elements<N: CheckNode>(
-    nodes: &[ClassElementNode<N>],
-    around: &Surroundings<'_>,
-    classes: Option<&Classes<'_>>,
-    next: &mut usize,
-) -> Result<u64, TreeFault>
-    ensures found { result ≡ children_verdict (surroundings_plain around.now classes.entry) next.old sets.ClassElement (trees (map (in_class_element N.plain) nodes.now)) }
-    ensures number { SameNumber (surroundings_plain around.now classes.entry) next.new (after_trees (trees (map (in_class_element N.plain) nodes.now)) next.old) }
-{
-    let mut below = Ok(0);
-    for node in nodes {
-        let found = check_child(node.get(), NodeSet::ClassElement, around, classes, next);
-        below = higher(below, found);
-    }
-    below
-}
-
-pub fn check_import_attributes(
-    nodes: &[ImportAttribute],
-    around: &Surroundings<'_>,
-    classes: Option<&Classes<'_>>,
-    next: &mut usize,
-) -> Result<u64, TreeFault>
-    ensures found { result ≡ children_verdict (surroundings_plain around.now classes.entry) next.old sets.ImportAttribute (trees (map import_attribute_row nodes.now)) }
-    ensures number { SameNumber (surroundings_plain around.now classes.entry) next.new (after_trees (trees (map import_attribute_row nodes.now)) next.old) }
-{
-    let mut below = Ok(0);
-    for node in nodes {
-        let found = check_import_attribute(node, around, classes, next);
-        below = higher(below, found);
-    }
-    below
-}
-
-pub fn check_export_specifiers(
-    nodes: &[ExportSpecifier],
-    around: &Surroundings<'_>,
-    classes: Option<&Classes<'_>>,
-    next: &mut usize,
-) -> Result<u64, TreeFault>
-    ensures found { result ≡ children_verdict (surroundings_plain around.now classes.entry) next.old sets.ExportSpecifier (trees (map export_specifier_row nodes.now)) }
-    ensures number { SameNumber (surroundings_plain around.now classes.entry) next.new (after_trees (trees (map export_specifier_row nodes.now)) next.old) }
-{
-    let mut below = Ok(0);
-    for node in nodes {
-        let found = check_export_specifier(node, around, classes, next);
-        below = higher(below, found);
-    }
-    below
-}
-
-pub fn check_import_declaration_specifiers(
-    nodes: &[ImportDeclarationSpecifier],
-    around: &Surroundings<'_>,
-    classes: Option<&Classes<'_>>,
-    next: &mut usize,
-) -> Result<u64, TreeFault>
-    ensures found { result ≡ children_verdict (surroundings_plain around.now classes.entry) next.old sets.ImportDeclarationSpecifier (trees (map in_import_declaration_specifier nodes.now)) }
-    ensures number { SameNumber (surroundings_plain around.now classes.entry) next.new (after_trees (trees (map in_import_declaration_specifier nodes.now)) next.old) }
-{
-    let mut below = Ok(0);
-    for node in nodes {
-        let found = check_import_declaration_specifier(node, around, classes, next);
-        below = higher(below, found);
-    }
-    below
-}
-
-pub fn check_array_expression_elements_or_holes<N: CheckNode>(
-    nodes: &[Option<ArrayExpressionElement<N>>],
-    around: &Surroundings<'_>,
-    classes: Option<&Classes<'_>>,
-    next: &mut usize,
-) -> Result<u64, TreeFault>
-    ensures found { result ≡ children_verdict (surroundings_plain around.now classes.entry) next.old sets.ArrayExpressionElement (holed (map (option_map (in_array_expression_element N.plain)) nodes.now)) }
-    ensures number { SameNumber (surroundings_plain around.now classes.entry) next.new (after_trees (holed (map (option_map (in_array_expression_element N.plain)) nodes.now)) next.old) }
-{
-    let mut below = Ok(0);
-    for node in nodes {
-        let found = check_optional_array_expression_element(node, around, classes, next);
-        below = higher(below, found);
-    }
-    below
-}
-
-pub fn check_binding_elements_or_holes<N: CheckNode>(
-    nodes: &[Option<BindingPatternNode<N>>],
-    around: &Surroundings<'_>,
-    classes: Option<&Classes<'_>>,
-    next: &mut usize,
-) -> Result<u64, TreeFault>
-    ensures found { result ≡ children_verdict (surroundings_plain around.now classes.entry) next.old sets.BindingElement (holed (map (option_map (in_binding_pattern N.plain)) nodes.now)) }
-    ensures number { SameNumber (surroundings_plain around.now classes.entry) next.new (after_trees (holed (map (option_map (in_binding_pattern N.plain)) nodes.now)) next.old) }
-{
-    let mut below = Ok(0);
-    for node in nodes {
-        let found = check_optional_binding_element(node, around, classes, next);
-        below = higher(below, found);
-    }
-    below
-}
-
-pub fn check_assignment_target_maybe_defaults_or_holes<N: CheckNode>(
-    nodes: &[Option<AssignmentTargetMaybeDefault<N>>],
-    around: &Surroundings<'_>,
-    classes: Option<&Classes<'_>>,
-    next: &mut usize,
-) -> Result<u64, TreeFault>
-    ensures found { result ≡ children_verdict (surroundings_plain around.now classes.entry) next.old sets.AssignmentTargetMaybeDefault (holed (map (option_map (in_assignment_target_maybe_default N.plain)) nodes.now)) }
-    ensures number { SameNumber (surroundings_plain around.now classes.entry) next.new (after_trees (holed (map (option_map (in_assignment_target_maybe_default N.plain)) nodes.now)) next.old) }
-{
-    let mut below = Ok(0);
-    for node in nodes {
-        let found = check_optional_assignment_target_maybe_default(node, around, classes, next);
-        below = higher(below, found);
-    }
-    below
-}
 
 pub fn check_optional_hashbang(
     node: &Option<Box<Hashbang>>,
@@ -654,21 +306,6 @@ pub fn check_optional_assignment_target_maybe_default<N: CheckNode>(
 {
     match node {
         Some(node) => check_assignment_target_maybe_default(node, around, classes, next),
-        None => Ok(0),
-    }
-}
-
-pub fn check_optional_import_declaration_specifiers(
-    nodes: &Option<Vec<ImportDeclarationSpecifier>>,
-    around: &Surroundings<'_>,
-    classes: Option<&Classes<'_>>,
-    next: &mut usize,
-) -> Result<u64, TreeFault>
-    ensures found { result ≡ maybe_children_verdict (surroundings_plain around.now classes.entry) next.old sets.ImportDeclarationSpecifier (optional_list (option_map (λ v. map in_import_declaration_specifier v.items) nodes.now)) }
-    ensures number { SameNumber (surroundings_plain around.now classes.entry) next.new (after_maybe_trees (optional_list (option_map (λ v. map in_import_declaration_specifier v.items) nodes.now)) next.old) }
-{
-    match nodes {
-        Some(nodes) => check_import_declaration_specifiers(nodes, around, classes, next),
         None => Ok(0),
     }
 }

@@ -7,9 +7,10 @@ ghost use Rattle.jsgen_check.specs.Verdict.{surroundings_plain, tree_verdict, Sa
 
 use crate::children::{
     check_optional_binding_pattern, check_optional_block_statement, check_optional_catch_clause,
-    check_optional_expression, check_statements, check_switch_cases,
+    check_optional_expression,
 };
 use crate::heights::{check_node, higher};
+use crate::lists::{check_statements, check_switch_cases};
 use crate::rules::{check_switch_statement_rules, check_try_statement_rules};
 use crate::statements::check_block_statement;
 use crate::{CheckNode, Surroundings, check_child};

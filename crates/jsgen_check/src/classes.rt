@@ -8,10 +8,10 @@ ghost use Rattle.jsgen_check.specs.Verdict.{surroundings_plain, tree_verdict, Sa
 use crate::bodies::check_class_body;
 use crate::children::{
     check_optional_binding_identifier, check_optional_expression, check_property_key,
-    check_statements,
 };
 use crate::heights::{check_node, higher};
 use crate::kinds::check_function_expression;
+use crate::lists::check_statements;
 use crate::rules::{
     check_method_definition_rules, check_private_field_expression_rules,
     check_private_identifier_rules, check_property_definition_rules,

@@ -5,10 +5,9 @@ ghost use Rattle.jsgen_tree.specs.Rows.{spread_element_row, array_expression_row
 ghost use Rattle.jsgen_model.specs.Resolved.{after};
 ghost use Rattle.jsgen_check.specs.Verdict.{surroundings_plain, tree_verdict, SameNumber};
 
-use crate::children::{
-    check_array_expression_elements_or_holes, check_object_property_kinds, check_property_key,
-};
+use crate::children::check_property_key;
 use crate::heights::{check_node, higher};
+use crate::lists::{check_array_expression_elements_or_holes, check_object_property_kinds};
 use crate::rules::check_object_property_rules;
 use crate::{CheckNode, Surroundings, check_child};
 use jsgen_model::TreeFault;

@@ -5,8 +5,9 @@ ghost use Rattle.jsgen_tree.specs.Rows.{identifier_reference_row, this_expressio
 ghost use Rattle.jsgen_model.specs.Resolved.{after};
 ghost use Rattle.jsgen_check.specs.Verdict.{surroundings_plain, tree_verdict, SameNumber};
 
-use crate::children::{check_arguments, check_chain_element};
+use crate::children::check_chain_element;
 use crate::heights::{check_node, higher};
+use crate::lists::check_arguments;
 use crate::rules::{
     check_big_int_literal_rules, check_call_expression_rules, check_chain_expression_rules,
     check_computed_member_expression_rules, check_identifier_name_rules,

@@ -6,11 +6,11 @@ ghost use Rattle.jsgen_model.specs.Resolved.{after};
 ghost use Rattle.jsgen_check.specs.Verdict.{surroundings_plain, tree_verdict, SameNumber};
 
 use crate::children::{
-    check_arrow_function_body, check_directives, check_each_formal_parameter,
-    check_optional_binding_identifier, check_optional_expression,
-    check_optional_formal_parameter_rest, check_optional_function_body, check_statements,
+    check_arrow_function_body, check_optional_binding_identifier, check_optional_expression,
+    check_optional_formal_parameter_rest, check_optional_function_body,
 };
 use crate::heights::{check_node, higher};
+use crate::lists::{check_directives, check_each_formal_parameter, check_statements};
 use crate::rules::{
     check_await_expression_rules, check_function_rules, check_yield_expression_rules,
 };

@@ -26,6 +26,7 @@ mod heads;
 mod heights;
 mod kinds;
 mod links;
+mod lists;
 mod loops;
 mod modules;
 mod operations;

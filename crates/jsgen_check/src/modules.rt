@@ -6,13 +6,14 @@ ghost use Rattle.jsgen_model.specs.Resolved.{after};
 ghost use Rattle.jsgen_check.specs.Verdict.{surroundings_plain, tree_verdict, SameNumber};
 
 use crate::children::{
-    check_export_default_declaration_kind, check_export_specifiers, check_import_attribute_key,
-    check_import_attributes, check_module_export_name,
-    check_optional_import_declaration_specifiers, check_optional_module_export_name,
-    check_optional_with_clause,
+    check_export_default_declaration_kind, check_import_attribute_key, check_module_export_name,
+    check_optional_module_export_name, check_optional_with_clause,
 };
 use crate::expressions::check_string_literal;
 use crate::heights::{check_node, higher};
+use crate::lists::{
+    check_export_specifiers, check_import_attributes, check_optional_import_declaration_specifiers,
+};
 use crate::rules::{
     check_export_from_declaration_rules, check_export_named_declaration_rules,
     check_hashbang_rules, check_import_declaration_rules,

@@ -5,8 +5,9 @@ ghost use Rattle.jsgen_tree.specs.Rows.{unary_expression_row, new_target_row, up
 ghost use Rattle.jsgen_model.specs.Resolved.{after};
 ghost use Rattle.jsgen_check.specs.Verdict.{surroundings_plain, tree_verdict, SameNumber};
 
-use crate::children::{check_arguments, check_simple_assignment_target};
+use crate::children::check_simple_assignment_target;
 use crate::heights::{check_node, higher};
+use crate::lists::check_arguments;
 use crate::rules::check_update_expression_rules;
 use crate::{CheckNode, Surroundings, check_child};
 use jsgen_model::TreeFault;

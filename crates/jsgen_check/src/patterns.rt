@@ -5,11 +5,9 @@ ghost use Rattle.jsgen_tree.specs.Rows.{object_pattern_row, binding_property_row
 ghost use Rattle.jsgen_model.specs.Resolved.{after};
 ghost use Rattle.jsgen_check.specs.Verdict.{surroundings_plain, tree_verdict, SameNumber};
 
-use crate::children::{
-    check_binding_elements_or_holes, check_binding_properties, check_optional_binding_rest_element,
-    check_property_key,
-};
+use crate::children::{check_optional_binding_rest_element, check_property_key};
 use crate::heights::{check_node, higher};
+use crate::lists::{check_binding_elements_or_holes, check_binding_properties};
 use crate::rules::{check_binding_property_rules, check_object_pattern_rules};
 use crate::{CheckNode, Surroundings, check_child};
 use jsgen_model::TreeFault;

@@ -7,10 +7,9 @@ ghost use Rattle.jsgen_model.specs.Valid.{breaches, program_faults, Judges};
 ghost use Rattle.jsgen_rules.specs.Verdict.{verdict};
 ghost use Rattle.jsgen_check.specs.Verdict.{surroundings_plain, told_in};
 
-use crate::children::{
-    check_comments, check_directives, check_module_items, check_optional_hashbang,
-};
+use crate::children::check_optional_hashbang;
 use crate::heights::{check_program_parts, higher};
+use crate::lists::{check_comments, check_directives, check_module_items};
 use crate::{CheckNode, Surroundings};
 use jsgen_model::TreeFault;
 use jsgen_rules::{check_licence_path, check_source};

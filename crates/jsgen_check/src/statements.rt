@@ -5,11 +5,9 @@ ghost use Rattle.jsgen_tree.specs.Rows.{comment_row, directive_row, variable_dec
 ghost use Rattle.jsgen_model.specs.Resolved.{after};
 ghost use Rattle.jsgen_check.specs.Verdict.{surroundings_plain, tree_verdict, SameNumber};
 
-use crate::children::{
-    check_optional_expression, check_optional_statement, check_statements,
-    check_variable_declarators,
-};
+use crate::children::{check_optional_expression, check_optional_statement};
 use crate::heights::{check_node, higher};
+use crate::lists::{check_statements, check_variable_declarators};
 use crate::rules::{
     check_binding_identifier_rules, check_comment_rules, check_directive_rules,
     check_if_statement_rules, check_variable_declaration_rules,

@@ -6,12 +6,14 @@ ghost use Rattle.jsgen_model.specs.Resolved.{after};
 ghost use Rattle.jsgen_check.specs.Verdict.{surroundings_plain, tree_verdict, SameNumber};
 
 use crate::children::{
-    check_assignment_target_maybe_default, check_assignment_target_maybe_defaults_or_holes,
-    check_assignment_target_properties, check_optional_assignment_target_rest,
+    check_assignment_target_maybe_default, check_optional_assignment_target_rest,
     check_optional_expression, check_property_key,
 };
 use crate::expressions::check_identifier_reference;
 use crate::heights::{check_node, higher};
+use crate::lists::{
+    check_assignment_target_maybe_defaults_or_holes, check_assignment_target_properties,
+};
 use crate::rules::{
     check_assignment_target_property_identifier_rules,
     check_assignment_target_property_property_rules, check_assignment_target_rest_rules,

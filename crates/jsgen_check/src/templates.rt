@@ -5,8 +5,9 @@ ghost use Rattle.jsgen_tree.specs.Rows.{template_element_row, template_literal_r
 ghost use Rattle.jsgen_model.specs.Resolved.{after};
 ghost use Rattle.jsgen_check.specs.Verdict.{surroundings_plain, tree_verdict, SameNumber};
 
-use crate::children::{check_expressions, check_optional_expression, check_template_elements};
+use crate::children::check_optional_expression;
 use crate::heights::{check_node, higher};
+use crate::lists::{check_expressions, check_template_elements};
 use crate::rules::{check_template_element_rules, check_template_literal_rules};
 use crate::{CheckNode, Surroundings, check_child};
 use jsgen_model::TreeFault;

@@ -61,17 +61,16 @@ def write(table):
     optional += [k for k in holed if k not in optional]
     listed = kinds_of(table, "*?")
     lists += [k for k in listed if k not in lists]
-    parts = [of_list(table, k) for k in lists] + [of_holed_list(table, k) for k in holed] + [of_optional(table, k) for k in optional]
-    parts += [of_list_if_given(table, k) for k in listed]
-    parts += [of_inner_set(table, s) for s in inner]
-    about = "Lists, children that may be absent, and sets that don't nest."
-    files[f"{CHECK}/src/children.rt"] = rust(table, about, "\n\n".join(parts))
+    of_lists = [of_list(table, k) for k in lists] + [of_holed_list(table, k) for k in holed] + [of_list_if_given(table, k) for k in listed]
+    files[f"{CHECK}/src/lists.rt"] = rust(table, "Lists of children.", "\n\n".join(of_lists))
+    single = [of_optional(table, k) for k in optional] + [of_inner_set(table, s) for s in inner]
+    files[f"{CHECK}/src/children.rt"] = rust(table, "Children that may be absent, and sets that don't nest.", "\n\n".join(single))
     for k in lists:
-        files[f"{CHECK}/proofs/children/{check_all(k)}/Invariants.antt"] = invariant(table, k)
-        files[f"{CHECK}/proofs/children/{check_all(k)}/Answers.antt"] = list_answers(table, k)
+        files[f"{CHECK}/proofs/lists/{check_all(k)}/Invariants.antt"] = invariant(table, k)
+        files[f"{CHECK}/proofs/lists/{check_all(k)}/Answers.antt"] = list_answers(table, k)
     for k in holed:
-        files[f"{CHECK}/proofs/children/{check_all_or_holes(k)}/Invariants.antt"] = holed_invariant(table, k)
-        files[f"{CHECK}/proofs/children/{check_all_or_holes(k)}/Answers.antt"] = holed_answers(table, k)
+        files[f"{CHECK}/proofs/lists/{check_all_or_holes(k)}/Invariants.antt"] = holed_invariant(table, k)
+        files[f"{CHECK}/proofs/lists/{check_all_or_holes(k)}/Answers.antt"] = holed_answers(table, k)
     for k in optional:
         if k in table.nodes:
             files[f"{CHECK}/proofs/children/{check_optional(k)}/Answers.antt"] = optional_answers(table, k)
@@ -91,10 +90,10 @@ def rust(table, about, body):
     tree = list(table.nodes) + list(table.sets) + [s.name + "Node" for s in table.nesting()] + ["NodeSet"]
     checks = {f"crate::{f}": [check(n.name) for n in table.nodes.values() if n.file == f and n.name not in BY_HAND] for f in table.files}
     checks["crate::bodies"] = [check("ClassBody")]
-    checks["crate::children"] = [check_all(k) for k in kinds_of(table, "*")]
-    checks["crate::children"] += [check_all_or_holes(k) for k in kinds_of(table, "?*")]
-    checks["crate::children"] += [check_optional(k) for k in kinds_of(table, "?")]
-    checks["crate::children"] += [check_if_given(k) for k in kinds_of(table, "*?")]
+    checks["crate::lists"] = [check_all(k) for k in kinds_of(table, "*")]
+    checks["crate::lists"] += [check_all_or_holes(k) for k in kinds_of(table, "?*")]
+    checks["crate::lists"] += [check_if_given(k) for k in kinds_of(table, "*?")]
+    checks["crate::children"] = [check_optional(k) for k in dict.fromkeys(kinds_of(table, "?") + kinds_of(table, "?*"))]
     checks["crate::children"] += [check(s.name) for s in table.sets.values() if not s.nests]
     checks["crate::rules"] = [rules(n) for n in table.nodes.values() if n.rules]
     here = [(m, [n for n in ns if f"fn {n}(" not in body and f"fn {n}<" not in body]) for m, ns in checks.items()]
@@ -333,7 +332,7 @@ abbrev pub invariant-loop-node : goal.invariant-loop-node
 invariant-loop-node {"g " if generic else ""}l = Left (surroundings_plain l.around l.classes) sets.{kind} {row} l.nodes l.fn.next l.below l.next l.node-index"""
     homes = row_names(table) + [(VERDICT, ["surroundings_plain"]), (f"{PROOFS}.Steps", ["Left"])]
     aliases = [(f"{SPECS}.declared.types.NodeSet.TheVariants", "sets"),
-               (f"{PROOFS}.children.{check_all(kind)}.Given", "goal")]
+               (f"{PROOFS}.lists.{check_all(kind)}.Given", "goal")]
     return layout.antt("What holds in the loop.", homes, aliases, body)
 
 
@@ -365,7 +364,7 @@ returns {g}c =
     homes = [("Rattle.std.proofs.Common", ["◌≡◌", "refl", "sym", "◌∙◌"])] + row_names(table)
     homes += [(VERDICT, ["surroundings_plain"]), (f"{PROOFS}.Verdicts", ["of_right_set"]), (f"{PROOFS}.Steps", STEPS)]
     aliases = [(f"{SPECS}.declared.types.NodeSet.TheVariants", "sets"),
-               (f"{PROOFS}.children.{check_all(kind)}.Goals", "goal")]
+               (f"{PROOFS}.lists.{check_all(kind)}.Goals", "goal")]
     return layout.antt("The loop, turn by turn.", homes, aliases, body)
 
 
@@ -377,7 +376,7 @@ abbrev pub invariant-loop-node : goal.invariant-loop-node
 invariant-loop-node {"g " if generic else ""}l = LeftOrHoles (surroundings_plain l.around l.classes) sets.{kind} {row} l.nodes l.fn.next l.below l.next l.node-index"""
     homes = row_names(table) + [(VERDICT, ["surroundings_plain"]), (f"{PROOFS}.Steps", ["LeftOrHoles"])]
     aliases = [(f"{SPECS}.declared.types.NodeSet.TheVariants", "sets"),
-               (f"{PROOFS}.children.{check_all_or_holes(kind)}.Given", "goal")]
+               (f"{PROOFS}.lists.{check_all_or_holes(kind)}.Given", "goal")]
     return layout.antt("What holds in the loop.", homes, aliases, body)
 
 
@@ -400,7 +399,7 @@ returns {g}c =
     record {{ found = all.0; number = all.1 }}"""
     homes = row_names(table) + [(VERDICT, ["surroundings_plain"]), (f"{PROOFS}.Steps", STEPS)]
     aliases = [(f"{SPECS}.declared.types.NodeSet.TheVariants", "sets"),
-               (f"{PROOFS}.children.{check_all_or_holes(kind)}.Goals", "goal")]
+               (f"{PROOFS}.lists.{check_all_or_holes(kind)}.Goals", "goal")]
     return layout.antt("The loop, turn by turn.", homes, aliases, body)
 
 
