@@ -21,11 +21,16 @@ def used(body, homes):
 MOST_GROUPED = 100  # where a file uses more names, `rt fmt` gives each a line of its own
 
 
+def ordered(names):
+    """Names as `rt fmt` has them: an underline comes before all letters."""
+    return sorted(names, key=lambda name: name.replace("_", " "))
+
+
 def use_lines(homes, word="use"):
     """The lines that bring these names of each module into a file of Rattle."""
     if sum(len(names) for _, names in homes) > MOST_GROUPED:
-        return [f"{word} {module}::{name};" for module, names in homes for name in sorted(names)]
-    lines = [f"{word} {module}::{{{', '.join(sorted(names))}}};" for module, names in homes]
+        return [f"{word} {module}::{name};" for module, names in homes for name in ordered(names)]
+    lines = [f"{word} {module}::{{{', '.join(ordered(names))}}};" for module, names in homes]
     return [re.sub(r"\{(\w+)\}", r"\1", line) for line in lines]
 
 

@@ -2,6 +2,7 @@
 
 import re
 from dataclasses import dataclass, field
+from functools import cache
 from pathlib import Path
 
 SPELLED = "jsgen_spelled"  # where rows with a spelling are printed, if the table says nothing else of their file
@@ -12,6 +13,7 @@ PROMISES = ("core", "unpromised")
 VALUES = {"text": "String", "units": "JsStr", "digits": "u128", "number": "u32", "flag": "bool"}
 
 
+@cache
 def snake(name):
     return re.sub(r"(?<=[a-z0-9])(?=[A-Z])", "_", name).lower()
 
@@ -22,7 +24,7 @@ def spoken(name):
     return ("an " if words[0] in "aeiou" else "a ") + words
 
 
-@dataclass
+@dataclass(eq=False)
 class Field:
     name: str
     rust: str
@@ -48,7 +50,7 @@ class Field:
         return self.needed or self.many == "" and self.kind != "flag" and self.default is None
 
 
-@dataclass
+@dataclass(eq=False)
 class Node:
     name: str
     section: str
@@ -73,7 +75,7 @@ class Node:
         return [g for f in self.fields for g in (f.parts or [f])]
 
 
-@dataclass
+@dataclass(eq=False)
 class Words:
     name: str
     short: str
@@ -88,7 +90,7 @@ class Words:
         return self.short + "s"
 
 
-@dataclass
+@dataclass(eq=False)
 class Set:
     name: str
     nests: bool
@@ -191,7 +193,7 @@ class Table:
                 if m not in self.nodes and not (m in self.sets and self.sets[m].nests):
                     raise SystemExit(f"set {s.name}: {m} is neither a type nor a set that nests")
 
-    # ---- what follows
+    # ---- what follows; each answer is kept, and nobody may change it
 
     def is_child(self, f):
         return f.kind in self.sets or f.kind in self.nodes
@@ -199,16 +201,20 @@ class Table:
     def is_value(self, f):
         return f.kind in VALUES or f.kind in self.words
 
+    @cache
     def values(self, node):
         """The fields of the format that hold a value of the node, read or not, in their order."""
         return [f for f in node.in_format() if self.is_value(f)]
 
+    @cache
     def children(self, node):
         return [f for f in node.in_rust() if self.is_child(f)]
 
+    @cache
     def nesting(self):
         return [s for s in self.sets.values() if s.nests]
 
+    @cache
     def generic(self, name):
         """Whether the type or set has the parameter N: whether anything in it nests."""
         if name in self.sets:
@@ -216,12 +222,14 @@ class Table:
         kinds = [f.kind for f in self.children(self.nodes[name])]
         return any(self.sets[k].nests if k in self.sets and self.sets[k].nests else self.generic(k) for k in kinds)
 
+    @cache
     def types_in(self, name):
         """The types in a set, those of the sets in it among them; of a type, itself."""
         if name in self.nodes:
             return [name]
         return list(dict.fromkeys(t for m in self.sets[name].members for t in self.types_in(m)))
 
+    @cache
     def child_sets(self):
         """The sets and types that children are of, in the order of their first use."""
         return list(dict.fromkeys(f.kind for n in self.nodes.values() for f in self.children(n)))

@@ -1,7 +1,7 @@
 // Generated from tools/nodes/table.txt; edit that and run tools/nodes/generate.
 // Rows of a job: classes and private names (ECMA-262, 15.7).
 ghost use Rattle.std.specs.Prelude.{◌≡◌, true};
-ghost use Rattle.serde_json.specs.View.{view};
+ghost use Rattle.jsgen_fields.specs.Given.{row_data};
 ghost use Rattle.jsgen_tree.specs.RowFields.{private_identifier_fields, private_field_expression_fields, private_in_expression_fields, class_fields, class_body_fields, static_block_fields, method_definition_fields, property_definition_fields};
 ghost use Rattle.jsgen_fields.specs.Reads.{Gives, read_node, read_typed};
 ghost use Rattle.jsgen_pool.specs.Pool.{entries};
@@ -10,6 +10,7 @@ ghost use Rattle.jsgen_tree.specs.declared.types.NodeType.TheVariants as types;
 
 use jsgen_fields::InputFault;
 use jsgen_fields::fields::boxed;
+use jsgen_fields::given::GivenRow;
 use jsgen_fields::list_fields::{class_element_list, statement_list};
 use jsgen_fields::set_fields::{
     needed_class_body, needed_expression, needed_function, needed_private_identifier,
@@ -32,7 +33,6 @@ use jsgen_tree::{
     PrivateFieldExpression, PrivateIdentifier, PrivateInExpression, PropertyDefinition,
     StaticBlock,
 };
-use serde_json::Value;
 use std::alloc::Global;
 
 #[tactic(auto, unfolding(jsgen_fields::specs::Reads::read_node))]
@@ -41,10 +41,10 @@ fn read_private_identifier<N: HasType + Drop, R: RowOf<N> + Drop>(
     kept: &mut Vec<Kept<R>>,
     number: usize,
     span: Span,
-    row: &Value,
+    row: &GivenRow<'_>,
 ) -> Result<R, InputFault>
     ensures { Gives R.plain result (entries R.plain kept.new.items)
-        (read_node number types.PrivateIdentifier private_identifier_fields span (view row.now) (entries R.plain kept.old.items)) }
+        (read_node number types.PrivateIdentifier private_identifier_fields span (row_data row.now) (entries R.plain kept.old.items)) }
 {
     let _ = kept;
     let name = match needed_text(alloc, number, 2, row, "name") {
@@ -64,10 +64,10 @@ fn read_private_field_expression<N: HoldsExpression + Drop, R: RowOf<N> + Drop>(
     kept: &mut Vec<Kept<R>>,
     number: usize,
     span: Span,
-    row: &Value,
+    row: &GivenRow<'_>,
 ) -> Result<R, InputFault>
     ensures { Gives R.plain result (entries R.plain kept.new.items)
-        (read_node number types.PrivateFieldExpression private_field_expression_fields span (view row.now) (entries R.plain kept.old.items)) }
+        (read_node number types.PrivateFieldExpression private_field_expression_fields span (row_data row.now) (entries R.plain kept.old.items)) }
 {
     let object = match needed_expression::<N, R>(alloc, kept, number, 2, row, "object") {
         Ok(object) => object,
@@ -99,10 +99,10 @@ fn read_private_in_expression<N: HoldsExpression + Drop, R: RowOf<N> + Drop>(
     kept: &mut Vec<Kept<R>>,
     number: usize,
     span: Span,
-    row: &Value,
+    row: &GivenRow<'_>,
 ) -> Result<R, InputFault>
     ensures { Gives R.plain result (entries R.plain kept.new.items)
-        (read_node number types.PrivateInExpression private_in_expression_fields span (view row.now) (entries R.plain kept.old.items)) }
+        (read_node number types.PrivateInExpression private_in_expression_fields span (row_data row.now) (entries R.plain kept.old.items)) }
 {
     let left = match needed_private_identifier::<N, R>(alloc, kept, number, 2, row, "left") {
         Ok(left) => left,
@@ -130,10 +130,10 @@ fn read_class<N: HoldsExpression + Drop, R: RowOf<N> + Drop>(
     kept: &mut Vec<Kept<R>>,
     number: usize,
     span: Span,
-    row: &Value,
+    row: &GivenRow<'_>,
 ) -> Result<R, InputFault>
     ensures { Gives R.plain result (entries R.plain kept.new.items)
-        (read_node number types.Class class_fields span (view row.now) (entries R.plain kept.old.items)) }
+        (read_node number types.Class class_fields span (row_data row.now) (entries R.plain kept.old.items)) }
 {
     let kind = match needed_class_form(number, 2, row, "kind") {
         Ok(kind) => kind,
@@ -186,10 +186,10 @@ fn read_class_body<N: HoldsClassElement + Drop, R: RowOf<N> + Drop>(
     kept: &mut Vec<Kept<R>>,
     number: usize,
     span: Span,
-    row: &Value,
+    row: &GivenRow<'_>,
 ) -> Result<R, InputFault>
     ensures { Gives R.plain result (entries R.plain kept.new.items)
-        (read_node number types.ClassBody class_body_fields span (view row.now) (entries R.plain kept.old.items)) }
+        (read_node number types.ClassBody class_body_fields span (row_data row.now) (entries R.plain kept.old.items)) }
 {
     let body = match class_element_list::<N, R>(alloc, kept, number, 2, row, "body") {
         Ok(body) => body,
@@ -208,10 +208,10 @@ fn read_static_block<N: HoldsDeclaration + HoldsStatement + Drop, R: RowOf<N> + 
     kept: &mut Vec<Kept<R>>,
     number: usize,
     span: Span,
-    row: &Value,
+    row: &GivenRow<'_>,
 ) -> Result<R, InputFault>
     ensures { Gives R.plain result (entries R.plain kept.new.items)
-        (read_node number types.StaticBlock static_block_fields span (view row.now) (entries R.plain kept.old.items)) }
+        (read_node number types.StaticBlock static_block_fields span (row_data row.now) (entries R.plain kept.old.items)) }
 {
     let body = match statement_list::<N, R>(alloc, kept, number, 2, row, "body") {
         Ok(body) => body,
@@ -230,10 +230,10 @@ fn read_method_definition<N: HoldsExpression + Drop, R: RowOf<N> + Drop>(
     kept: &mut Vec<Kept<R>>,
     number: usize,
     span: Span,
-    row: &Value,
+    row: &GivenRow<'_>,
 ) -> Result<R, InputFault>
     ensures { Gives R.plain result (entries R.plain kept.new.items)
-        (read_node number types.MethodDefinition method_definition_fields span (view row.now) (entries R.plain kept.old.items)) }
+        (read_node number types.MethodDefinition method_definition_fields span (row_data row.now) (entries R.plain kept.old.items)) }
 {
     match field_not_given(number, 2, row, "decorators") {
         Ok(()) => {}
@@ -291,10 +291,10 @@ fn read_property_definition<N: HoldsExpression + Drop, R: RowOf<N> + Drop>(
     kept: &mut Vec<Kept<R>>,
     number: usize,
     span: Span,
-    row: &Value,
+    row: &GivenRow<'_>,
 ) -> Result<R, InputFault>
     ensures { Gives R.plain result (entries R.plain kept.new.items)
-        (read_node number types.PropertyDefinition property_definition_fields span (view row.now) (entries R.plain kept.old.items)) }
+        (read_node number types.PropertyDefinition property_definition_fields span (row_data row.now) (entries R.plain kept.old.items)) }
 {
     match field_not_given(number, 2, row, "decorators") {
         Ok(()) => {}
@@ -356,11 +356,11 @@ pub fn read_in_classes<N: ReadNode + Drop, R: RowOf<N> + Drop>(
     node_type: NodeType,
     number: usize,
     span: Span,
-    row: &Value,
+    row: &GivenRow<'_>,
 ) -> Result<R, InputFault>
     requires { is_in_classes node_type ≡ true }
     ensures { Gives R.plain result (entries R.plain kept.new.items)
-        (read_typed number node_type span (view row.now) (entries R.plain kept.old.items)) }
+        (read_typed number node_type span (row_data row.now) (entries R.plain kept.old.items)) }
 {
     match node_type {
         NodeType::PrivateIdentifier => read_private_identifier::<N, R>(

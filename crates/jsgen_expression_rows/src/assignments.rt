@@ -1,7 +1,7 @@
 // Generated from tools/nodes/table.txt; edit that and run tools/nodes/generate.
 // Rows of a job: conditional expressions, sequences and assignments (ECMA-262, 13.14 to 13.16).
 ghost use Rattle.std.specs.Prelude.{◌≡◌, true};
-ghost use Rattle.serde_json.specs.View.{view};
+ghost use Rattle.jsgen_fields.specs.Given.{row_data};
 ghost use Rattle.jsgen_tree.specs.RowFields.{conditional_expression_fields, sequence_expression_fields, assignment_expression_fields};
 ghost use Rattle.jsgen_fields.specs.Reads.{Gives, read_node, read_typed};
 ghost use Rattle.jsgen_pool.specs.Pool.{entries};
@@ -10,6 +10,7 @@ ghost use Rattle.jsgen_tree.specs.declared.types.NodeType.TheVariants as types;
 
 use jsgen_fields::InputFault;
 use jsgen_fields::fields::boxed;
+use jsgen_fields::given::GivenRow;
 use jsgen_fields::list_fields::expression_list;
 use jsgen_fields::set_fields::{needed_assignment_target, needed_expression};
 use jsgen_fields::set_rows::row_of_expression;
@@ -21,7 +22,6 @@ use jsgen_syntax::Span;
 use jsgen_tree::{
     AssignmentExpression, ConditionalExpression, Expression, NodeType, SequenceExpression,
 };
-use serde_json::Value;
 use std::alloc::Global;
 
 #[tactic(auto, unfolding(jsgen_fields::specs::Reads::read_node))]
@@ -30,10 +30,10 @@ fn read_conditional_expression<N: HoldsExpression + Drop, R: RowOf<N> + Drop>(
     kept: &mut Vec<Kept<R>>,
     number: usize,
     span: Span,
-    row: &Value,
+    row: &GivenRow<'_>,
 ) -> Result<R, InputFault>
     ensures { Gives R.plain result (entries R.plain kept.new.items)
-        (read_node number types.ConditionalExpression conditional_expression_fields span (view row.now) (entries R.plain kept.old.items)) }
+        (read_node number types.ConditionalExpression conditional_expression_fields span (row_data row.now) (entries R.plain kept.old.items)) }
 {
     let test = match needed_expression::<N, R>(alloc, kept, number, 2, row, "test") {
         Ok(test) => test,
@@ -70,10 +70,10 @@ fn read_sequence_expression<N: HoldsExpression + Drop, R: RowOf<N> + Drop>(
     kept: &mut Vec<Kept<R>>,
     number: usize,
     span: Span,
-    row: &Value,
+    row: &GivenRow<'_>,
 ) -> Result<R, InputFault>
     ensures { Gives R.plain result (entries R.plain kept.new.items)
-        (read_node number types.SequenceExpression sequence_expression_fields span (view row.now) (entries R.plain kept.old.items)) }
+        (read_node number types.SequenceExpression sequence_expression_fields span (row_data row.now) (entries R.plain kept.old.items)) }
 {
     let expressions = match expression_list::<N, R>(alloc, kept, number, 2, row, "expressions") {
         Ok(expressions) => expressions,
@@ -100,10 +100,10 @@ fn read_assignment_expression<
     kept: &mut Vec<Kept<R>>,
     number: usize,
     span: Span,
-    row: &Value,
+    row: &GivenRow<'_>,
 ) -> Result<R, InputFault>
     ensures { Gives R.plain result (entries R.plain kept.new.items)
-        (read_node number types.AssignmentExpression assignment_expression_fields span (view row.now) (entries R.plain kept.old.items)) }
+        (read_node number types.AssignmentExpression assignment_expression_fields span (row_data row.now) (entries R.plain kept.old.items)) }
 {
     let operator = match needed_assignment_operator(number, 2, row, "operator") {
         Ok(operator) => operator,
@@ -141,11 +141,11 @@ pub fn read_in_assignments<N: ReadNode + Drop, R: RowOf<N> + Drop>(
     node_type: NodeType,
     number: usize,
     span: Span,
-    row: &Value,
+    row: &GivenRow<'_>,
 ) -> Result<R, InputFault>
     requires { is_in_assignments node_type ≡ true }
     ensures { Gives R.plain result (entries R.plain kept.new.items)
-        (read_typed number node_type span (view row.now) (entries R.plain kept.old.items)) }
+        (read_typed number node_type span (row_data row.now) (entries R.plain kept.old.items)) }
 {
     match node_type {
         NodeType::ConditionalExpression => read_conditional_expression::<N, R>(

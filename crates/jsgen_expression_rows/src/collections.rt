@@ -1,7 +1,7 @@
 // Generated from tools/nodes/table.txt; edit that and run tools/nodes/generate.
 // Rows of a job: arrays and objects (ECMA-262, 13.2.4 and 13.2.5), and what is spread in them and in arguments.
 ghost use Rattle.std.specs.Prelude.{◌≡◌, true};
-ghost use Rattle.serde_json.specs.View.{view};
+ghost use Rattle.jsgen_fields.specs.Given.{row_data};
 ghost use Rattle.jsgen_tree.specs.RowFields.{spread_element_fields, array_expression_fields, object_property_fields, object_expression_fields};
 ghost use Rattle.jsgen_fields.specs.Reads.{Gives, read_node, read_typed};
 ghost use Rattle.jsgen_pool.specs.Pool.{entries};
@@ -10,6 +10,7 @@ ghost use Rattle.jsgen_tree.specs.declared.types.NodeType.TheVariants as types;
 
 use jsgen_fields::InputFault;
 use jsgen_fields::fields::boxed;
+use jsgen_fields::given::GivenRow;
 use jsgen_fields::list_fields::{array_expression_element_or_hole_list, object_property_kind_list};
 use jsgen_fields::set_fields::{needed_expression, needed_property_key};
 use jsgen_fields::set_rows::row_of_expression;
@@ -23,7 +24,6 @@ use jsgen_syntax::Span;
 use jsgen_tree::{
     ArrayExpression, Expression, HasType, NodeType, ObjectExpression, ObjectProperty, SpreadElement,
 };
-use serde_json::Value;
 use std::alloc::Global;
 
 #[tactic(auto, unfolding(jsgen_fields::specs::Reads::read_node))]
@@ -32,10 +32,10 @@ fn read_spread_element<N: HoldsExpression + Drop, R: RowOf<N> + Drop>(
     kept: &mut Vec<Kept<R>>,
     number: usize,
     span: Span,
-    row: &Value,
+    row: &GivenRow<'_>,
 ) -> Result<R, InputFault>
     ensures { Gives R.plain result (entries R.plain kept.new.items)
-        (read_node number types.SpreadElement spread_element_fields span (view row.now) (entries R.plain kept.old.items)) }
+        (read_node number types.SpreadElement spread_element_fields span (row_data row.now) (entries R.plain kept.old.items)) }
 {
     let argument = match needed_expression::<N, R>(alloc, kept, number, 2, row, "argument") {
         Ok(argument) => argument,
@@ -54,10 +54,10 @@ fn read_array_expression<N: HoldsExpression + Drop, R: RowOf<N> + Drop>(
     kept: &mut Vec<Kept<R>>,
     number: usize,
     span: Span,
-    row: &Value,
+    row: &GivenRow<'_>,
 ) -> Result<R, InputFault>
     ensures { Gives R.plain result (entries R.plain kept.new.items)
-        (read_node number types.ArrayExpression array_expression_fields span (view row.now) (entries R.plain kept.old.items)) }
+        (read_node number types.ArrayExpression array_expression_fields span (row_data row.now) (entries R.plain kept.old.items)) }
 {
     let elements = match array_expression_element_or_hole_list::<N, R>(
         alloc, kept, number, 2, row, "elements",
@@ -83,10 +83,10 @@ fn read_object_property<N: HoldsExpression + Drop, R: RowOf<N> + Drop>(
     kept: &mut Vec<Kept<R>>,
     number: usize,
     span: Span,
-    row: &Value,
+    row: &GivenRow<'_>,
 ) -> Result<R, InputFault>
     ensures { Gives R.plain result (entries R.plain kept.new.items)
-        (read_node number types.ObjectProperty object_property_fields span (view row.now) (entries R.plain kept.old.items)) }
+        (read_node number types.ObjectProperty object_property_fields span (row_data row.now) (entries R.plain kept.old.items)) }
 {
     let kind = match needed_property_kind(number, 2, row, "kind") {
         Ok(kind) => kind,
@@ -133,10 +133,10 @@ fn read_object_expression<N: HasType + Drop, R: RowOf<N> + Drop>(
     kept: &mut Vec<Kept<R>>,
     number: usize,
     span: Span,
-    row: &Value,
+    row: &GivenRow<'_>,
 ) -> Result<R, InputFault>
     ensures { Gives R.plain result (entries R.plain kept.new.items)
-        (read_node number types.ObjectExpression object_expression_fields span (view row.now) (entries R.plain kept.old.items)) }
+        (read_node number types.ObjectExpression object_expression_fields span (row_data row.now) (entries R.plain kept.old.items)) }
 {
     let properties = match object_property_kind_list::<N, R>(
         alloc,
@@ -168,11 +168,11 @@ pub fn read_in_collections<N: ReadNode + Drop, R: RowOf<N> + Drop>(
     node_type: NodeType,
     number: usize,
     span: Span,
-    row: &Value,
+    row: &GivenRow<'_>,
 ) -> Result<R, InputFault>
     requires { is_in_collections node_type ≡ true }
     ensures { Gives R.plain result (entries R.plain kept.new.items)
-        (read_typed number node_type span (view row.now) (entries R.plain kept.old.items)) }
+        (read_typed number node_type span (row_data row.now) (entries R.plain kept.old.items)) }
 {
     match node_type {
         NodeType::SpreadElement => read_spread_element::<N, R>(alloc, kept, number, span, row),

@@ -1,7 +1,7 @@
 // Generated from tools/nodes/table.txt; edit that and run tools/nodes/generate.
 // Rows of a job: expressions (ECMA-262, clause 13).
 ghost use Rattle.std.specs.Prelude.{◌≡◌, true};
-ghost use Rattle.serde_json.specs.View.{view};
+ghost use Rattle.jsgen_fields.specs.Given.{row_data};
 ghost use Rattle.jsgen_tree.specs.RowFields.{identifier_reference_fields, this_expression_fields, null_literal_fields, boolean_literal_fields, big_int_literal_fields, string_literal_fields, reg_exp_literal_fields, parenthesized_expression_fields, binary_expression_fields, logical_expression_fields, identifier_name_fields, static_member_expression_fields, computed_member_expression_fields, call_expression_fields, chain_expression_fields};
 ghost use Rattle.jsgen_fields.specs.Reads.{Gives, read_node, read_typed};
 ghost use Rattle.jsgen_pool.specs.Pool.{entries};
@@ -11,6 +11,7 @@ ghost use Rattle.jsgen_tree.specs.declared.types.NodeType.TheVariants as types;
 use crate::literals::read_numeric_literal;
 use jsgen_fields::InputFault;
 use jsgen_fields::fields::boxed;
+use jsgen_fields::given::GivenRow;
 use jsgen_fields::list_fields::argument_list;
 use jsgen_fields::set_fields::{needed_chain_element, needed_expression, needed_identifier_name};
 use jsgen_fields::set_rows::row_of_expression;
@@ -33,7 +34,6 @@ use jsgen_tree::{
     LogicalExpression, NodeType, NullLiteral, ParenthesizedExpression, RegExpLiteral,
     StaticMemberExpression, StringLiteral, ThisExpression,
 };
-use serde_json::Value;
 use std::alloc::Global;
 
 #[tactic(auto, unfolding(jsgen_fields::specs::Reads::read_node))]
@@ -42,10 +42,10 @@ fn read_identifier_reference<N: HasType + Drop, R: RowOf<N> + Drop>(
     kept: &mut Vec<Kept<R>>,
     number: usize,
     span: Span,
-    row: &Value,
+    row: &GivenRow<'_>,
 ) -> Result<R, InputFault>
     ensures { Gives R.plain result (entries R.plain kept.new.items)
-        (read_node number types.IdentifierReference identifier_reference_fields span (view row.now) (entries R.plain kept.old.items)) }
+        (read_node number types.IdentifierReference identifier_reference_fields span (row_data row.now) (entries R.plain kept.old.items)) }
 {
     let _ = kept;
     let name = match needed_text(alloc, number, 2, row, "name") {
@@ -73,10 +73,10 @@ fn read_this_expression<N: HasType + Drop, R: RowOf<N> + Drop>(
     kept: &mut Vec<Kept<R>>,
     number: usize,
     span: Span,
-    row: &Value,
+    row: &GivenRow<'_>,
 ) -> Result<R, InputFault>
     ensures { Gives R.plain result (entries R.plain kept.new.items)
-        (read_node number types.ThisExpression this_expression_fields span (view row.now) (entries R.plain kept.old.items)) }
+        (read_node number types.ThisExpression this_expression_fields span (row_data row.now) (entries R.plain kept.old.items)) }
 {
     let _ = kept;
     let _ = number;
@@ -99,10 +99,10 @@ fn read_null_literal<N: HasType + Drop, R: RowOf<N> + Drop>(
     kept: &mut Vec<Kept<R>>,
     number: usize,
     span: Span,
-    row: &Value,
+    row: &GivenRow<'_>,
 ) -> Result<R, InputFault>
     ensures { Gives R.plain result (entries R.plain kept.new.items)
-        (read_node number types.NullLiteral null_literal_fields span (view row.now) (entries R.plain kept.old.items)) }
+        (read_node number types.NullLiteral null_literal_fields span (row_data row.now) (entries R.plain kept.old.items)) }
 {
     let _ = kept;
     let _ = number;
@@ -125,10 +125,10 @@ fn read_boolean_literal<N: HasType + Drop, R: RowOf<N> + Drop>(
     kept: &mut Vec<Kept<R>>,
     number: usize,
     span: Span,
-    row: &Value,
+    row: &GivenRow<'_>,
 ) -> Result<R, InputFault>
     ensures { Gives R.plain result (entries R.plain kept.new.items)
-        (read_node number types.BooleanLiteral boolean_literal_fields span (view row.now) (entries R.plain kept.old.items)) }
+        (read_node number types.BooleanLiteral boolean_literal_fields span (row_data row.now) (entries R.plain kept.old.items)) }
 {
     let _ = kept;
     let value = match needed_flag(number, 2, row, "value") {
@@ -153,10 +153,10 @@ fn read_big_int_literal<N: HasType + Drop, R: RowOf<N> + Drop>(
     kept: &mut Vec<Kept<R>>,
     number: usize,
     span: Span,
-    row: &Value,
+    row: &GivenRow<'_>,
 ) -> Result<R, InputFault>
     ensures { Gives R.plain result (entries R.plain kept.new.items)
-        (read_node number types.BigIntLiteral big_int_literal_fields span (view row.now) (entries R.plain kept.old.items)) }
+        (read_node number types.BigIntLiteral big_int_literal_fields span (row_data row.now) (entries R.plain kept.old.items)) }
 {
     let _ = kept;
     let value = match needed_text(alloc, number, 2, row, "value") {
@@ -181,10 +181,10 @@ fn read_string_literal<N: HasType + Drop, R: RowOf<N> + Drop>(
     kept: &mut Vec<Kept<R>>,
     number: usize,
     span: Span,
-    row: &Value,
+    row: &GivenRow<'_>,
 ) -> Result<R, InputFault>
     ensures { Gives R.plain result (entries R.plain kept.new.items)
-        (read_node number types.StringLiteral string_literal_fields span (view row.now) (entries R.plain kept.old.items)) }
+        (read_node number types.StringLiteral string_literal_fields span (row_data row.now) (entries R.plain kept.old.items)) }
 {
     let _ = kept;
     let value = match needed_units(alloc, number, 2, row, "value") {
@@ -209,10 +209,10 @@ fn read_reg_exp_literal<N: HasType + Drop, R: RowOf<N> + Drop>(
     kept: &mut Vec<Kept<R>>,
     number: usize,
     span: Span,
-    row: &Value,
+    row: &GivenRow<'_>,
 ) -> Result<R, InputFault>
     ensures { Gives R.plain result (entries R.plain kept.new.items)
-        (read_node number types.RegExpLiteral reg_exp_literal_fields span (view row.now) (entries R.plain kept.old.items)) }
+        (read_node number types.RegExpLiteral reg_exp_literal_fields span (row_data row.now) (entries R.plain kept.old.items)) }
 {
     let _ = kept;
     let pattern = match needed_text(alloc, number, 2, row, "pattern") {
@@ -245,10 +245,10 @@ fn read_parenthesized_expression<N: HoldsExpression + Drop, R: RowOf<N> + Drop>(
     kept: &mut Vec<Kept<R>>,
     number: usize,
     span: Span,
-    row: &Value,
+    row: &GivenRow<'_>,
 ) -> Result<R, InputFault>
     ensures { Gives R.plain result (entries R.plain kept.new.items)
-        (read_node number types.ParenthesizedExpression parenthesized_expression_fields span (view row.now) (entries R.plain kept.old.items)) }
+        (read_node number types.ParenthesizedExpression parenthesized_expression_fields span (row_data row.now) (entries R.plain kept.old.items)) }
 {
     let expression = match needed_expression::<N, R>(alloc, kept, number, 2, row, "expression") {
         Ok(expression) => expression,
@@ -272,10 +272,10 @@ fn read_binary_expression<N: HoldsExpression + Drop, R: RowOf<N> + Drop>(
     kept: &mut Vec<Kept<R>>,
     number: usize,
     span: Span,
-    row: &Value,
+    row: &GivenRow<'_>,
 ) -> Result<R, InputFault>
     ensures { Gives R.plain result (entries R.plain kept.new.items)
-        (read_node number types.BinaryExpression binary_expression_fields span (view row.now) (entries R.plain kept.old.items)) }
+        (read_node number types.BinaryExpression binary_expression_fields span (row_data row.now) (entries R.plain kept.old.items)) }
 {
     let operator = match needed_binary_operator(number, 2, row, "operator") {
         Ok(operator) => operator,
@@ -312,10 +312,10 @@ fn read_logical_expression<N: HoldsExpression + Drop, R: RowOf<N> + Drop>(
     kept: &mut Vec<Kept<R>>,
     number: usize,
     span: Span,
-    row: &Value,
+    row: &GivenRow<'_>,
 ) -> Result<R, InputFault>
     ensures { Gives R.plain result (entries R.plain kept.new.items)
-        (read_node number types.LogicalExpression logical_expression_fields span (view row.now) (entries R.plain kept.old.items)) }
+        (read_node number types.LogicalExpression logical_expression_fields span (row_data row.now) (entries R.plain kept.old.items)) }
 {
     let operator = match needed_logical_operator(number, 2, row, "operator") {
         Ok(operator) => operator,
@@ -352,10 +352,10 @@ fn read_identifier_name<N: HasType + Drop, R: RowOf<N> + Drop>(
     kept: &mut Vec<Kept<R>>,
     number: usize,
     span: Span,
-    row: &Value,
+    row: &GivenRow<'_>,
 ) -> Result<R, InputFault>
     ensures { Gives R.plain result (entries R.plain kept.new.items)
-        (read_node number types.IdentifierName identifier_name_fields span (view row.now) (entries R.plain kept.old.items)) }
+        (read_node number types.IdentifierName identifier_name_fields span (row_data row.now) (entries R.plain kept.old.items)) }
 {
     let _ = kept;
     let name = match needed_text(alloc, number, 2, row, "name") {
@@ -375,10 +375,10 @@ fn read_static_member_expression<N: HoldsExpression + Drop, R: RowOf<N> + Drop>(
     kept: &mut Vec<Kept<R>>,
     number: usize,
     span: Span,
-    row: &Value,
+    row: &GivenRow<'_>,
 ) -> Result<R, InputFault>
     ensures { Gives R.plain result (entries R.plain kept.new.items)
-        (read_node number types.StaticMemberExpression static_member_expression_fields span (view row.now) (entries R.plain kept.old.items)) }
+        (read_node number types.StaticMemberExpression static_member_expression_fields span (row_data row.now) (entries R.plain kept.old.items)) }
 {
     let object = match needed_expression::<N, R>(alloc, kept, number, 2, row, "object") {
         Ok(object) => object,
@@ -410,10 +410,10 @@ fn read_computed_member_expression<N: HoldsExpression + Drop, R: RowOf<N> + Drop
     kept: &mut Vec<Kept<R>>,
     number: usize,
     span: Span,
-    row: &Value,
+    row: &GivenRow<'_>,
 ) -> Result<R, InputFault>
     ensures { Gives R.plain result (entries R.plain kept.new.items)
-        (read_node number types.ComputedMemberExpression computed_member_expression_fields span (view row.now) (entries R.plain kept.old.items)) }
+        (read_node number types.ComputedMemberExpression computed_member_expression_fields span (row_data row.now) (entries R.plain kept.old.items)) }
 {
     let object = match needed_expression::<N, R>(alloc, kept, number, 2, row, "object") {
         Ok(object) => object,
@@ -445,10 +445,10 @@ fn read_call_expression<N: HoldsExpression + Drop, R: RowOf<N> + Drop>(
     kept: &mut Vec<Kept<R>>,
     number: usize,
     span: Span,
-    row: &Value,
+    row: &GivenRow<'_>,
 ) -> Result<R, InputFault>
     ensures { Gives R.plain result (entries R.plain kept.new.items)
-        (read_node number types.CallExpression call_expression_fields span (view row.now) (entries R.plain kept.old.items)) }
+        (read_node number types.CallExpression call_expression_fields span (row_data row.now) (entries R.plain kept.old.items)) }
 {
     let callee = match needed_expression::<N, R>(alloc, kept, number, 2, row, "callee") {
         Ok(callee) => callee,
@@ -494,10 +494,10 @@ fn read_chain_expression<N: HasType + Drop, R: RowOf<N> + Drop>(
     kept: &mut Vec<Kept<R>>,
     number: usize,
     span: Span,
-    row: &Value,
+    row: &GivenRow<'_>,
 ) -> Result<R, InputFault>
     ensures { Gives R.plain result (entries R.plain kept.new.items)
-        (read_node number types.ChainExpression chain_expression_fields span (view row.now) (entries R.plain kept.old.items)) }
+        (read_node number types.ChainExpression chain_expression_fields span (row_data row.now) (entries R.plain kept.old.items)) }
 {
     let expression = match needed_chain_element::<N, R>(alloc, kept, number, 2, row, "expression") {
         Ok(expression) => expression,
@@ -522,11 +522,11 @@ pub fn read_in_expressions<N: ReadNode + Drop, R: RowOf<N> + Drop>(
     node_type: NodeType,
     number: usize,
     span: Span,
-    row: &Value,
+    row: &GivenRow<'_>,
 ) -> Result<R, InputFault>
     requires { is_in_expressions node_type ≡ true }
     ensures { Gives R.plain result (entries R.plain kept.new.items)
-        (read_typed number node_type span (view row.now) (entries R.plain kept.old.items)) }
+        (read_typed number node_type span (row_data row.now) (entries R.plain kept.old.items)) }
 {
     match node_type {
         NodeType::IdentifierReference => read_identifier_reference::<N, R>(

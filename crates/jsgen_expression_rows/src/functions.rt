@@ -1,7 +1,7 @@
 // Generated from tools/nodes/table.txt; edit that and run tools/nodes/generate.
 // Rows of a job: functions and their parameters (ECMA-262, clause 15).
 ghost use Rattle.std.specs.Prelude.{◌≡◌, true};
-ghost use Rattle.serde_json.specs.View.{view};
+ghost use Rattle.jsgen_fields.specs.Given.{row_data};
 ghost use Rattle.jsgen_tree.specs.RowFields.{formal_parameter_fields, formal_parameter_rest_fields, formal_parameters_fields, function_fields, function_body_fields, arrow_function_expression_fields, await_expression_fields, yield_expression_fields};
 ghost use Rattle.jsgen_fields.specs.Reads.{Gives, read_node, read_typed};
 ghost use Rattle.jsgen_pool.specs.Pool.{entries};
@@ -10,6 +10,7 @@ ghost use Rattle.jsgen_tree.specs.declared.types.NodeType.TheVariants as types;
 
 use jsgen_fields::InputFault;
 use jsgen_fields::fields::boxed;
+use jsgen_fields::given::GivenRow;
 use jsgen_fields::list_fields::{directive_list, formal_parameter_list, statement_list};
 use jsgen_fields::set_fields::{
     needed_arrow_function_body, needed_binding_pattern, needed_expression,
@@ -33,7 +34,6 @@ use jsgen_tree::{
     ArrowFunctionExpression, AwaitExpression, Expression, FormalParameter, FormalParameterRest,
     FormalParameters, Function, FunctionBody, HasType, NodeType, YieldExpression,
 };
-use serde_json::Value;
 use std::alloc::Global;
 
 #[tactic(auto, unfolding(jsgen_fields::specs::Reads::read_node))]
@@ -42,10 +42,10 @@ fn read_formal_parameter<N: HoldsExpression + HoldsBindingPattern + Drop, R: Row
     kept: &mut Vec<Kept<R>>,
     number: usize,
     span: Span,
-    row: &Value,
+    row: &GivenRow<'_>,
 ) -> Result<R, InputFault>
     ensures { Gives R.plain result (entries R.plain kept.new.items)
-        (read_node number types.FormalParameter formal_parameter_fields span (view row.now) (entries R.plain kept.old.items)) }
+        (read_node number types.FormalParameter formal_parameter_fields span (row_data row.now) (entries R.plain kept.old.items)) }
 {
     match neither_given(number, 2, row, "decorators", "accessibility") {
         Ok(()) => {}
@@ -91,10 +91,10 @@ fn read_formal_parameter_rest<N: HoldsBindingPattern + Drop, R: RowOf<N> + Drop>
     kept: &mut Vec<Kept<R>>,
     number: usize,
     span: Span,
-    row: &Value,
+    row: &GivenRow<'_>,
 ) -> Result<R, InputFault>
     ensures { Gives R.plain result (entries R.plain kept.new.items)
-        (read_node number types.FormalParameterRest formal_parameter_rest_fields span (view row.now) (entries R.plain kept.old.items)) }
+        (read_node number types.FormalParameterRest formal_parameter_rest_fields span (row_data row.now) (entries R.plain kept.old.items)) }
 {
     match field_not_given(number, 2, row, "decorators") {
         Ok(()) => {}
@@ -121,10 +121,10 @@ fn read_formal_parameters<N: HasType + Drop, R: RowOf<N> + Drop>(
     kept: &mut Vec<Kept<R>>,
     number: usize,
     span: Span,
-    row: &Value,
+    row: &GivenRow<'_>,
 ) -> Result<R, InputFault>
     ensures { Gives R.plain result (entries R.plain kept.new.items)
-        (read_node number types.FormalParameters formal_parameters_fields span (view row.now) (entries R.plain kept.old.items)) }
+        (read_node number types.FormalParameters formal_parameters_fields span (row_data row.now) (entries R.plain kept.old.items)) }
 {
     let items = match formal_parameter_list::<N, R>(alloc, kept, number, 2, row, "items") {
         Ok(items) => items,
@@ -147,10 +147,10 @@ fn read_function<N: HasType + Drop, R: RowOf<N> + Drop>(
     kept: &mut Vec<Kept<R>>,
     number: usize,
     span: Span,
-    row: &Value,
+    row: &GivenRow<'_>,
 ) -> Result<R, InputFault>
     ensures { Gives R.plain result (entries R.plain kept.new.items)
-        (read_node number types.Function function_fields span (view row.now) (entries R.plain kept.old.items)) }
+        (read_node number types.Function function_fields span (row_data row.now) (entries R.plain kept.old.items)) }
 {
     let kind = match needed_kind_of_function(number, 2, row, "kind") {
         Ok(kind) => kind,
@@ -219,10 +219,10 @@ fn read_function_body<N: HoldsDeclaration + HoldsStatement + Drop, R: RowOf<N> +
     kept: &mut Vec<Kept<R>>,
     number: usize,
     span: Span,
-    row: &Value,
+    row: &GivenRow<'_>,
 ) -> Result<R, InputFault>
     ensures { Gives R.plain result (entries R.plain kept.new.items)
-        (read_node number types.FunctionBody function_body_fields span (view row.now) (entries R.plain kept.old.items)) }
+        (read_node number types.FunctionBody function_body_fields span (row_data row.now) (entries R.plain kept.old.items)) }
 {
     let directives = match directive_list::<N, R>(alloc, kept, number, 2, row, "directives") {
         Ok(directives) => directives,
@@ -249,10 +249,10 @@ fn read_arrow_function_expression<N: HoldsExpression + Drop, R: RowOf<N> + Drop>
     kept: &mut Vec<Kept<R>>,
     number: usize,
     span: Span,
-    row: &Value,
+    row: &GivenRow<'_>,
 ) -> Result<R, InputFault>
     ensures { Gives R.plain result (entries R.plain kept.new.items)
-        (read_node number types.ArrowFunctionExpression arrow_function_expression_fields span (view row.now) (entries R.plain kept.old.items)) }
+        (read_node number types.ArrowFunctionExpression arrow_function_expression_fields span (row_data row.now) (entries R.plain kept.old.items)) }
 {
     let is_async = match optional_flag(number, 2, row, "is_async") {
         Ok(is_async) => is_async,
@@ -307,10 +307,10 @@ fn read_await_expression<N: HoldsExpression + Drop, R: RowOf<N> + Drop>(
     kept: &mut Vec<Kept<R>>,
     number: usize,
     span: Span,
-    row: &Value,
+    row: &GivenRow<'_>,
 ) -> Result<R, InputFault>
     ensures { Gives R.plain result (entries R.plain kept.new.items)
-        (read_node number types.AwaitExpression await_expression_fields span (view row.now) (entries R.plain kept.old.items)) }
+        (read_node number types.AwaitExpression await_expression_fields span (row_data row.now) (entries R.plain kept.old.items)) }
 {
     let argument = match needed_expression::<N, R>(alloc, kept, number, 2, row, "argument") {
         Ok(argument) => argument,
@@ -334,10 +334,10 @@ fn read_yield_expression<N: HoldsExpression + Drop, R: RowOf<N> + Drop>(
     kept: &mut Vec<Kept<R>>,
     number: usize,
     span: Span,
-    row: &Value,
+    row: &GivenRow<'_>,
 ) -> Result<R, InputFault>
     ensures { Gives R.plain result (entries R.plain kept.new.items)
-        (read_node number types.YieldExpression yield_expression_fields span (view row.now) (entries R.plain kept.old.items)) }
+        (read_node number types.YieldExpression yield_expression_fields span (row_data row.now) (entries R.plain kept.old.items)) }
 {
     let delegate = match optional_flag(number, 2, row, "delegate") {
         Ok(delegate) => delegate,
@@ -370,11 +370,11 @@ pub fn read_in_functions<N: ReadNode + Drop, R: RowOf<N> + Drop>(
     node_type: NodeType,
     number: usize,
     span: Span,
-    row: &Value,
+    row: &GivenRow<'_>,
 ) -> Result<R, InputFault>
     requires { is_in_functions node_type ≡ true }
     ensures { Gives R.plain result (entries R.plain kept.new.items)
-        (read_typed number node_type span (view row.now) (entries R.plain kept.old.items)) }
+        (read_typed number node_type span (row_data row.now) (entries R.plain kept.old.items)) }
 {
     match node_type {
         NodeType::FormalParameter => read_formal_parameter::<N, R>(alloc, kept, number, span, row),

@@ -1,7 +1,7 @@
 // Generated from tools/nodes/table.txt; edit that and run tools/nodes/generate.
 // Rows of a job: operations of one operand, and `new` (ECMA-262, clause 13).
 ghost use Rattle.std.specs.Prelude.{◌≡◌, true};
-ghost use Rattle.serde_json.specs.View.{view};
+ghost use Rattle.jsgen_fields.specs.Given.{row_data};
 ghost use Rattle.jsgen_tree.specs.RowFields.{unary_expression_fields, new_target_fields, update_expression_fields, new_expression_fields, super_fields, import_meta_fields};
 ghost use Rattle.jsgen_fields.specs.Reads.{Gives, read_node, read_typed};
 ghost use Rattle.jsgen_pool.specs.Pool.{entries};
@@ -10,6 +10,7 @@ ghost use Rattle.jsgen_tree.specs.declared.types.NodeType.TheVariants as types;
 
 use jsgen_fields::InputFault;
 use jsgen_fields::fields::boxed;
+use jsgen_fields::given::GivenRow;
 use jsgen_fields::list_fields::argument_list;
 use jsgen_fields::set_fields::{needed_expression, needed_simple_assignment_target};
 use jsgen_fields::set_rows::row_of_expression;
@@ -23,7 +24,6 @@ use jsgen_tree::{
     Expression, HasType, ImportMeta, NewExpression, NewTarget, NodeType, Super, UnaryExpression,
     UpdateExpression,
 };
-use serde_json::Value;
 use std::alloc::Global;
 
 #[tactic(auto, unfolding(jsgen_fields::specs::Reads::read_node))]
@@ -32,10 +32,10 @@ fn read_unary_expression<N: HoldsExpression + Drop, R: RowOf<N> + Drop>(
     kept: &mut Vec<Kept<R>>,
     number: usize,
     span: Span,
-    row: &Value,
+    row: &GivenRow<'_>,
 ) -> Result<R, InputFault>
     ensures { Gives R.plain result (entries R.plain kept.new.items)
-        (read_node number types.UnaryExpression unary_expression_fields span (view row.now) (entries R.plain kept.old.items)) }
+        (read_node number types.UnaryExpression unary_expression_fields span (row_data row.now) (entries R.plain kept.old.items)) }
 {
     let operator = match needed_unary_operator(number, 2, row, "operator") {
         Ok(operator) => operator,
@@ -67,10 +67,10 @@ fn read_new_target<N: HasType + Drop, R: RowOf<N> + Drop>(
     kept: &mut Vec<Kept<R>>,
     number: usize,
     span: Span,
-    row: &Value,
+    row: &GivenRow<'_>,
 ) -> Result<R, InputFault>
     ensures { Gives R.plain result (entries R.plain kept.new.items)
-        (read_node number types.NewTarget new_target_fields span (view row.now) (entries R.plain kept.old.items)) }
+        (read_node number types.NewTarget new_target_fields span (row_data row.now) (entries R.plain kept.old.items)) }
 {
     let _ = kept;
     let _ = number;
@@ -93,10 +93,10 @@ fn read_update_expression<N: HasType + Drop, R: RowOf<N> + Drop>(
     kept: &mut Vec<Kept<R>>,
     number: usize,
     span: Span,
-    row: &Value,
+    row: &GivenRow<'_>,
 ) -> Result<R, InputFault>
     ensures { Gives R.plain result (entries R.plain kept.new.items)
-        (read_node number types.UpdateExpression update_expression_fields span (view row.now) (entries R.plain kept.old.items)) }
+        (read_node number types.UpdateExpression update_expression_fields span (row_data row.now) (entries R.plain kept.old.items)) }
 {
     let operator = match needed_update_operator(number, 2, row, "operator") {
         Ok(operator) => operator,
@@ -135,10 +135,10 @@ fn read_new_expression<N: HoldsExpression + Drop, R: RowOf<N> + Drop>(
     kept: &mut Vec<Kept<R>>,
     number: usize,
     span: Span,
-    row: &Value,
+    row: &GivenRow<'_>,
 ) -> Result<R, InputFault>
     ensures { Gives R.plain result (entries R.plain kept.new.items)
-        (read_node number types.NewExpression new_expression_fields span (view row.now) (entries R.plain kept.old.items)) }
+        (read_node number types.NewExpression new_expression_fields span (row_data row.now) (entries R.plain kept.old.items)) }
 {
     let callee = match needed_expression::<N, R>(alloc, kept, number, 2, row, "callee") {
         Ok(callee) => callee,
@@ -179,10 +179,10 @@ fn read_super<N: HasType + Drop, R: RowOf<N> + Drop>(
     kept: &mut Vec<Kept<R>>,
     number: usize,
     span: Span,
-    row: &Value,
+    row: &GivenRow<'_>,
 ) -> Result<R, InputFault>
     ensures { Gives R.plain result (entries R.plain kept.new.items)
-        (read_node number types.Super super_fields span (view row.now) (entries R.plain kept.old.items)) }
+        (read_node number types.Super super_fields span (row_data row.now) (entries R.plain kept.old.items)) }
 {
     let _ = kept;
     let _ = number;
@@ -205,10 +205,10 @@ fn read_import_meta<N: HasType + Drop, R: RowOf<N> + Drop>(
     kept: &mut Vec<Kept<R>>,
     number: usize,
     span: Span,
-    row: &Value,
+    row: &GivenRow<'_>,
 ) -> Result<R, InputFault>
     ensures { Gives R.plain result (entries R.plain kept.new.items)
-        (read_node number types.ImportMeta import_meta_fields span (view row.now) (entries R.plain kept.old.items)) }
+        (read_node number types.ImportMeta import_meta_fields span (row_data row.now) (entries R.plain kept.old.items)) }
 {
     let _ = kept;
     let _ = number;
@@ -232,11 +232,11 @@ pub fn read_in_operations<N: ReadNode + Drop, R: RowOf<N> + Drop>(
     node_type: NodeType,
     number: usize,
     span: Span,
-    row: &Value,
+    row: &GivenRow<'_>,
 ) -> Result<R, InputFault>
     requires { is_in_operations node_type ≡ true }
     ensures { Gives R.plain result (entries R.plain kept.new.items)
-        (read_typed number node_type span (view row.now) (entries R.plain kept.old.items)) }
+        (read_typed number node_type span (row_data row.now) (entries R.plain kept.old.items)) }
 {
     match node_type {
         NodeType::UnaryExpression => read_unary_expression::<N, R>(alloc, kept, number, span, row),

@@ -1,7 +1,7 @@
 // Generated from tools/nodes/table.txt; edit that and run tools/nodes/generate.
 // Rows of a job: templates and import calls (ECMA-262, 13.2.8, 13.3.10 and 13.3.11).
 ghost use Rattle.std.specs.Prelude.{◌≡◌, true};
-ghost use Rattle.serde_json.specs.View.{view};
+ghost use Rattle.jsgen_fields.specs.Given.{row_data};
 ghost use Rattle.jsgen_tree.specs.RowFields.{template_element_fields, template_literal_fields, tagged_template_expression_fields, import_expression_fields};
 ghost use Rattle.jsgen_fields.specs.Reads.{Gives, read_node, read_typed};
 ghost use Rattle.jsgen_pool.specs.Pool.{entries};
@@ -10,6 +10,7 @@ ghost use Rattle.jsgen_tree.specs.declared.types.NodeType.TheVariants as types;
 
 use jsgen_fields::InputFault;
 use jsgen_fields::fields::boxed;
+use jsgen_fields::given::GivenRow;
 use jsgen_fields::list_fields::{expression_list, template_element_list};
 use jsgen_fields::set_fields::{needed_expression, needed_template_literal, optional_expression};
 use jsgen_fields::set_rows::row_of_expression;
@@ -24,7 +25,6 @@ use jsgen_tree::{
     Expression, HasType, ImportExpression, NodeType, TaggedTemplateExpression, TemplateElement,
     TemplateLiteral,
 };
-use serde_json::Value;
 use std::alloc::Global;
 
 #[tactic(auto, unfolding(jsgen_fields::specs::Reads::read_node))]
@@ -33,10 +33,10 @@ fn read_template_element<N: HasType + Drop, R: RowOf<N> + Drop>(
     kept: &mut Vec<Kept<R>>,
     number: usize,
     span: Span,
-    row: &Value,
+    row: &GivenRow<'_>,
 ) -> Result<R, InputFault>
     ensures { Gives R.plain result (entries R.plain kept.new.items)
-        (read_node number types.TemplateElement template_element_fields span (view row.now) (entries R.plain kept.old.items)) }
+        (read_node number types.TemplateElement template_element_fields span (row_data row.now) (entries R.plain kept.old.items)) }
 {
     let _ = kept;
     let raw = match needed_text(alloc, number, 2, row, "raw") {
@@ -60,10 +60,10 @@ fn read_template_literal<N: HoldsExpression + Drop, R: RowOf<N> + Drop>(
     kept: &mut Vec<Kept<R>>,
     number: usize,
     span: Span,
-    row: &Value,
+    row: &GivenRow<'_>,
 ) -> Result<R, InputFault>
     ensures { Gives R.plain result (entries R.plain kept.new.items)
-        (read_node number types.TemplateLiteral template_literal_fields span (view row.now) (entries R.plain kept.old.items)) }
+        (read_node number types.TemplateLiteral template_literal_fields span (row_data row.now) (entries R.plain kept.old.items)) }
 {
     let quasis = match template_element_list::<N, R>(alloc, kept, number, 2, row, "quasis") {
         Ok(quasis) => quasis,
@@ -95,10 +95,10 @@ fn read_tagged_template_expression<N: HoldsExpression + Drop, R: RowOf<N> + Drop
     kept: &mut Vec<Kept<R>>,
     number: usize,
     span: Span,
-    row: &Value,
+    row: &GivenRow<'_>,
 ) -> Result<R, InputFault>
     ensures { Gives R.plain result (entries R.plain kept.new.items)
-        (read_node number types.TaggedTemplateExpression tagged_template_expression_fields span (view row.now) (entries R.plain kept.old.items)) }
+        (read_node number types.TaggedTemplateExpression tagged_template_expression_fields span (row_data row.now) (entries R.plain kept.old.items)) }
 {
     let tag = match needed_expression::<N, R>(alloc, kept, number, 2, row, "tag") {
         Ok(tag) => tag,
@@ -130,10 +130,10 @@ fn read_import_expression<N: HoldsExpression + Drop, R: RowOf<N> + Drop>(
     kept: &mut Vec<Kept<R>>,
     number: usize,
     span: Span,
-    row: &Value,
+    row: &GivenRow<'_>,
 ) -> Result<R, InputFault>
     ensures { Gives R.plain result (entries R.plain kept.new.items)
-        (read_node number types.ImportExpression import_expression_fields span (view row.now) (entries R.plain kept.old.items)) }
+        (read_node number types.ImportExpression import_expression_fields span (row_data row.now) (entries R.plain kept.old.items)) }
 {
     match field_not_given(number, 2, row, "phase") {
         Ok(()) => {}
@@ -170,11 +170,11 @@ pub fn read_in_templates<N: ReadNode + Drop, R: RowOf<N> + Drop>(
     node_type: NodeType,
     number: usize,
     span: Span,
-    row: &Value,
+    row: &GivenRow<'_>,
 ) -> Result<R, InputFault>
     requires { is_in_templates node_type ≡ true }
     ensures { Gives R.plain result (entries R.plain kept.new.items)
-        (read_typed number node_type span (view row.now) (entries R.plain kept.old.items)) }
+        (read_typed number node_type span (row_data row.now) (entries R.plain kept.old.items)) }
 {
     match node_type {
         NodeType::TemplateElement => read_template_element::<N, R>(alloc, kept, number, span, row),

@@ -1,6 +1,6 @@
 // Fields that hold children.
 ghost use Rattle.std.specs.Prelude.{◌≡◌, Ok, true, false, map, option_map};
-ghost use Rattle.serde_json.specs.View.{view};
+ghost use Rattle.jsgen_fields.specs.Given.{row_data};
 ghost use Rattle.jsgen_tree.specs.Tree.{optional, optional_list, trees, holed};
 ghost use Rattle.jsgen_tree.specs.Table.{needed, may_be_absent, child, children, maybe_children, children_or_holes};
 ghost use Rattle.jsgen_fields.specs.Values.{Same, at, field as value_under};
@@ -9,12 +9,12 @@ ghost use Rattle.jsgen_fields.specs.Reads.{Gives, read_children};
 ghost use Rattle.jsgen_pool.specs.Pool.{entries};
 
 use crate::children::{take_all, take_all_or_holes, take_as};
+use crate::given::GivenRow;
 use crate::values::{items_in, needed_value, optional_value};
 use crate::{At, InputFault};
 use jsgen_kept::asked::{Child, RowOf};
 use jsgen_pool::Kept;
 use jsgen_tree::HasType;
-use serde_json::Value;
 use std::alloc::Global;
 
 #[tactic(auto, unfolding(crate::specs::Reads::read_children))]
@@ -23,11 +23,11 @@ pub fn needed_child<N: HasType, R: RowOf<N> + Drop, C: Child<N>>(
     kept: &mut Vec<Kept<R>>,
     number: usize,
     field: usize,
-    row: &Value,
+    row: &GivenRow<'_>,
     name: &str,
 ) -> Result<C, InputFault>
     ensures { Gives (λ c. a_child (C.plain c)) result (entries R.plain kept.new.items)
-        (read_children (at number field) true needed (child C.of_set) (value_under name.now (view row.now)) (entries R.plain kept.old.items)) }
+        (read_children (at number field) true needed (child C.of_set) (value_under name.now (row_data row.now)) (entries R.plain kept.old.items)) }
 {
     let at = At::of_row(number, field);
     match needed_value(at, row, name) {
@@ -42,11 +42,11 @@ pub fn optional_child<N: HasType, R: RowOf<N> + Drop, C: Child<N>>(
     kept: &mut Vec<Kept<R>>,
     number: usize,
     field: usize,
-    row: &Value,
+    row: &GivenRow<'_>,
     name: &str,
 ) -> Result<Option<C>, InputFault>
     ensures { Gives (λ o. a_maybe (optional (option_map C.plain o))) result (entries R.plain kept.new.items)
-        (read_children (at number field) false may_be_absent (child C.of_set) (value_under name.now (view row.now)) (entries R.plain kept.old.items)) }
+        (read_children (at number field) false may_be_absent (child C.of_set) (value_under name.now (row_data row.now)) (entries R.plain kept.old.items)) }
 {
     let at = At::of_row(number, field);
     match optional_value(at, row, name) {
@@ -66,11 +66,11 @@ pub fn children<N: HasType, R: RowOf<N> + Drop, C: Child<N> + Drop>(
     kept: &mut Vec<Kept<R>>,
     number: usize,
     field: usize,
-    row: &Value,
+    row: &GivenRow<'_>,
     name: &str,
 ) -> Result<Vec<C>, InputFault>
     ensures { Gives (λ v. a_list (trees (map C.plain v.items))) result (entries R.plain kept.new.items)
-        (read_children (at number field) false may_be_absent (children C.of_set) (value_under name.now (view row.now)) (entries R.plain kept.old.items)) }
+        (read_children (at number field) false may_be_absent (children C.of_set) (value_under name.now (row_data row.now)) (entries R.plain kept.old.items)) }
 {
     let at = At::of_row(number, field);
     match optional_value(at, row, name) {
@@ -90,11 +90,11 @@ pub fn optional_children<N: HasType, R: RowOf<N> + Drop, C: Child<N> + Drop>(
     kept: &mut Vec<Kept<R>>,
     number: usize,
     field: usize,
-    row: &Value,
+    row: &GivenRow<'_>,
     name: &str,
 ) -> Result<Option<Vec<C>>, InputFault>
     ensures { Gives (λ o. a_maybe_list (optional_list (option_map (λ v. map C.plain v.items) o))) result (entries R.plain kept.new.items)
-        (read_children (at number field) false may_be_absent (maybe_children C.of_set) (value_under name.now (view row.now)) (entries R.plain kept.old.items)) }
+        (read_children (at number field) false may_be_absent (maybe_children C.of_set) (value_under name.now (row_data row.now)) (entries R.plain kept.old.items)) }
 {
     let at = At::of_row(number, field);
     match optional_value(at, row, name) {
@@ -117,11 +117,11 @@ pub fn children_or_holes<N: HasType, R: RowOf<N> + Drop, C: Child<N> + Drop>(
     kept: &mut Vec<Kept<R>>,
     number: usize,
     field: usize,
-    row: &Value,
+    row: &GivenRow<'_>,
     name: &str,
 ) -> Result<Vec<Option<C>>, InputFault>
     ensures { Gives (λ v. a_list (holed (map (option_map C.plain) v.items))) result (entries R.plain kept.new.items)
-        (read_children (at number field) false may_be_absent (children_or_holes C.of_set) (value_under name.now (view row.now)) (entries R.plain kept.old.items)) }
+        (read_children (at number field) false may_be_absent (children_or_holes C.of_set) (value_under name.now (row_data row.now)) (entries R.plain kept.old.items)) }
 {
     let at = At::of_row(number, field);
     match optional_value(at, row, name) {

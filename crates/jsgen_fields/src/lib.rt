@@ -9,6 +9,8 @@ ghost use Rattle.jsgen_fields.specs.declared.InputFault.TheVariants as faults;
 mod children;
 pub mod fields;
 pub mod floats;
+pub mod given;
+pub mod head;
 pub mod list_fields;
 mod names;
 pub mod set_fields;

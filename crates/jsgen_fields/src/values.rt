@@ -1,7 +1,7 @@
 // What stands in a field by itself.
 ghost use Rattle.std.specs.Prelude.{◌≡◌, [], suc, Some, true, false, map, option_map};
 ghost use Rattle.std.specs.Str.{bytes_eq};
-ghost use Rattle.serde_json.specs.View.{view};
+ghost use Rattle.jsgen_fields.specs.Given.{given_data, given_items, row_data};
 ghost use Rattle.jsgen_tree.specs.Characters.{characters, number_if_given};
 ghost use Rattle.jsgen_tree.specs.Atom.{no_value, text as text_atom, digits as digits_atom, number as number_atom, flag as flag_atom};
 ghost use Rattle.jsgen_tree.specs.Table.{text, digits, number as number_sort, flag, unset_flag, passed_over};
@@ -10,19 +10,18 @@ ghost use Rattle.jsgen_fields.specs.declared.InputFault.TheVariants.{Wrong, Miss
 ghost use Rattle.jsgen_fields.specs.Reads.{read_value};
 ghost use Rattle.jsgen_fields.specs.Values.{Same, after, or_fault, at, field, field as value_under, field_in, not_given, text_in, items_in, starts_plainly, decimal_number, digits_in, number_of_bits, value_in, type_of, span_of, offsets};
 
-use crate::floats::holds_float;
+use crate::given::{Given, GivenItems, GivenRow};
 use crate::names::type_by_name;
 use crate::{At, InputFault};
 use jsgen_syntax::Span;
 use jsgen_tree::NodeType;
-use serde_json::Value;
 use std::alloc::Global;
 
 /// What stands under a name; null counts as absent.
-pub fn present<'v>(object: &'v Value, name: &str) -> Option<&'v Value>
-    ensures { option_map (λ v. view v.now) result ≡ field name.now (view object.now) }
+fn present<'v>(at: At, row: &GivenRow<'v>, name: &str) -> Option<Given<'v>>
+    ensures { option_map given_data result ≡ field name.now (row_data row.now) }
 {
-    match object.get(name) {
+    match row.get_at(at.field, name) {
         Some(value) => { if value.is_null() { None } else { Some(value) } }
         None => None,
     }
@@ -30,27 +29,27 @@ pub fn present<'v>(object: &'v Value, name: &str) -> Option<&'v Value>
 
 pub fn optional_value<'v>(
     at: At,
-    row: &'v Value,
+    row: &GivenRow<'v>,
     name: &str,
-) -> Result<Option<&'v Value>, InputFault>
-    ensures { Same (λ o. option_map (λ v. view v.now) o) result (field_in at false (field name.now (view row.now))) }
+) -> Result<Option<Given<'v>>, InputFault>
+    ensures { Same (λ o. option_map given_data o) result (field_in at false (field name.now (row_data row.now))) }
 {
-    let Some(value) = present(row, name) else {
+    let Some(value) = present(at, row, name) else {
         return Ok(None);
     };
-    if holds_float(value) {
+    if value.holds_float() {
         return Err(InputFault::Float(at));
     }
     Ok(Some(value))
 }
 
-pub fn needed_value<'v>(at: At, row: &'v Value, name: &str) -> Result<&'v Value, InputFault>
-    ensures { Same (λ v. Some (view v.now)) result (field_in at true (field name.now (view row.now))) }
+pub fn needed_value<'v>(at: At, row: &GivenRow<'v>, name: &str) -> Result<Given<'v>, InputFault>
+    ensures { Same (λ v. Some (given_data v)) result (field_in at true (field name.now (row_data row.now))) }
 {
-    let Some(value) = present(row, name) else {
+    let Some(value) = present(at, row, name) else {
         return Err(InputFault::Missing(at));
     };
-    if holds_float(value) {
+    if value.holds_float() {
         return Err(InputFault::Float(at));
     }
     Ok(value)
@@ -58,10 +57,10 @@ pub fn needed_value<'v>(at: At, row: &'v Value, name: &str) -> Result<&'v Value,
 
 /// What isn't read yet may not be given.
 #[tactic(auto, unfolding(crate::specs::Values::not_given))]
-pub fn not_given(at: At, object: &Value, name: &str) -> Result<(), InputFault>
-    ensures { Same (λ u. u) result (not_given at (field name.now (view object.now))) }
+pub fn not_given(at: At, row: &GivenRow<'_>, name: &str) -> Result<(), InputFault>
+    ensures { Same (λ u. u) result (not_given at (field name.now (row_data row.now))) }
 {
-    match present(object, name) {
+    match present(at, row, name) {
         Some(_) => Err(InputFault::Wrong(at)),
         None => Ok(()),
     }
@@ -71,10 +70,10 @@ pub fn not_given(at: At, object: &Value, name: &str) -> Result<(), InputFault>
 pub fn field_not_given(
     number: usize,
     field: usize,
-    row: &Value,
+    row: &GivenRow<'_>,
     name: &str,
 ) -> Result<(), InputFault>
-    ensures { Same (λ u. u) result (not_given (at number field) (value_under name.now (view row.now))) }
+    ensures { Same (λ u. u) result (not_given (at number field) (value_under name.now (row_data row.now))) }
 {
     not_given(At::of_row(number, field), row, name)
 }
@@ -83,12 +82,12 @@ pub fn field_not_given(
 pub fn neither_given(
     number: usize,
     field: u8,
-    row: &Value,
+    row: &GivenRow<'_>,
     name: &str,
     other: &str,
 ) -> Result<(), InputFault>
-    ensures { Same (λ u. u) result (after (not_given (at number field) (value_under name.now (view row.now)))
-        (λ given. not_given (at number (suc field)) (value_under other.now (view row.now)))) }
+    ensures { Same (λ u. u) result (after (not_given (at number field) (value_under name.now (row_data row.now)))
+        (λ given. not_given (at number (suc field)) (value_under other.now (row_data row.now)))) }
 {
     match not_given(At::of_row(number, usize::from(field)), row, name) {
         Ok(()) => not_given(At::of_row(number, usize::from(field) + 1), row, other),
@@ -96,8 +95,8 @@ pub fn neither_given(
     }
 }
 
-pub fn text_in(at: At, value: &Value) -> Result<&str, InputFault>
-    ensures { Same (λ s. s.now) result (text_in at (view value.now)) }
+pub fn text_in<'v>(at: At, value: Given<'v>) -> Result<&'v str, InputFault>
+    ensures { Same (λ s. s.now) result (text_in at (given_data value.entry)) }
 {
     match value.as_str() {
         Some(text) => Ok(text),
@@ -109,10 +108,10 @@ pub fn text_in(at: At, value: &Value) -> Result<&str, InputFault>
 pub fn needed_word<'v>(
     number: usize,
     field: usize,
-    row: &'v Value,
+    row: &GivenRow<'v>,
     name: &str,
 ) -> Result<&'v str, InputFault>
-    ensures { Same (λ s. s.now) result (after (field_in (at number field) true (value_under name.now (view row.now)))
+    ensures { Same (λ s. s.now) result (after (field_in (at number field) true (value_under name.now (row_data row.now)))
         (λ given. after (or_fault (Missing (at number field)) given) (text_in (at number field)))) }
 {
     let at = At::of_row(number, field);
@@ -122,12 +121,12 @@ pub fn needed_word<'v>(
     }
 }
 
-#[tactic(auto, using(crate::proofs::Listed::lists))]
-pub fn items_in(at: At, value: &Value) -> Result<&Vec<Value>, InputFault>
-    ensures { Same (λ v. map view v.now.items) result (items_in at (view value.now)) }
+/// The items of a list.
+pub fn items_in<'v>(at: At, value: Given<'v>) -> Result<GivenItems<'v>, InputFault>
+    ensures { Same given_items result (items_in at (given_data value.entry)) }
 {
-    match value.as_array() {
-        Some(list) => Ok(list),
+    match value.items() {
+        Some(items) => Ok(items),
         None => Err(InputFault::Wrong(at)),
     }
 }
@@ -157,8 +156,8 @@ fn decimal_number(text: &str) -> Option<u128>
     text.parse::<u128>().ok()
 }
 
-fn digits_in(at: At, value: &Value) -> Result<u128, InputFault>
-    ensures { Same (λ n. n) result (digits_in at (view value.now)) }
+fn digits_in(at: At, value: Given<'_>) -> Result<u128, InputFault>
+    ensures { Same (λ n. n) result (digits_in at (given_data value.entry)) }
 {
     if let Some(number) = value.as_u64() {
         return Ok(u128::from(number));
@@ -174,8 +173,8 @@ fn digits_in(at: At, value: &Value) -> Result<u128, InputFault>
 
 // ---- whole numbers of 32 bits
 
-fn short_number(value: &Value) -> Option<u32>
-    ensures { result ≡ number_of_bits 32 (view value.now) }
+fn short_number(value: Given<'_>) -> Option<u32>
+    ensures { result ≡ number_of_bits 32 (given_data value.entry) }
 {
     let number = value.as_u64()?;
     if number < 4294967296 {
@@ -185,8 +184,8 @@ fn short_number(value: &Value) -> Option<u32>
     }
 }
 
-pub fn number_in(at: At, value: &Value) -> Result<u32, InputFault>
-    ensures { Same (λ n. n) result (or_fault (Wrong at) (number_of_bits 32 (view value.now))) }
+pub fn number_in(at: At, value: Given<'_>) -> Result<u32, InputFault>
+    ensures { Same (λ n. n) result (or_fault (Wrong at) (number_of_bits 32 (given_data value.entry))) }
 {
     match short_number(value) {
         Some(number) => Ok(number),
@@ -196,8 +195,8 @@ pub fn number_in(at: At, value: &Value) -> Result<u32, InputFault>
 
 // ---- fields with no children
 
-fn text_value(alloc: Global, at: At, value: &Value) -> Result<String, InputFault>
-    ensures { Same (λ s. text_atom (characters s)) result (value_in at text (view value.now)) }
+fn text_value(alloc: Global, at: At, value: Given<'_>) -> Result<String, InputFault>
+    ensures { Same (λ s. text_atom (characters s)) result (value_in at text (given_data value.entry)) }
 {
     let text = text_in(at, value)?;
     Ok(String::from_str(alloc, text)?)
@@ -214,11 +213,11 @@ pub fn needed_text(
     alloc: Global,
     number: usize,
     field: usize,
-    row: &Value,
+    row: &GivenRow<'_>,
     name: &str,
 ) -> Result<String, InputFault>
     ensures { Same (λ s. text_atom (characters s)) result
-        (read_value (at number field) true no_value text (value_under name.now (view row.now))) }
+        (read_value (at number field) true no_value text (value_under name.now (row_data row.now))) }
 {
     let at = At::of_row(number, field);
     match needed_value(at, row, name) {
@@ -233,11 +232,11 @@ pub fn optional_text(
     alloc: Global,
     number: usize,
     field: usize,
-    row: &Value,
+    row: &GivenRow<'_>,
     name: &str,
 ) -> Result<String, InputFault>
     ensures { Same (λ s. text_atom (characters s)) result
-        (read_value (at number field) false (text_atom []) text (value_under name.now (view row.now))) }
+        (read_value (at number field) false (text_atom []) text (value_under name.now (row_data row.now))) }
 {
     let at = At::of_row(number, field);
     match optional_value(at, row, name) {
@@ -251,11 +250,11 @@ pub fn optional_text(
 pub fn needed_digits(
     number: usize,
     field: usize,
-    row: &Value,
+    row: &GivenRow<'_>,
     name: &str,
 ) -> Result<u128, InputFault>
     ensures { Same (λ n. digits_atom n) result
-        (read_value (at number field) true no_value digits (value_under name.now (view row.now))) }
+        (read_value (at number field) true no_value digits (value_under name.now (row_data row.now))) }
 {
     let at = At::of_row(number, field);
     match needed_value(at, row, name) {
@@ -269,11 +268,11 @@ pub fn needed_digits(
 pub fn needed_number(
     number: usize,
     field: usize,
-    row: &Value,
+    row: &GivenRow<'_>,
     name: &str,
 ) -> Result<u32, InputFault>
     ensures { Same (λ n. number_atom n) result
-        (read_value (at number field) true no_value number_sort (value_under name.now (view row.now))) }
+        (read_value (at number field) true no_value number_sort (value_under name.now (row_data row.now))) }
 {
     let at = At::of_row(number, field);
     match needed_value(at, row, name) {
@@ -287,11 +286,11 @@ pub fn needed_number(
 pub fn optional_number(
     number: usize,
     field: usize,
-    row: &Value,
+    row: &GivenRow<'_>,
     name: &str,
 ) -> Result<Option<u32>, InputFault>
     ensures { Same number_if_given result
-        (read_value (at number field) false no_value number_sort (value_under name.now (view row.now))) }
+        (read_value (at number field) false no_value number_sort (value_under name.now (row_data row.now))) }
 {
     let at = At::of_row(number, field);
     match optional_value(at, row, name) {
@@ -306,11 +305,11 @@ pub fn optional_number(
 pub fn passed_over_text(
     number: usize,
     field: usize,
-    row: &Value,
+    row: &GivenRow<'_>,
     name: &str,
 ) -> Result<(), InputFault>
     ensures { Same (λ u. no_value) result
-        (read_value (at number field) false no_value (passed_over text) (value_under name.now (view row.now))) }
+        (read_value (at number field) false no_value (passed_over text) (value_under name.now (row_data row.now))) }
 {
     let at = At::of_row(number, field);
     match optional_value(at, row, name) {
@@ -320,8 +319,8 @@ pub fn passed_over_text(
     }
 }
 
-fn pass_over_text(at: At, value: &Value) -> Result<(), InputFault>
-    ensures { Same (λ u. no_value) result (value_in at (passed_over text) (view value.now)) }
+fn pass_over_text(at: At, value: Given<'_>) -> Result<(), InputFault>
+    ensures { Same (λ u. no_value) result (value_in at (passed_over text) (given_data value.entry)) }
 {
     match text_in(at, value) {
         Ok(_) => Ok(()),
@@ -334,11 +333,11 @@ fn pass_over_text(at: At, value: &Value) -> Result<(), InputFault>
 pub fn passed_over_digits(
     number: usize,
     field: usize,
-    row: &Value,
+    row: &GivenRow<'_>,
     name: &str,
 ) -> Result<(), InputFault>
     ensures { Same (λ u. no_value) result
-        (read_value (at number field) false no_value (passed_over digits) (value_under name.now (view row.now))) }
+        (read_value (at number field) false no_value (passed_over digits) (value_under name.now (row_data row.now))) }
 {
     let at = At::of_row(number, field);
     match optional_value(at, row, name) {
@@ -348,8 +347,8 @@ pub fn passed_over_digits(
     }
 }
 
-fn pass_over_digits(at: At, value: &Value) -> Result<(), InputFault>
-    ensures { Same (λ u. no_value) result (value_in at (passed_over digits) (view value.now)) }
+fn pass_over_digits(at: At, value: Given<'_>) -> Result<(), InputFault>
+    ensures { Same (λ u. no_value) result (value_in at (passed_over digits) (given_data value.entry)) }
 {
     match digits_in(at, value) {
         Ok(_) => Ok(()),
@@ -357,8 +356,8 @@ fn pass_over_digits(at: At, value: &Value) -> Result<(), InputFault>
     }
 }
 
-fn flag_in(at: At, value: &Value) -> Result<bool, InputFault>
-    ensures { Same (λ b. b) result (or_fault (Wrong at) (as_bool (view value.now))) }
+fn flag_in(at: At, value: Given<'_>) -> Result<bool, InputFault>
+    ensures { Same (λ b. b) result (or_fault (Wrong at) (as_bool (given_data value.entry))) }
 {
     match value.as_bool() {
         Some(given) => Ok(given),
@@ -368,9 +367,14 @@ fn flag_in(at: At, value: &Value) -> Result<bool, InputFault>
 
 /// A flag that is required.
 #[tactic(auto, unfolding(crate::specs::Reads::read_value))]
-pub fn needed_flag(number: usize, field: usize, row: &Value, name: &str) -> Result<bool, InputFault>
+pub fn needed_flag(
+    number: usize,
+    field: usize,
+    row: &GivenRow<'_>,
+    name: &str,
+) -> Result<bool, InputFault>
     ensures { Same (λ b. flag_atom b) result
-        (read_value (at number field) true no_value flag (value_under name.now (view row.now))) }
+        (read_value (at number field) true no_value flag (value_under name.now (row_data row.now))) }
 {
     let at = At::of_row(number, field);
     match needed_value(at, row, name) {
@@ -384,11 +388,11 @@ pub fn needed_flag(number: usize, field: usize, row: &Value, name: &str) -> Resu
 pub fn optional_flag(
     number: usize,
     field: usize,
-    row: &Value,
+    row: &GivenRow<'_>,
     name: &str,
 ) -> Result<bool, InputFault>
     ensures { Same (λ b. flag_atom b) result
-        (read_value (at number field) false (flag_atom false) flag (value_under name.now (view row.now))) }
+        (read_value (at number field) false (flag_atom false) flag (value_under name.now (row_data row.now))) }
 {
     let at = At::of_row(number, field);
     match optional_value(at, row, name) {
@@ -400,9 +404,14 @@ pub fn optional_flag(
 
 /// A flag that may not be set.
 #[tactic(auto, unfolding(crate::specs::Reads::read_value))]
-pub fn unset_flag(number: usize, field: usize, row: &Value, name: &str) -> Result<(), InputFault>
+pub fn unset_flag(
+    number: usize,
+    field: usize,
+    row: &GivenRow<'_>,
+    name: &str,
+) -> Result<(), InputFault>
     ensures { Same (λ u. flag_atom false) result
-        (read_value (at number field) false (flag_atom false) unset_flag (value_under name.now (view row.now))) }
+        (read_value (at number field) false (flag_atom false) unset_flag (value_under name.now (row_data row.now))) }
 {
     let at = At::of_row(number, field);
     match optional_value(at, row, name) {
@@ -412,8 +421,8 @@ pub fn unset_flag(number: usize, field: usize, row: &Value, name: &str) -> Resul
     }
 }
 
-fn unset_in(at: At, value: &Value) -> Result<(), InputFault>
-    ensures { Same (λ u. flag_atom false) result (value_in at unset_flag (view value.now)) }
+fn unset_in(at: At, value: Given<'_>) -> Result<(), InputFault>
+    ensures { Same (λ u. flag_atom false) result (value_in at unset_flag (given_data value.entry)) }
 {
     match value.as_bool() {
         Some(true) => Err(InputFault::Wrong(at)),
@@ -424,11 +433,22 @@ fn unset_in(at: At, value: &Value) -> Result<(), InputFault>
 
 // ---- the type and the span of a row
 
-pub fn type_of(number: usize, row: &Value) -> Result<NodeType, InputFault>
-    ensures { Same (λ t. t) result (type_of number (view row.now)) }
+#[tactic(auto, using(crate::proofs::TypeNames::typed))]
+pub fn type_of(number: usize, row: &GivenRow<'_>) -> Result<NodeType, InputFault>
+    ensures { Same (λ t. t) result (type_of number (row_data row.now)) }
+{
+    match row {
+        GivenRow::Flat(row) => Ok(row.node_type),
+        GivenRow::Json(_) => named_type(number, row),
+    }
+}
+
+/// The type by its name.
+fn named_type(number: usize, row: &GivenRow<'_>) -> Result<NodeType, InputFault>
+    ensures { Same (λ t. t) result (type_of number (row_data row.now)) }
 {
     let at = At::of_row(number, 0);
-    if row.as_object().is_none() {
+    if !row.is_object() {
         return Err(InputFault::Wrong(at));
     }
     let value = needed_value(at, row, "type")?;
@@ -439,19 +459,19 @@ pub fn type_of(number: usize, row: &Value) -> Result<NodeType, InputFault>
     }
 }
 
-fn offsets(items: &[Value]) -> Option<Span>
-    ensures { result ≡ offsets (map view items.now) }
+fn offsets(items: GivenItems<'_>) -> Option<Span>
+    ensures { result ≡ offsets (given_items items.entry) }
 {
-    let [start, end] = items else {
+    if items.len() != 2 {
         return None;
-    };
-    let start = short_number(start)?;
-    let end = short_number(end)?;
+    }
+    let start = short_number(items.item(0))?;
+    let end = short_number(items.item(1))?;
     Some(Span { start, end })
 }
 
-pub fn span_of(number: usize, row: &Value) -> Result<Span, InputFault>
-    ensures { Same (λ s. s) result (span_of number (view row.now)) }
+pub fn span_of(number: usize, row: &GivenRow<'_>) -> Result<Span, InputFault>
+    ensures { Same (λ s. s) result (span_of number (row_data row.now)) }
 {
     let at = At::of_row(number, 1);
     let Some(value) = optional_value(at, row, "span")? else {

@@ -1,13 +1,14 @@
 // Generated from tools/nodes/table.txt; edit that and run tools/nodes/generate.
 // Fields that hold a word.
 ghost use Rattle.std.specs.Prelude.{◌≡◌, true, option_map};
-ghost use Rattle.serde_json.specs.View.{view};
+ghost use Rattle.jsgen_fields.specs.Given.{row_data};
 ghost use Rattle.jsgen_tree.specs.Atom.{no_value, kind_of_comment, content_of_comment, source_kind, declaration_kind, binary_operator, logical_operator, property_kind, unary_operator, update_operator, assignment_operator, kind_of_function, class_form, kind_of_method, kind_of_import, with_keyword};
 ghost use Rattle.jsgen_tree.specs.Table.{word};
 ghost use Rattle.jsgen_tree.specs.Fields.{kind_of_comment_words, content_of_comment_words, source_kind_words, declaration_kind_words, binary_operator_words, logical_operator_words, property_kind_words, unary_operator_words, update_operator_words, assignment_operator_words, kind_of_function_words, class_form_words, kind_of_method_words, kind_of_import_words, with_keyword_words};
 ghost use Rattle.jsgen_fields.specs.Reads.{read_value};
 ghost use Rattle.jsgen_fields.specs.Values.{Same, at, field as value_under, word_meaning, words_of_length};
 
+use crate::given::GivenRow;
 use crate::values::needed_word;
 use crate::{At, InputFault};
 use jsgen_syntax::{
@@ -17,7 +18,6 @@ use jsgen_tree::{
     ClassKind, CommentContent, CommentKind, FunctionKind, ImportOrExportKind, MethodDefinitionKind,
     PropertyKind, VariableDeclarationKind, WithKeyword,
 };
-use serde_json::Value;
 
 fn kind_of_comment_by_word(word: &str) -> Option<CommentKind>
     ensures { option_map kind_of_comment result ≡ word_meaning kind_of_comment_words word.now }
@@ -35,11 +35,11 @@ fn kind_of_comment_by_word(word: &str) -> Option<CommentKind>
 pub fn needed_kind_of_comment(
     number: usize,
     field: usize,
-    row: &Value,
+    row: &GivenRow<'_>,
     name: &str,
 ) -> Result<CommentKind, InputFault>
     ensures { Same (λ o. kind_of_comment o) result
-        (read_value (at number field) true no_value (word kind_of_comment_words) (value_under name.now (view row.now))) }
+        (read_value (at number field) true no_value (word kind_of_comment_words) (value_under name.now (row_data row.now))) }
 {
     match needed_word(number, field, row, name) {
         Ok(word) => match kind_of_comment_by_word(word) {
@@ -153,11 +153,11 @@ fn content_of_comment_by_word(word: &str) -> Option<CommentContent>
 pub fn needed_content_of_comment(
     number: usize,
     field: usize,
-    row: &Value,
+    row: &GivenRow<'_>,
     name: &str,
 ) -> Result<CommentContent, InputFault>
     ensures { Same (λ o. content_of_comment o) result
-        (read_value (at number field) true no_value (word content_of_comment_words) (value_under name.now (view row.now))) }
+        (read_value (at number field) true no_value (word content_of_comment_words) (value_under name.now (row_data row.now))) }
 {
     match needed_word(number, field, row, name) {
         Ok(word) => match content_of_comment_by_word(word) {
@@ -180,11 +180,11 @@ fn source_kind_by_word(word: &str) -> Option<SourceKind>
 pub fn needed_source_kind(
     number: usize,
     field: usize,
-    row: &Value,
+    row: &GivenRow<'_>,
     name: &str,
 ) -> Result<SourceKind, InputFault>
     ensures { Same (λ o. source_kind o) result
-        (read_value (at number field) true no_value (word source_kind_words) (value_under name.now (view row.now))) }
+        (read_value (at number field) true no_value (word source_kind_words) (value_under name.now (row_data row.now))) }
 {
     match needed_word(number, field, row, name) {
         Ok(word) => match source_kind_by_word(word) {
@@ -209,11 +209,11 @@ fn declaration_kind_by_word(word: &str) -> Option<VariableDeclarationKind>
 pub fn needed_declaration_kind(
     number: usize,
     field: usize,
-    row: &Value,
+    row: &GivenRow<'_>,
     name: &str,
 ) -> Result<VariableDeclarationKind, InputFault>
     ensures { Same (λ o. declaration_kind o) result
-        (read_value (at number field) true no_value (word declaration_kind_words) (value_under name.now (view row.now))) }
+        (read_value (at number field) true no_value (word declaration_kind_words) (value_under name.now (row_data row.now))) }
 {
     match needed_word(number, field, row, name) {
         Ok(word) => match declaration_kind_by_word(word) {
@@ -293,11 +293,11 @@ fn binary_operator_by_word(word: &str) -> Option<BinaryOperator>
 pub fn needed_binary_operator(
     number: usize,
     field: usize,
-    row: &Value,
+    row: &GivenRow<'_>,
     name: &str,
 ) -> Result<BinaryOperator, InputFault>
     ensures { Same (λ o. binary_operator o) result
-        (read_value (at number field) true no_value (word binary_operator_words) (value_under name.now (view row.now))) }
+        (read_value (at number field) true no_value (word binary_operator_words) (value_under name.now (row_data row.now))) }
 {
     match needed_word(number, field, row, name) {
         Ok(word) => match binary_operator_by_word(word) {
@@ -322,11 +322,11 @@ fn logical_operator_by_word(word: &str) -> Option<LogicalOperator>
 pub fn needed_logical_operator(
     number: usize,
     field: usize,
-    row: &Value,
+    row: &GivenRow<'_>,
     name: &str,
 ) -> Result<LogicalOperator, InputFault>
     ensures { Same (λ o. logical_operator o) result
-        (read_value (at number field) true no_value (word logical_operator_words) (value_under name.now (view row.now))) }
+        (read_value (at number field) true no_value (word logical_operator_words) (value_under name.now (row_data row.now))) }
 {
     match needed_word(number, field, row, name) {
         Ok(word) => match logical_operator_by_word(word) {
@@ -351,11 +351,11 @@ fn property_kind_by_word(word: &str) -> Option<PropertyKind>
 pub fn needed_property_kind(
     number: usize,
     field: usize,
-    row: &Value,
+    row: &GivenRow<'_>,
     name: &str,
 ) -> Result<PropertyKind, InputFault>
     ensures { Same (λ o. property_kind o) result
-        (read_value (at number field) true no_value (word property_kind_words) (value_under name.now (view row.now))) }
+        (read_value (at number field) true no_value (word property_kind_words) (value_under name.now (row_data row.now))) }
 {
     match needed_word(number, field, row, name) {
         Ok(word) => match property_kind_by_word(word) {
@@ -411,11 +411,11 @@ fn unary_operator_by_word(word: &str) -> Option<UnaryOperator>
 pub fn needed_unary_operator(
     number: usize,
     field: usize,
-    row: &Value,
+    row: &GivenRow<'_>,
     name: &str,
 ) -> Result<UnaryOperator, InputFault>
     ensures { Same (λ o. unary_operator o) result
-        (read_value (at number field) true no_value (word unary_operator_words) (value_under name.now (view row.now))) }
+        (read_value (at number field) true no_value (word unary_operator_words) (value_under name.now (row_data row.now))) }
 {
     match needed_word(number, field, row, name) {
         Ok(word) => match unary_operator_by_word(word) {
@@ -439,11 +439,11 @@ fn update_operator_by_word(word: &str) -> Option<UpdateOperator>
 pub fn needed_update_operator(
     number: usize,
     field: usize,
-    row: &Value,
+    row: &GivenRow<'_>,
     name: &str,
 ) -> Result<UpdateOperator, InputFault>
     ensures { Same (λ o. update_operator o) result
-        (read_value (at number field) true no_value (word update_operator_words) (value_under name.now (view row.now))) }
+        (read_value (at number field) true no_value (word update_operator_words) (value_under name.now (row_data row.now))) }
 {
     match needed_word(number, field, row, name) {
         Ok(word) => match update_operator_by_word(word) {
@@ -517,11 +517,11 @@ fn assignment_operator_by_word(word: &str) -> Option<AssignmentOperator>
 pub fn needed_assignment_operator(
     number: usize,
     field: usize,
-    row: &Value,
+    row: &GivenRow<'_>,
     name: &str,
 ) -> Result<AssignmentOperator, InputFault>
     ensures { Same (λ o. assignment_operator o) result
-        (read_value (at number field) true no_value (word assignment_operator_words) (value_under name.now (view row.now))) }
+        (read_value (at number field) true no_value (word assignment_operator_words) (value_under name.now (row_data row.now))) }
 {
     match needed_word(number, field, row, name) {
         Ok(word) => match assignment_operator_by_word(word) {
@@ -545,11 +545,11 @@ fn kind_of_function_by_word(word: &str) -> Option<FunctionKind>
 pub fn needed_kind_of_function(
     number: usize,
     field: usize,
-    row: &Value,
+    row: &GivenRow<'_>,
     name: &str,
 ) -> Result<FunctionKind, InputFault>
     ensures { Same (λ o. kind_of_function o) result
-        (read_value (at number field) true no_value (word kind_of_function_words) (value_under name.now (view row.now))) }
+        (read_value (at number field) true no_value (word kind_of_function_words) (value_under name.now (row_data row.now))) }
 {
     match needed_word(number, field, row, name) {
         Ok(word) => match kind_of_function_by_word(word) {
@@ -573,11 +573,11 @@ fn class_form_by_word(word: &str) -> Option<ClassKind>
 pub fn needed_class_form(
     number: usize,
     field: usize,
-    row: &Value,
+    row: &GivenRow<'_>,
     name: &str,
 ) -> Result<ClassKind, InputFault>
     ensures { Same (λ o. class_form o) result
-        (read_value (at number field) true no_value (word class_form_words) (value_under name.now (view row.now))) }
+        (read_value (at number field) true no_value (word class_form_words) (value_under name.now (row_data row.now))) }
 {
     match needed_word(number, field, row, name) {
         Ok(word) => match class_form_by_word(word) {
@@ -603,11 +603,11 @@ fn kind_of_method_by_word(word: &str) -> Option<MethodDefinitionKind>
 pub fn needed_kind_of_method(
     number: usize,
     field: usize,
-    row: &Value,
+    row: &GivenRow<'_>,
     name: &str,
 ) -> Result<MethodDefinitionKind, InputFault>
     ensures { Same (λ o. kind_of_method o) result
-        (read_value (at number field) true no_value (word kind_of_method_words) (value_under name.now (view row.now))) }
+        (read_value (at number field) true no_value (word kind_of_method_words) (value_under name.now (row_data row.now))) }
 {
     match needed_word(number, field, row, name) {
         Ok(word) => match kind_of_method_by_word(word) {
@@ -630,11 +630,11 @@ fn kind_of_import_by_word(word: &str) -> Option<ImportOrExportKind>
 pub fn needed_kind_of_import(
     number: usize,
     field: usize,
-    row: &Value,
+    row: &GivenRow<'_>,
     name: &str,
 ) -> Result<ImportOrExportKind, InputFault>
     ensures { Same (λ o. kind_of_import o) result
-        (read_value (at number field) true no_value (word kind_of_import_words) (value_under name.now (view row.now))) }
+        (read_value (at number field) true no_value (word kind_of_import_words) (value_under name.now (row_data row.now))) }
 {
     match needed_word(number, field, row, name) {
         Ok(word) => match kind_of_import_by_word(word) {
@@ -657,11 +657,11 @@ fn with_keyword_by_word(word: &str) -> Option<WithKeyword>
 pub fn needed_with_keyword(
     number: usize,
     field: usize,
-    row: &Value,
+    row: &GivenRow<'_>,
     name: &str,
 ) -> Result<WithKeyword, InputFault>
     ensures { Same (λ o. with_keyword o) result
-        (read_value (at number field) true no_value (word with_keyword_words) (value_under name.now (view row.now))) }
+        (read_value (at number field) true no_value (word with_keyword_words) (value_under name.now (row_data row.now))) }
 {
     match needed_word(number, field, row, name) {
         Ok(word) => match with_keyword_by_word(word) {

@@ -1,7 +1,7 @@
 // Generated from tools/nodes/table.txt; edit that and run tools/nodes/generate.
 // Rows of a job: imports and exports (ECMA-262, 16.2), and the hashbang of a program (12.5).
 ghost use Rattle.std.specs.Prelude.{◌≡◌, false};
-ghost use Rattle.serde_json.specs.View.{view};
+ghost use Rattle.jsgen_fields.specs.Given.{row_data};
 ghost use Rattle.jsgen_tree.specs.RowFields.{hashbang_fields, import_declaration_fields, import_default_specifier_fields, import_namespace_specifier_fields, import_specifier_fields, with_clause_fields, import_attribute_fields, export_declaration_fields, export_named_declaration_fields, export_from_declaration_fields, export_specifier_fields, export_all_declaration_fields, export_default_declaration_fields};
 ghost use Rattle.jsgen_fields.specs.Reads.{Gives, read_node, read_typed};
 ghost use Rattle.jsgen_pool.specs.Pool.{entries};
@@ -10,6 +10,7 @@ ghost use Rattle.jsgen_tree.specs.declared.types.NodeType.TheVariants as types;
 
 use jsgen_fields::InputFault;
 use jsgen_fields::fields::boxed;
+use jsgen_fields::given::GivenRow;
 use jsgen_fields::list_fields::{
     export_specifier_list, import_attribute_list, optional_import_declaration_specifier_list,
 };
@@ -36,7 +37,6 @@ use jsgen_tree::{
     ImportDefaultSpecifier, ImportNamespaceSpecifier, ImportSpecifier, NodeType, Statement,
     WithClause,
 };
-use serde_json::Value;
 use std::alloc::Global;
 
 #[tactic(auto, unfolding(jsgen_fields::specs::Reads::read_node))]
@@ -45,10 +45,10 @@ fn read_hashbang<N: HasType + Drop, R: RowOf<N> + Drop>(
     kept: &mut Vec<Kept<R>>,
     number: usize,
     span: Span,
-    row: &Value,
+    row: &GivenRow<'_>,
 ) -> Result<R, InputFault>
     ensures { Gives R.plain result (entries R.plain kept.new.items)
-        (read_node number types.Hashbang hashbang_fields span (view row.now) (entries R.plain kept.old.items)) }
+        (read_node number types.Hashbang hashbang_fields span (row_data row.now) (entries R.plain kept.old.items)) }
 {
     let _ = kept;
     let value = match needed_text(alloc, number, 2, row, "value") {
@@ -68,10 +68,10 @@ fn read_import_declaration<N: HasType + Drop, R: RowOf<N> + Drop>(
     kept: &mut Vec<Kept<R>>,
     number: usize,
     span: Span,
-    row: &Value,
+    row: &GivenRow<'_>,
 ) -> Result<R, InputFault>
     ensures { Gives R.plain result (entries R.plain kept.new.items)
-        (read_node number types.ImportDeclaration import_declaration_fields span (view row.now) (entries R.plain kept.old.items)) }
+        (read_node number types.ImportDeclaration import_declaration_fields span (row_data row.now) (entries R.plain kept.old.items)) }
 {
     let import_kind = match needed_kind_of_import(number, 2, row, "import_kind") {
         Ok(import_kind) => import_kind,
@@ -131,10 +131,10 @@ fn read_import_default_specifier<N: HasType + Drop, R: RowOf<N> + Drop>(
     kept: &mut Vec<Kept<R>>,
     number: usize,
     span: Span,
-    row: &Value,
+    row: &GivenRow<'_>,
 ) -> Result<R, InputFault>
     ensures { Gives R.plain result (entries R.plain kept.new.items)
-        (read_node number types.ImportDefaultSpecifier import_default_specifier_fields span (view row.now) (entries R.plain kept.old.items)) }
+        (read_node number types.ImportDefaultSpecifier import_default_specifier_fields span (row_data row.now) (entries R.plain kept.old.items)) }
 {
     let local = match needed_binding_identifier::<N, R>(alloc, kept, number, 2, row, "local") {
         Ok(local) => local,
@@ -153,10 +153,10 @@ fn read_import_namespace_specifier<N: HasType + Drop, R: RowOf<N> + Drop>(
     kept: &mut Vec<Kept<R>>,
     number: usize,
     span: Span,
-    row: &Value,
+    row: &GivenRow<'_>,
 ) -> Result<R, InputFault>
     ensures { Gives R.plain result (entries R.plain kept.new.items)
-        (read_node number types.ImportNamespaceSpecifier import_namespace_specifier_fields span (view row.now) (entries R.plain kept.old.items)) }
+        (read_node number types.ImportNamespaceSpecifier import_namespace_specifier_fields span (row_data row.now) (entries R.plain kept.old.items)) }
 {
     let local = match needed_binding_identifier::<N, R>(alloc, kept, number, 2, row, "local") {
         Ok(local) => local,
@@ -175,10 +175,10 @@ fn read_import_specifier<N: HasType + Drop, R: RowOf<N> + Drop>(
     kept: &mut Vec<Kept<R>>,
     number: usize,
     span: Span,
-    row: &Value,
+    row: &GivenRow<'_>,
 ) -> Result<R, InputFault>
     ensures { Gives R.plain result (entries R.plain kept.new.items)
-        (read_node number types.ImportSpecifier import_specifier_fields span (view row.now) (entries R.plain kept.old.items)) }
+        (read_node number types.ImportSpecifier import_specifier_fields span (row_data row.now) (entries R.plain kept.old.items)) }
 {
     let import_kind = match needed_kind_of_import(number, 2, row, "import_kind") {
         Ok(import_kind) => import_kind,
@@ -212,10 +212,10 @@ fn read_with_clause<N: HasType + Drop, R: RowOf<N> + Drop>(
     kept: &mut Vec<Kept<R>>,
     number: usize,
     span: Span,
-    row: &Value,
+    row: &GivenRow<'_>,
 ) -> Result<R, InputFault>
     ensures { Gives R.plain result (entries R.plain kept.new.items)
-        (read_node number types.WithClause with_clause_fields span (view row.now) (entries R.plain kept.old.items)) }
+        (read_node number types.WithClause with_clause_fields span (row_data row.now) (entries R.plain kept.old.items)) }
 {
     let keyword = match needed_with_keyword(number, 2, row, "keyword") {
         Ok(keyword) => keyword,
@@ -242,10 +242,10 @@ fn read_import_attribute<N: HasType + Drop, R: RowOf<N> + Drop>(
     kept: &mut Vec<Kept<R>>,
     number: usize,
     span: Span,
-    row: &Value,
+    row: &GivenRow<'_>,
 ) -> Result<R, InputFault>
     ensures { Gives R.plain result (entries R.plain kept.new.items)
-        (read_node number types.ImportAttribute import_attribute_fields span (view row.now) (entries R.plain kept.old.items)) }
+        (read_node number types.ImportAttribute import_attribute_fields span (row_data row.now) (entries R.plain kept.old.items)) }
 {
     let key = match needed_import_attribute_key::<N, R>(alloc, kept, number, 2, row, "key") {
         Ok(key) => key,
@@ -268,10 +268,10 @@ fn read_export_declaration<N: HoldsDeclaration + Drop, R: RowOf<N> + Drop>(
     kept: &mut Vec<Kept<R>>,
     number: usize,
     span: Span,
-    row: &Value,
+    row: &GivenRow<'_>,
 ) -> Result<R, InputFault>
     ensures { Gives R.plain result (entries R.plain kept.new.items)
-        (read_node number types.ExportDeclaration export_declaration_fields span (view row.now) (entries R.plain kept.old.items)) }
+        (read_node number types.ExportDeclaration export_declaration_fields span (row_data row.now) (entries R.plain kept.old.items)) }
 {
     let declaration = match needed_declaration::<N, R>(alloc, kept, number, 2, row, "declaration") {
         Ok(declaration) => declaration,
@@ -295,10 +295,10 @@ fn read_export_named_declaration<N: HasType + Drop, R: RowOf<N> + Drop>(
     kept: &mut Vec<Kept<R>>,
     number: usize,
     span: Span,
-    row: &Value,
+    row: &GivenRow<'_>,
 ) -> Result<R, InputFault>
     ensures { Gives R.plain result (entries R.plain kept.new.items)
-        (read_node number types.ExportNamedDeclaration export_named_declaration_fields span (view row.now) (entries R.plain kept.old.items)) }
+        (read_node number types.ExportNamedDeclaration export_named_declaration_fields span (row_data row.now) (entries R.plain kept.old.items)) }
 {
     let export_kind = match needed_kind_of_import(number, 2, row, "export_kind") {
         Ok(export_kind) => export_kind,
@@ -337,10 +337,10 @@ fn read_export_from_declaration<N: HasType + Drop, R: RowOf<N> + Drop>(
     kept: &mut Vec<Kept<R>>,
     number: usize,
     span: Span,
-    row: &Value,
+    row: &GivenRow<'_>,
 ) -> Result<R, InputFault>
     ensures { Gives R.plain result (entries R.plain kept.new.items)
-        (read_node number types.ExportFromDeclaration export_from_declaration_fields span (view row.now) (entries R.plain kept.old.items)) }
+        (read_node number types.ExportFromDeclaration export_from_declaration_fields span (row_data row.now) (entries R.plain kept.old.items)) }
 {
     let export_kind = match needed_kind_of_import(number, 2, row, "export_kind") {
         Ok(export_kind) => export_kind,
@@ -396,10 +396,10 @@ fn read_export_specifier<N: HasType + Drop, R: RowOf<N> + Drop>(
     kept: &mut Vec<Kept<R>>,
     number: usize,
     span: Span,
-    row: &Value,
+    row: &GivenRow<'_>,
 ) -> Result<R, InputFault>
     ensures { Gives R.plain result (entries R.plain kept.new.items)
-        (read_node number types.ExportSpecifier export_specifier_fields span (view row.now) (entries R.plain kept.old.items)) }
+        (read_node number types.ExportSpecifier export_specifier_fields span (row_data row.now) (entries R.plain kept.old.items)) }
 {
     let export_kind = match needed_kind_of_import(number, 2, row, "export_kind") {
         Ok(export_kind) => export_kind,
@@ -433,10 +433,10 @@ fn read_export_all_declaration<N: HasType + Drop, R: RowOf<N> + Drop>(
     kept: &mut Vec<Kept<R>>,
     number: usize,
     span: Span,
-    row: &Value,
+    row: &GivenRow<'_>,
 ) -> Result<R, InputFault>
     ensures { Gives R.plain result (entries R.plain kept.new.items)
-        (read_node number types.ExportAllDeclaration export_all_declaration_fields span (view row.now) (entries R.plain kept.old.items)) }
+        (read_node number types.ExportAllDeclaration export_all_declaration_fields span (row_data row.now) (entries R.plain kept.old.items)) }
 {
     let export_kind = match needed_kind_of_import(number, 2, row, "export_kind") {
         Ok(export_kind) => export_kind,
@@ -487,10 +487,10 @@ fn read_export_default_declaration<N: HoldsExpression + Drop, R: RowOf<N> + Drop
     kept: &mut Vec<Kept<R>>,
     number: usize,
     span: Span,
-    row: &Value,
+    row: &GivenRow<'_>,
 ) -> Result<R, InputFault>
     ensures { Gives R.plain result (entries R.plain kept.new.items)
-        (read_node number types.ExportDefaultDeclaration export_default_declaration_fields span (view row.now) (entries R.plain kept.old.items)) }
+        (read_node number types.ExportDefaultDeclaration export_default_declaration_fields span (row_data row.now) (entries R.plain kept.old.items)) }
 {
     let declaration = match needed_export_default_declaration_kind::<N, R>(
         alloc,
@@ -522,7 +522,7 @@ pub fn read_in_modules<N: ReadNode + Drop, R: RowOf<N> + Drop>(
     node_type: NodeType,
     number: usize,
     span: Span,
-    row: &Value,
+    row: &GivenRow<'_>,
 ) -> Result<R, InputFault>
     requires not_in_statements { is_in_statements node_type ≡ false }
     requires not_in_expressions { is_in_expressions node_type ≡ false }
@@ -537,7 +537,7 @@ pub fn read_in_modules<N: ReadNode + Drop, R: RowOf<N> + Drop>(
     requires not_in_targets { is_in_targets node_type ≡ false }
     requires not_in_classes { is_in_classes node_type ≡ false }
     ensures { Gives R.plain result (entries R.plain kept.new.items)
-        (read_typed number node_type span (view row.now) (entries R.plain kept.old.items)) }
+        (read_typed number node_type span (row_data row.now) (entries R.plain kept.old.items)) }
 {
     match node_type {
         NodeType::Hashbang => read_hashbang::<N, R>(alloc, kept, number, span, row),

@@ -1,7 +1,7 @@
 // Generated from tools/nodes/table.txt; edit that and run tools/nodes/generate.
 // Rows of a job: patterns that are bound (ECMA-262, 14.3.3).
 ghost use Rattle.std.specs.Prelude.{◌≡◌, true};
-ghost use Rattle.serde_json.specs.View.{view};
+ghost use Rattle.jsgen_fields.specs.Given.{row_data};
 ghost use Rattle.jsgen_tree.specs.RowFields.{object_pattern_fields, binding_property_fields, binding_rest_element_fields, array_pattern_fields, assignment_pattern_fields};
 ghost use Rattle.jsgen_fields.specs.Reads.{Gives, read_node, read_typed};
 ghost use Rattle.jsgen_pool.specs.Pool.{entries};
@@ -10,6 +10,7 @@ ghost use Rattle.jsgen_tree.specs.declared.types.NodeType.TheVariants as types;
 
 use jsgen_fields::InputFault;
 use jsgen_fields::fields::boxed;
+use jsgen_fields::given::GivenRow;
 use jsgen_fields::list_fields::{binding_pattern_or_hole_list, binding_property_list};
 use jsgen_fields::set_fields::{
     needed_binding_pattern, needed_expression, needed_property_key, optional_binding_rest_element,
@@ -24,7 +25,6 @@ use jsgen_tree::{
     ArrayPattern, AssignmentPattern, BindingPattern, BindingProperty, BindingRestElement, HasType,
     NodeType, ObjectPattern,
 };
-use serde_json::Value;
 use std::alloc::Global;
 
 #[tactic(auto, unfolding(jsgen_fields::specs::Reads::read_node))]
@@ -33,10 +33,10 @@ fn read_object_pattern<N: HasType + Drop, R: RowOf<N> + Drop>(
     kept: &mut Vec<Kept<R>>,
     number: usize,
     span: Span,
-    row: &Value,
+    row: &GivenRow<'_>,
 ) -> Result<R, InputFault>
     ensures { Gives R.plain result (entries R.plain kept.new.items)
-        (read_node number types.ObjectPattern object_pattern_fields span (view row.now) (entries R.plain kept.old.items)) }
+        (read_node number types.ObjectPattern object_pattern_fields span (row_data row.now) (entries R.plain kept.old.items)) }
 {
     let properties = match binding_property_list::<N, R>(
         alloc,
@@ -70,10 +70,10 @@ fn read_binding_property<N: HoldsExpression + HoldsBindingPattern + Drop, R: Row
     kept: &mut Vec<Kept<R>>,
     number: usize,
     span: Span,
-    row: &Value,
+    row: &GivenRow<'_>,
 ) -> Result<R, InputFault>
     ensures { Gives R.plain result (entries R.plain kept.new.items)
-        (read_node number types.BindingProperty binding_property_fields span (view row.now) (entries R.plain kept.old.items)) }
+        (read_node number types.BindingProperty binding_property_fields span (row_data row.now) (entries R.plain kept.old.items)) }
 {
     let key = match needed_property_key::<N, R>(alloc, kept, number, 2, row, "key") {
         Ok(key) => key,
@@ -105,10 +105,10 @@ fn read_binding_rest_element<N: HoldsBindingPattern + Drop, R: RowOf<N> + Drop>(
     kept: &mut Vec<Kept<R>>,
     number: usize,
     span: Span,
-    row: &Value,
+    row: &GivenRow<'_>,
 ) -> Result<R, InputFault>
     ensures { Gives R.plain result (entries R.plain kept.new.items)
-        (read_node number types.BindingRestElement binding_rest_element_fields span (view row.now) (entries R.plain kept.old.items)) }
+        (read_node number types.BindingRestElement binding_rest_element_fields span (row_data row.now) (entries R.plain kept.old.items)) }
 {
     let argument = match needed_binding_pattern::<N, R>(alloc, kept, number, 2, row, "argument") {
         Ok(argument) => argument,
@@ -127,10 +127,10 @@ fn read_array_pattern<N: HoldsBindingPattern + Drop, R: RowOf<N> + Drop>(
     kept: &mut Vec<Kept<R>>,
     number: usize,
     span: Span,
-    row: &Value,
+    row: &GivenRow<'_>,
 ) -> Result<R, InputFault>
     ensures { Gives R.plain result (entries R.plain kept.new.items)
-        (read_node number types.ArrayPattern array_pattern_fields span (view row.now) (entries R.plain kept.old.items)) }
+        (read_node number types.ArrayPattern array_pattern_fields span (row_data row.now) (entries R.plain kept.old.items)) }
 {
     let elements = match binding_pattern_or_hole_list::<N, R>(
         alloc, kept, number, 2, row, "elements",
@@ -159,10 +159,10 @@ fn read_assignment_pattern<N: HoldsExpression + HoldsBindingPattern + Drop, R: R
     kept: &mut Vec<Kept<R>>,
     number: usize,
     span: Span,
-    row: &Value,
+    row: &GivenRow<'_>,
 ) -> Result<R, InputFault>
     ensures { Gives R.plain result (entries R.plain kept.new.items)
-        (read_node number types.AssignmentPattern assignment_pattern_fields span (view row.now) (entries R.plain kept.old.items)) }
+        (read_node number types.AssignmentPattern assignment_pattern_fields span (row_data row.now) (entries R.plain kept.old.items)) }
 {
     let left = match needed_binding_pattern::<N, R>(alloc, kept, number, 2, row, "left") {
         Ok(left) => left,
@@ -186,11 +186,11 @@ pub fn read_in_patterns<N: ReadNode + Drop, R: RowOf<N> + Drop>(
     node_type: NodeType,
     number: usize,
     span: Span,
-    row: &Value,
+    row: &GivenRow<'_>,
 ) -> Result<R, InputFault>
     requires { is_in_patterns node_type ≡ true }
     ensures { Gives R.plain result (entries R.plain kept.new.items)
-        (read_typed number node_type span (view row.now) (entries R.plain kept.old.items)) }
+        (read_typed number node_type span (row_data row.now) (entries R.plain kept.old.items)) }
 {
     match node_type {
         NodeType::ObjectPattern => read_object_pattern::<N, R>(alloc, kept, number, span, row),

@@ -1,7 +1,7 @@
 // Generated from tools/nodes/table.txt; edit that and run tools/nodes/generate.
 // Rows of a job: patterns that are given values (ECMA-262, 13.15.5).
 ghost use Rattle.std.specs.Prelude.{◌≡◌, true};
-ghost use Rattle.serde_json.specs.View.{view};
+ghost use Rattle.jsgen_fields.specs.Given.{row_data};
 ghost use Rattle.jsgen_tree.specs.RowFields.{array_assignment_target_fields, object_assignment_target_fields, assignment_target_with_default_fields, assignment_target_property_identifier_fields, assignment_target_property_property_fields, assignment_target_rest_fields};
 ghost use Rattle.jsgen_fields.specs.Reads.{Gives, read_node, read_typed};
 ghost use Rattle.jsgen_pool.specs.Pool.{entries};
@@ -10,6 +10,7 @@ ghost use Rattle.jsgen_tree.specs.declared.types.NodeType.TheVariants as types;
 
 use jsgen_fields::InputFault;
 use jsgen_fields::fields::boxed;
+use jsgen_fields::given::GivenRow;
 use jsgen_fields::list_fields::{
     assignment_target_maybe_default_or_hole_list, assignment_target_property_list,
 };
@@ -33,7 +34,6 @@ use jsgen_tree::{
     AssignmentTargetPropertyProperty, AssignmentTargetRest, AssignmentTargetWithDefault, HasType,
     NodeType, ObjectAssignmentTarget,
 };
-use serde_json::Value;
 use std::alloc::Global;
 
 #[tactic(auto, unfolding(jsgen_fields::specs::Reads::read_node))]
@@ -42,10 +42,10 @@ fn read_array_assignment_target<N: HoldsAssignmentTarget + Drop, R: RowOf<N> + D
     kept: &mut Vec<Kept<R>>,
     number: usize,
     span: Span,
-    row: &Value,
+    row: &GivenRow<'_>,
 ) -> Result<R, InputFault>
     ensures { Gives R.plain result (entries R.plain kept.new.items)
-        (read_node number types.ArrayAssignmentTarget array_assignment_target_fields span (view row.now) (entries R.plain kept.old.items)) }
+        (read_node number types.ArrayAssignmentTarget array_assignment_target_fields span (row_data row.now) (entries R.plain kept.old.items)) }
 {
     let elements = match assignment_target_maybe_default_or_hole_list::<N, R>(
         alloc, kept, number, 2, row, "elements",
@@ -79,10 +79,10 @@ fn read_object_assignment_target<N: HasType + Drop, R: RowOf<N> + Drop>(
     kept: &mut Vec<Kept<R>>,
     number: usize,
     span: Span,
-    row: &Value,
+    row: &GivenRow<'_>,
 ) -> Result<R, InputFault>
     ensures { Gives R.plain result (entries R.plain kept.new.items)
-        (read_node number types.ObjectAssignmentTarget object_assignment_target_fields span (view row.now) (entries R.plain kept.old.items)) }
+        (read_node number types.ObjectAssignmentTarget object_assignment_target_fields span (row_data row.now) (entries R.plain kept.old.items)) }
 {
     let properties = match assignment_target_property_list::<N, R>(
         alloc,
@@ -124,10 +124,10 @@ fn read_assignment_target_with_default<
     kept: &mut Vec<Kept<R>>,
     number: usize,
     span: Span,
-    row: &Value,
+    row: &GivenRow<'_>,
 ) -> Result<R, InputFault>
     ensures { Gives R.plain result (entries R.plain kept.new.items)
-        (read_node number types.AssignmentTargetWithDefault assignment_target_with_default_fields span (view row.now) (entries R.plain kept.old.items)) }
+        (read_node number types.AssignmentTargetWithDefault assignment_target_with_default_fields span (row_data row.now) (entries R.plain kept.old.items)) }
 {
     let binding = match needed_assignment_target::<N, R>(alloc, kept, number, 2, row, "binding") {
         Ok(binding) => binding,
@@ -154,10 +154,10 @@ fn read_assignment_target_property_identifier<N: HoldsExpression + Drop, R: RowO
     kept: &mut Vec<Kept<R>>,
     number: usize,
     span: Span,
-    row: &Value,
+    row: &GivenRow<'_>,
 ) -> Result<R, InputFault>
     ensures { Gives R.plain result (entries R.plain kept.new.items)
-        (read_node number types.AssignmentTargetPropertyIdentifier assignment_target_property_identifier_fields span (view row.now) (entries R.plain kept.old.items)) }
+        (read_node number types.AssignmentTargetPropertyIdentifier assignment_target_property_identifier_fields span (row_data row.now) (entries R.plain kept.old.items)) }
 {
     let binding = match needed_identifier_reference::<N, R>(
         alloc, kept, number, 2, row, "binding",
@@ -189,10 +189,10 @@ fn read_assignment_target_property_property<
     kept: &mut Vec<Kept<R>>,
     number: usize,
     span: Span,
-    row: &Value,
+    row: &GivenRow<'_>,
 ) -> Result<R, InputFault>
     ensures { Gives R.plain result (entries R.plain kept.new.items)
-        (read_node number types.AssignmentTargetPropertyProperty assignment_target_property_property_fields span (view row.now) (entries R.plain kept.old.items)) }
+        (read_node number types.AssignmentTargetPropertyProperty assignment_target_property_property_fields span (row_data row.now) (entries R.plain kept.old.items)) }
 {
     let name = match needed_property_key::<N, R>(alloc, kept, number, 2, row, "name") {
         Ok(name) => name,
@@ -226,10 +226,10 @@ fn read_assignment_target_rest<N: HoldsAssignmentTarget + Drop, R: RowOf<N> + Dr
     kept: &mut Vec<Kept<R>>,
     number: usize,
     span: Span,
-    row: &Value,
+    row: &GivenRow<'_>,
 ) -> Result<R, InputFault>
     ensures { Gives R.plain result (entries R.plain kept.new.items)
-        (read_node number types.AssignmentTargetRest assignment_target_rest_fields span (view row.now) (entries R.plain kept.old.items)) }
+        (read_node number types.AssignmentTargetRest assignment_target_rest_fields span (row_data row.now) (entries R.plain kept.old.items)) }
 {
     let target = match needed_assignment_target::<N, R>(alloc, kept, number, 2, row, "target") {
         Ok(target) => target,
@@ -249,11 +249,11 @@ pub fn read_in_targets<N: ReadNode + Drop, R: RowOf<N> + Drop>(
     node_type: NodeType,
     number: usize,
     span: Span,
-    row: &Value,
+    row: &GivenRow<'_>,
 ) -> Result<R, InputFault>
     requires { is_in_targets node_type ≡ true }
     ensures { Gives R.plain result (entries R.plain kept.new.items)
-        (read_typed number node_type span (view row.now) (entries R.plain kept.old.items)) }
+        (read_typed number node_type span (row_data row.now) (entries R.plain kept.old.items)) }
 {
     match node_type {
         NodeType::ArrayAssignmentTarget => read_array_assignment_target::<N, R>(

@@ -6,12 +6,17 @@ use Rattle.jsgen_tree.specs.declared.types.NodeSet.{NodeSet}
 use Rattle.jsgen_fields.specs.declared.At.{At}
 use Rattle.jsgen_fields.specs.declared.InputFault.{InputFault}
 use Rattle.jsgen_fields.specs.declared.InputFault.TheVariants.{Wrong}
-use Rattle.jsgen_fields.specs.Values.{after, at, rows_in}
+use Rattle.jsgen_fields.specs.Values.{after, at, rows_in, some_rows, options_in, tables_in}
 use Rattle.jsgen_pool.specs.Pool.{Entry, there}
 use Rattle.jsgen_fields.specs.Reads.{read_row, read_rows, root_of, root_found, read_program}
-use Rattle.jsgen_fields.specs.Meaning.{Mark, fault, use_of, is_used, found_faults, mark_faults, with_mark, with_marks, faults_in, row_marks, row_tree, root_tree, root_faults, trees_after, faults_after, unless, no_tree, rows_meaning, program_meaning}
+use Rattle.jsgen_fields.specs.Meaning.{Mark, fault, use_of, is_used, found_faults, mark_faults, with_mark, with_marks, faults_in, row_marks, row_tree, root_tree, root_faults, trees_after, faults_after, unless, no_tree, rows_meaning, program_meaning, value_meaning}
 use Rattle.jsgen_kept.specs.Kept.{is_program}
 use Rattle.jsgen_fields.proofs.Listed.{length-last}
+use Rattle.jsgen_tree.specs.Job.{Tables}
+use Rattle.jsgen_tree.specs.Options.{Options}
+use Rattle.jsgen_flat.specs.Flat.{Sections, rows_of}
+use Rattle.jsgen_rows.specs.Job.{head_in}
+use Rattle.jsgen_rows.specs.Heads.{job_with, rows_read}
 use Rattle.jsgen_rows.proofs.Pool.{pool, seen, pool-length, pool-get, pool-push, other_eq}
 use Rattle.jsgen_rows.proofs.RowSteps.{after-after, row_read}
 
@@ -70,10 +75,10 @@ root_read e u h =
     ∙ ap (λ b. root_found (at (length e - 1) 0) (option_map (seen b) (slice_get e (length e - 1)))) h
     ∙ root_unless (at (length e - 1) 0) (slice_get e (length e - 1))
 
-rows_read : (e : List Tree) (u : List ℕ) (ds : List Data) → Fresh e u → is_used u (length e - 1) ≡ false
+read_on : (e : List Tree) (u : List ℕ) (ds : List Data) → Fresh e u → is_used u (length e - 1) ≡ false
     → after (read_rows ds (pool e u)) root_of ≡ unless (faults_after e u ds) (unwrap_or (root_tree (trees_after e ds)) no_tree)
-rows_read e u [] fresh last = root_read e u last
-rows_read e u (d ∷ ds) fresh last =
+read_on e u [] fresh last = root_read e u last
+read_on e u (d ∷ ds) fresh last =
     let t : Tree = row_tree e d in
     let ms : List Mark = row_marks (length e) d in
     let v : List ℕ = with_marks u ms in
@@ -82,14 +87,14 @@ rows_read e u (d ∷ ds) fresh last =
     let f : Fresh e v = fresh_marks e u ms h fresh in
     let free : is_used v (length e) ≡ false = f (length e) (get_past e) in
     ap (λ k. after (read_rows ds k) root_of) (sym (pool-push (is_used v) e t free))
-    ∙ rows_read (e ++ t ∷ []) v ds (λ i n. f i (get_before e (t ∷ []) i n)) (ap (is_used v) (length-last e t) ∙ free) in
+    ∙ read_on (e ++ t ∷ []) v ds (λ i n. f i (get_before e (t ∷ []) i n)) (ap (is_used v) (length-last e t) ∙ free) in
     after-after (read_row (length (pool e u)) d (pool e u)) (λ p. read_rows ds (p.1 ++ there p.0 ∷ [])) root_of
     ∙ ap (λ n. after (read_row n d (pool e u)) next) (pool-length (is_used u) e)
     ∙ ap (λ r. after r next) (row_read e u d)
     ∙ step (faults_in e u ms) (faults_after (e ++ t ∷ []) v ds) (t, pool e v) (unwrap_or (root_tree (trees_after (e ++ t ∷ []) ds)) no_tree) next more
 
 rows_law : (ds : List Data) → after (read_rows ds []) root_of ≡ rows_meaning ds
-rows_law ds = rows_read [] [] ds (λ i n. refl) refl
+rows_law ds = read_on [] [] ds (λ i n. refl) refl
 
 given_law : (r : Result (List Data) InputFault) → after r (λ ds. after (read_rows ds []) root_of) ≡ after r rows_meaning
 given_law (Ok ds) = rows_law ds
@@ -98,3 +103,18 @@ given_law (Err e) = refl
 -- what is read step by step is the program that is meant
 pub program_law : (d : Data) → read_program d ≡ program_meaning d
 program_law d = given_law (rows_in d)
+
+-- and so is the program of a flat job
+pub flat_law : (p : Sections) → after (some_rows (rows_of p)) rows_read ≡ after (some_rows (rows_of p)) rows_meaning
+flat_law p = given_law (some_rows (rows_of p))
+
+in_parts : (o : Result Options InputFault) (t : Result Tables InputFault) (q : Result Tree InputFault)
+    → after o (λ options. after t (λ tables. after q (λ program. Ok (job_with (options, tables) program))))
+    ≡ after (after o (λ options. after t (λ tables. Ok (options, tables)))) (λ head. after q (λ program. Ok (job_with head program)))
+in_parts (Ok o) (Ok t) q = refl
+in_parts (Ok o) (Err e) q = refl
+in_parts (Err e) t q = refl
+
+-- the head comes before the program
+pub value_law : (d : Data) → value_meaning d ≡ after (head_in d) (λ head. after (program_meaning d) (λ program. Ok (job_with head program)))
+value_law d = in_parts (options_in d) (tables_in d) (program_meaning d)

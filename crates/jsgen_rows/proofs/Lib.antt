@@ -1,3 +1,4 @@
+pub mod FlatRows
 pub mod JobLaw
 pub mod Json
 pub mod LastRow

@@ -6,13 +6,14 @@ use Rattle.jsgen_tree.specs.Options.{Options}
 use Rattle.jsgen_tree.specs.Tree.{Tree}
 use Rattle.jsgen_tree.specs.Tree as tree
 use Rattle.jsgen_tree.specs.declared.types.NodeType.TheVariants as types
+use Rattle.jsgen_flat.specs.Flat.{Sections, begins_flat, flat_of, rows_of}
 use Rattle.jsgen_fields.specs.declared.At.{At}
 use Rattle.jsgen_fields.specs.declared.InputFault.{InputFault}
-use Rattle.jsgen_fields.specs.declared.InputFault.TheVariants.{Wrong}
-use Rattle.jsgen_fields.specs.Values.{after, options_in, tables_in, rows_in}
+use Rattle.jsgen_fields.specs.declared.InputFault.TheVariants.{Json, Wrong}
+use Rattle.jsgen_fields.specs.Values.{after, or_fault, options_in, tables_in, rows_in, some_rows}
 use Rattle.jsgen_fields.specs.Meaning.{root_tree, root_faults, no_tree, trees_after, faults_after, faults_in, row_marks, row_tree, with_marks, unless, rows_meaning, program_meaning, value_meaning}
 use Rattle.jsgen_kept.specs.Kept.{is_program}
-use Rattle.jsgen_rows.specs.Job.{json_of, job_of}
+use Rattle.jsgen_rows.specs.Job.{head_in, flat_meaning, json_of, job_of}
 use Rattle.jsgen_kept.proofs.Sets.{program_type}
 
 told : (b : Bool) (a : At) → (if b then [] else Wrong a ∷ []) ≡ [] → b ≡ true
@@ -54,6 +55,31 @@ of_json : (r : Result Data InputFault) (job : JobData) → after r value_meaning
 of_json (Ok d) job h = of_parts (options_in d) (tables_in d) (program_meaning d) job (of_rows (rows_in d)) h
 of_json (Err e) job h = cc
 
+abbrev in_both : Result Options InputFault → Result Tables InputFault → Result (Options × Tables) InputFault
+in_both o s = after o (λ options. after s (λ tables. Ok (options, tables)))
+
+in_order : (o : Result Options InputFault) (s : Result Tables InputFault) (r : Result Tree InputFault) (job : JobData) → ((t : Tree) → r ≡ Ok t → tree.type_of t ≡ types.Program)
+    → after (in_both o s) (λ head. after r (λ program. Ok (record { options = head.0; tables = head.1; program = program }))) ≡ Ok job → tree.type_of job.program ≡ types.Program
+in_order (Ok o) (Ok s) (Ok t) job f h = let same : t ≡ job.program = ap program_or h in sym (ap tree.type_of same) ∙ f t refl
+in_order (Ok o) (Ok s) (Err e) job f h = cc
+in_order (Ok o) (Err e) r job f h = cc
+in_order (Err e) s r job f h = cc
+
+of_head : (p : Sections) (r : Result Data InputFault) (job : JobData)
+    → after r (λ d. after (head_in d) (λ head. after (after (some_rows (rows_of p)) rows_meaning) (λ program. Ok (record { options = head.0; tables = head.1; program = program })))) ≡ Ok job → tree.type_of job.program ≡ types.Program
+of_head p (Ok d) job h = in_order (options_in d) (tables_in d) (after (some_rows (rows_of p)) rows_meaning) job (of_rows (some_rows (rows_of p))) h
+of_head p (Err e) job h = cc
+
+of_flat : (r : Result Sections InputFault) (job : JobData) → after r flat_meaning ≡ Ok job → tree.type_of job.program ≡ types.Program
+of_flat (Ok p) job h = of_head p (json_of p.head) job h
+of_flat (Err e) job h = cc
+
+of_either : (b : Bool) (r s : Result JobData InputFault) (job : JobData) → (r ≡ Ok job → tree.type_of job.program ≡ types.Program) → (s ≡ Ok job → tree.type_of job.program ≡ types.Program) → (if b then r else s) ≡ Ok job → tree.type_of job.program ≡ types.Program
+of_either true r s job f g h = f h
+of_either false r s job f g h = g h
+
 pub job_is_program : (bytes : List ℕ) (job : JobData) → job_of bytes ≡ Ok job → tree.type_of job.program ≡ types.Program
 unfolding job_of
-job_is_program bytes job h = of_json (json_of bytes) job h
+job_is_program bytes job h =
+    of_either (begins_flat bytes) (after (or_fault Json (flat_of bytes)) flat_meaning) (after (json_of bytes) value_meaning) job
+    (of_flat (or_fault Json (flat_of bytes)) job) (of_json (json_of bytes) job) h

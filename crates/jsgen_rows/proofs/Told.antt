@@ -16,6 +16,7 @@ use Rattle.jsgen_tree.specs.Fields.{fields}
 use Rattle.jsgen_tree.specs.Options.{default_options, default_comments}
 use Rattle.jsgen_tree.specs.Sets.{in_set}
 use Rattle.jsgen_tree.specs.Table as sorts
+use Rattle.jsgen_flat.specs.Flat.{Sections, begins_flat, flat_of, rows_of}
 use Rattle.jsgen_fields.specs.declared.At.{At}
 use Rattle.jsgen_fields.specs.declared.InputFault.{InputFault}
 use Rattle.jsgen_fields.specs.declared.InputFault.TheVariants.{Json, Float, Wrong, Child, Shared, Memory}
@@ -23,7 +24,7 @@ use Rattle.jsgen_fields.specs.Names.{type_named}
 use Rattle.jsgen_fields.specs.Values.{after, or_fault, at, head, field, field_in, not_given, text_in, items_in, digits_in, in_row, is_needed, given_in, whole_number, number_of_bits, unit_in, units_listed, text_or_listed, units_in, value_in, type_given, type_of, offsets, span_given, span_of, choice_given, path_given, legal_named, legal_given, comments_read, char_named, char_given, width_given, level_given, options_given, options_in, texts_in, symbols_given, symbols_in, entry_in, entries_in, references_given, references_in, names_in, class_in, classes_in, private_given, private_in, tables_in, some_rows, rows_listed, rows_given, rows_in}
 use Rattle.jsgen_fields.specs.Meaning.{Mark, fault, use_of, number_marks, child_marks, hole_marks, each, marks_of, sort_marks, given_marks, field_marks, fields_marks, typed_marks, row_marks, row_tree, is_used, found_faults, mark_faults, with_mark, with_marks, faults_in, root_tree, root_faults, faults_after, unless, rows_meaning, program_meaning, value_meaning}
 use Rattle.jsgen_kept.specs.Kept.{is_program}
-use Rattle.jsgen_rows.specs.Job.{json_of, job_of}
+use Rattle.jsgen_rows.specs.Job.{head_in, flat_meaning, json_of, job_of}
 
 -- ---- what is told is not Memory
 
@@ -344,9 +345,21 @@ value_meaning_told d = after_told (options_in d) _ (options_told d) (λ options.
 json_told : (bytes : List ℕ) → ResultTold (json_of bytes)
 json_told bytes = choice_told (is_utf8 bytes) (or_fault Json (read bytes)) (Err Json) (or_told Json (read bytes) (λ e. cc)) (λ e. cc)
 
+head_told : (d : Data) → ResultTold (head_in d)
+head_told d = after_told (options_in d) _ (options_told d) (λ options. after_told (tables_in d) _ (tables_told d) (λ tables. tt))
+
+flat_rows_told : (p : Sections) → ResultTold (after (some_rows (rows_of p)) rows_meaning)
+flat_rows_told p = after_told (some_rows (rows_of p)) rows_meaning (some_told (rows_of p)) (λ ds. unless_told (faults_after [] [] ds) _ (rows_told [] [] ds))
+
+flat_told : (p : Sections) → ResultTold (flat_meaning p)
+flat_told p = after_told (json_of p.head) _ (json_told p.head) (λ d. after_told (head_in d) _ (head_told d) (λ head. after_told (after (some_rows (rows_of p)) rows_meaning) _ (flat_rows_told p) (λ program. tt)))
+
 job_told : (bytes : List ℕ) → ResultTold (job_of bytes)
 unfolding job_of
-job_told bytes = after_told (json_of bytes) value_meaning (json_told bytes) value_meaning_told
+job_told bytes =
+    choice_told (begins_flat bytes) (after (or_fault Json (flat_of bytes)) flat_meaning) (after (json_of bytes) value_meaning)
+    (after_told (or_fault Json (flat_of bytes)) flat_meaning (or_told Json (flat_of bytes) (λ e. cc)) flat_told)
+    (after_told (json_of bytes) value_meaning (json_told bytes) value_meaning_told)
 
 never : {A : Type 0} (r : Result A InputFault) → ResultTold r → r ≡ Err Memory → ⊥
 never (Ok x) h e = cc

@@ -5,7 +5,7 @@ ghost use Rattle.jsgen_tree.specs.Characters.{characters};
 ghost use Rattle.jsgen_tree.specs.Options.{legal_plain, comments_plain, options_plain};
 ghost use Rattle.jsgen_fields.specs.Values.{Same, field, choice_given, path_given, legal_named, legal_given, comments_read, char_named, char_given, width_given, level_given, options_read, options_in};
 
-use jsgen_fields::values::{number_in, optional_value, present, text_in};
+use jsgen_fields::head::{number_in, optional_value, present, text_in};
 use jsgen_fields::{At, InputFault};
 use jsgen_syntax::IndentChar;
 use jsgen_tree::{CodegenOptions, CommentOptions, LegalComment};

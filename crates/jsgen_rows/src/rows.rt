@@ -1,7 +1,7 @@
 // Generated from tools/nodes/table.txt; edit that and run tools/nodes/generate.
 // The rows of a job, by their types.
 ghost use Rattle.std.specs.Prelude.{◌≡◌};
-ghost use Rattle.serde_json.specs.View.{view};
+ghost use Rattle.jsgen_fields.specs.Given.{row_data};
 ghost use Rattle.jsgen_fields.specs.Reads.{Gives, read_typed};
 ghost use Rattle.jsgen_pool.specs.Pool.{entries};
 ghost use Rattle.jsgen_fields.specs.Parts.{is_in_statements, is_in_expressions, is_in_collections, is_in_operations, is_in_assignments, is_in_functions, is_in_templates, is_in_loops, is_in_choices, is_in_patterns, is_in_targets, is_in_classes};
@@ -14,6 +14,7 @@ use jsgen_expression_rows::functions::read_in_functions;
 use jsgen_expression_rows::operations::read_in_operations;
 use jsgen_expression_rows::templates::read_in_templates;
 use jsgen_fields::InputFault;
+use jsgen_fields::given::GivenRow;
 use jsgen_kept::asked::{ReadNode, RowOf};
 use jsgen_module_rows::modules::read_in_modules;
 use jsgen_pattern_rows::patterns::read_in_patterns;
@@ -24,7 +25,6 @@ use jsgen_statement_rows::loops::read_in_loops;
 use jsgen_statement_rows::statements::read_in_statements;
 use jsgen_syntax::Span;
 use jsgen_tree::NodeType;
-use serde_json::Value;
 use std::alloc::Global;
 
 fn is_in_statements(node_type: NodeType) -> bool
@@ -216,10 +216,10 @@ pub fn read_typed<N: ReadNode + Drop, R: RowOf<N> + Drop>(
     node_type: NodeType,
     number: usize,
     span: Span,
-    row: &Value,
+    row: &GivenRow<'_>,
 ) -> Result<R, InputFault>
     ensures { Gives R.plain result (entries R.plain kept.new.items)
-        (read_typed number node_type span (view row.now) (entries R.plain kept.old.items)) }
+        (read_typed number node_type span (row_data row.now) (entries R.plain kept.old.items)) }
 {
     if is_in_statements(node_type) {
         return read_in_statements::<N, R>(alloc, kept, node_type, number, span, row);

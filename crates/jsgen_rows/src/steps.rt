@@ -1,6 +1,9 @@
 // The program: the rows, field 4 of the head, one after the other, and the last row is the program.
-ghost use Rattle.std.specs.Prelude.{◌≡◌, [], Some, None, MatchOption, map};
+ghost use Rattle.std.specs.Prelude.{◌≡◌, ◌<◌, ◌/◌, ◌^◌, [], length, Some, None, MatchOption, map};
 ghost use Rattle.serde_json.specs.View.{view};
+ghost use Rattle.jsgen_flat.specs.Flat.{rows_of};
+ghost use Rattle.jsgen_flat.specs.Views.{sections};
+ghost use Rattle.jsgen_fields.specs.Given.{row_data};
 ghost use Rattle.jsgen_tree.specs.Plain.{node_plain, program_plain};
 ghost use Rattle.jsgen_fields.specs.Values.{Same, at, rows_listed, rows_in};
 ghost use Rattle.jsgen_fields.specs.Reads.{Gives, root_found, read_row, read_rows, root_of};
@@ -9,8 +12,12 @@ ghost use Rattle.jsgen_pool.specs.Pool.{entries as entries_of};
 
 use crate::rows::read_typed;
 use jsgen_fields::floats::holds_float;
-use jsgen_fields::values::{present, span_of, type_of};
+use jsgen_fields::given::GivenRow;
+use jsgen_fields::head::present;
+use jsgen_fields::values::{span_of, type_of};
 use jsgen_fields::{At, InputFault};
+use jsgen_flat::FlatJob;
+use jsgen_flat::rows::FlatRow;
 use jsgen_kept::asked::{ReadNode, RowOf};
 use jsgen_kept::kept::AnyRow;
 use jsgen_pool::Kept;
@@ -18,14 +25,17 @@ use jsgen_tree::Program;
 use serde_json::Value;
 use std::alloc::Global;
 
+/// How many words a row has at least: its type, and where its span starts and ends.
+const LEAST_WIDTH: usize = 3;
+
 fn read_any_row<N: ReadNode + Drop, R: RowOf<N> + Drop>(
     alloc: Global,
     kept: &mut Vec<Kept<R>>,
     number: usize,
-    row: &Value,
+    row: &GivenRow<'_>,
 ) -> Result<R, InputFault>
     ensures { Gives R.plain result (entries_of R.plain kept.new.items)
-        (read_row number (view row.now) (entries_of R.plain kept.old.items)) }
+        (read_row number (row_data row.now) (entries_of R.plain kept.old.items)) }
 {
     let node_type = type_of(number, row)?;
     let span = span_of(number, row)?;
@@ -36,10 +46,10 @@ fn read_row<N: ReadNode + Drop>(
     alloc: Global,
     kept: &mut Vec<Kept<AnyRow<N>>>,
     number: usize,
-    row: &Value,
+    row: &GivenRow<'_>,
 ) -> Result<AnyRow<N>, InputFault>
     ensures { Gives (any_row_plain N.plain) result (entries N.plain kept.new.items)
-        (read_row number (view row.now) (entries N.plain kept.old.items)) }
+        (read_row number (row_data row.now) (entries N.plain kept.old.items)) }
 {
     read_any_row::<N, AnyRow<N>>(alloc, kept, number, row)
 }
@@ -50,8 +60,32 @@ pub fn read_rows(alloc: Global, rows: &[Value]) -> Result<Vec<Kept<AnyRow>>, Inp
     let mut kept = Vec::with_capacity(alloc, rows.len())?;
     for row in rows {
         let number = kept.len();
-        let read = read_row(alloc, &mut kept, number, row)?;
+        let read = read_row(alloc, &mut kept, number, &GivenRow::Json(row))?;
         kept.push(Kept::There(read))?;
+    }
+    Ok(kept)
+}
+
+/// The rows of a flat job, one after the other.
+pub fn read_flat_rows<'b>(
+    alloc: Global,
+    job: &'b FlatJob<'b>,
+) -> Result<Vec<Kept<AnyRow>>, InputFault>
+    requires { length job.now.rows.now / 4 < 2 ^ 32 }
+    ensures { Same (λ v. entries node_plain v.items) result (read_rows (rows_of (sections job.now)) []) }
+{
+    let most = job.rows.len() / (4 * LEAST_WIDTH);
+    let mut kept = Vec::with_capacity(alloc, most.min(job.row_count as usize))?;
+    let mut begin = 0;
+    for count in 0..job.row_count {
+        let _ = count;
+        let number = kept.len();
+        let Some(row) = FlatRow::at(job, begin) else {
+            return Err(InputFault::Wrong(At::of_row(number, 0)));
+        };
+        let read = read_row(alloc, &mut kept, number, &GivenRow::Flat(row))?;
+        kept.push(Kept::There(read))?;
+        begin = row.end();
     }
     Ok(kept)
 }

@@ -6,7 +6,7 @@ ghost use Rattle.jsgen_tree.specs.Scoping.{scoping_plain, private_plain};
 ghost use Rattle.jsgen_fields.specs.Values.{Same, texts_in, symbols_in, entry_in, entries_in, references_in, scoping_of, names_in, class_in, classes_in, private_in};
 ghost use Rattle.jsgen_rows.specs.Tables.{class_plain};
 
-use jsgen_fields::values::{items_in, number_in, optional_value, text_in};
+use jsgen_fields::head::{items_in, number_in, optional_value, text_in};
 use jsgen_fields::{At, InputFault};
 use jsgen_tree::{PrivateMappings, Scoping};
 use serde_json::{Map, Value};

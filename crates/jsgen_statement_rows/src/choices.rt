@@ -1,7 +1,7 @@
 // Generated from tools/nodes/table.txt; edit that and run tools/nodes/generate.
 // Rows of a job: choices between cases, and handlers (ECMA-262, 14.12 and 14.15).
 ghost use Rattle.std.specs.Prelude.{◌≡◌, true};
-ghost use Rattle.serde_json.specs.View.{view};
+ghost use Rattle.jsgen_fields.specs.Given.{row_data};
 ghost use Rattle.jsgen_tree.specs.RowFields.{switch_statement_fields, switch_case_fields, try_statement_fields, catch_clause_fields};
 ghost use Rattle.jsgen_fields.specs.Reads.{Gives, read_node, read_typed};
 ghost use Rattle.jsgen_pool.specs.Pool.{entries};
@@ -10,6 +10,7 @@ ghost use Rattle.jsgen_tree.specs.declared.types.NodeType.TheVariants as types;
 
 use jsgen_fields::InputFault;
 use jsgen_fields::fields::boxed;
+use jsgen_fields::given::GivenRow;
 use jsgen_fields::list_fields::{statement_list, switch_case_list};
 use jsgen_fields::set_fields::{
     needed_block_statement, needed_expression, optional_binding_pattern, optional_block_statement,
@@ -27,7 +28,6 @@ use jsgen_syntax::Span;
 use jsgen_tree::{
     CatchClause, HasType, NodeType, Statement, SwitchCase, SwitchStatement, TryStatement,
 };
-use serde_json::Value;
 use std::alloc::Global;
 
 #[tactic(auto, unfolding(jsgen_fields::specs::Reads::read_node))]
@@ -36,10 +36,10 @@ fn read_switch_statement<N: HoldsExpression + Drop, R: RowOf<N> + Drop>(
     kept: &mut Vec<Kept<R>>,
     number: usize,
     span: Span,
-    row: &Value,
+    row: &GivenRow<'_>,
 ) -> Result<R, InputFault>
     ensures { Gives R.plain result (entries R.plain kept.new.items)
-        (read_node number types.SwitchStatement switch_statement_fields span (view row.now) (entries R.plain kept.old.items)) }
+        (read_node number types.SwitchStatement switch_statement_fields span (row_data row.now) (entries R.plain kept.old.items)) }
 {
     let discriminant = match needed_expression::<N, R>(
         alloc,
@@ -81,10 +81,10 @@ fn read_switch_case<
     kept: &mut Vec<Kept<R>>,
     number: usize,
     span: Span,
-    row: &Value,
+    row: &GivenRow<'_>,
 ) -> Result<R, InputFault>
     ensures { Gives R.plain result (entries R.plain kept.new.items)
-        (read_node number types.SwitchCase switch_case_fields span (view row.now) (entries R.plain kept.old.items)) }
+        (read_node number types.SwitchCase switch_case_fields span (row_data row.now) (entries R.plain kept.old.items)) }
 {
     let test = match optional_expression::<N, R>(alloc, kept, number, 2, row, "test") {
         Ok(test) => test,
@@ -111,10 +111,10 @@ fn read_try_statement<N: HasType + Drop, R: RowOf<N> + Drop>(
     kept: &mut Vec<Kept<R>>,
     number: usize,
     span: Span,
-    row: &Value,
+    row: &GivenRow<'_>,
 ) -> Result<R, InputFault>
     ensures { Gives R.plain result (entries R.plain kept.new.items)
-        (read_node number types.TryStatement try_statement_fields span (view row.now) (entries R.plain kept.old.items)) }
+        (read_node number types.TryStatement try_statement_fields span (row_data row.now) (entries R.plain kept.old.items)) }
 {
     let block = match needed_block_statement::<N, R>(alloc, kept, number, 2, row, "block") {
         Ok(block) => block,
@@ -158,10 +158,10 @@ fn read_catch_clause<N: HoldsBindingPattern + Drop, R: RowOf<N> + Drop>(
     kept: &mut Vec<Kept<R>>,
     number: usize,
     span: Span,
-    row: &Value,
+    row: &GivenRow<'_>,
 ) -> Result<R, InputFault>
     ensures { Gives R.plain result (entries R.plain kept.new.items)
-        (read_node number types.CatchClause catch_clause_fields span (view row.now) (entries R.plain kept.old.items)) }
+        (read_node number types.CatchClause catch_clause_fields span (row_data row.now) (entries R.plain kept.old.items)) }
 {
     let param = match optional_binding_pattern::<N, R>(alloc, kept, number, 2, row, "param") {
         Ok(param) => param,
@@ -189,11 +189,11 @@ pub fn read_in_choices<N: ReadNode + Drop, R: RowOf<N> + Drop>(
     node_type: NodeType,
     number: usize,
     span: Span,
-    row: &Value,
+    row: &GivenRow<'_>,
 ) -> Result<R, InputFault>
     requires { is_in_choices node_type ≡ true }
     ensures { Gives R.plain result (entries R.plain kept.new.items)
-        (read_typed number node_type span (view row.now) (entries R.plain kept.old.items)) }
+        (read_typed number node_type span (row_data row.now) (entries R.plain kept.old.items)) }
 {
     match node_type {
         NodeType::SwitchStatement => read_switch_statement::<N, R>(alloc, kept, number, span, row),

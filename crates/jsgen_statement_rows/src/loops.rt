@@ -1,7 +1,7 @@
 // Generated from tools/nodes/table.txt; edit that and run tools/nodes/generate.
 // Rows of a job: loops, labels and jumps (ECMA-262, 14.7 to 14.10, 14.13, 14.14 and 14.16).
 ghost use Rattle.std.specs.Prelude.{◌≡◌, true};
-ghost use Rattle.serde_json.specs.View.{view};
+ghost use Rattle.jsgen_fields.specs.Given.{row_data};
 ghost use Rattle.jsgen_tree.specs.RowFields.{for_statement_fields, for_in_statement_fields, for_of_statement_fields, while_statement_fields, do_while_statement_fields, label_identifier_fields, labeled_statement_fields, continue_statement_fields, break_statement_fields, return_statement_fields, throw_statement_fields, debugger_statement_fields};
 ghost use Rattle.jsgen_fields.specs.Reads.{Gives, read_node, read_typed};
 ghost use Rattle.jsgen_pool.specs.Pool.{entries};
@@ -10,6 +10,7 @@ ghost use Rattle.jsgen_tree.specs.declared.types.NodeType.TheVariants as types;
 
 use jsgen_fields::InputFault;
 use jsgen_fields::fields::boxed;
+use jsgen_fields::given::GivenRow;
 use jsgen_fields::set_fields::{
     needed_expression, needed_for_statement_left, needed_label_identifier, needed_statement,
     optional_expression, optional_for_statement_init, optional_label_identifier,
@@ -28,7 +29,6 @@ use jsgen_tree::{
     ForOfStatement, ForStatement, HasType, LabelIdentifier, LabeledStatement, NodeType,
     ReturnStatement, Statement, ThrowStatement, WhileStatement,
 };
-use serde_json::Value;
 use std::alloc::Global;
 
 #[tactic(auto, unfolding(jsgen_fields::specs::Reads::read_node))]
@@ -40,10 +40,10 @@ fn read_for_statement<
     kept: &mut Vec<Kept<R>>,
     number: usize,
     span: Span,
-    row: &Value,
+    row: &GivenRow<'_>,
 ) -> Result<R, InputFault>
     ensures { Gives R.plain result (entries R.plain kept.new.items)
-        (read_node number types.ForStatement for_statement_fields span (view row.now) (entries R.plain kept.old.items)) }
+        (read_node number types.ForStatement for_statement_fields span (row_data row.now) (entries R.plain kept.old.items)) }
 {
     let init = match optional_for_statement_init::<N, R>(alloc, kept, number, 2, row, "init") {
         Ok(init) => init,
@@ -88,10 +88,10 @@ fn read_for_in_statement<
     kept: &mut Vec<Kept<R>>,
     number: usize,
     span: Span,
-    row: &Value,
+    row: &GivenRow<'_>,
 ) -> Result<R, InputFault>
     ensures { Gives R.plain result (entries R.plain kept.new.items)
-        (read_node number types.ForInStatement for_in_statement_fields span (view row.now) (entries R.plain kept.old.items)) }
+        (read_node number types.ForInStatement for_in_statement_fields span (row_data row.now) (entries R.plain kept.old.items)) }
 {
     let left = match needed_for_statement_left::<N, R>(alloc, kept, number, 2, row, "left") {
         Ok(left) => left,
@@ -131,10 +131,10 @@ fn read_for_of_statement<
     kept: &mut Vec<Kept<R>>,
     number: usize,
     span: Span,
-    row: &Value,
+    row: &GivenRow<'_>,
 ) -> Result<R, InputFault>
     ensures { Gives R.plain result (entries R.plain kept.new.items)
-        (read_node number types.ForOfStatement for_of_statement_fields span (view row.now) (entries R.plain kept.old.items)) }
+        (read_node number types.ForOfStatement for_of_statement_fields span (row_data row.now) (entries R.plain kept.old.items)) }
 {
     let is_await = match optional_flag(number, 2, row, "is_await") {
         Ok(is_await) => is_await,
@@ -179,10 +179,10 @@ fn read_while_statement<
     kept: &mut Vec<Kept<R>>,
     number: usize,
     span: Span,
-    row: &Value,
+    row: &GivenRow<'_>,
 ) -> Result<R, InputFault>
     ensures { Gives R.plain result (entries R.plain kept.new.items)
-        (read_node number types.WhileStatement while_statement_fields span (view row.now) (entries R.plain kept.old.items)) }
+        (read_node number types.WhileStatement while_statement_fields span (row_data row.now) (entries R.plain kept.old.items)) }
 {
     let test = match needed_expression::<N, R>(alloc, kept, number, 2, row, "test") {
         Ok(test) => test,
@@ -213,10 +213,10 @@ fn read_do_while_statement<
     kept: &mut Vec<Kept<R>>,
     number: usize,
     span: Span,
-    row: &Value,
+    row: &GivenRow<'_>,
 ) -> Result<R, InputFault>
     ensures { Gives R.plain result (entries R.plain kept.new.items)
-        (read_node number types.DoWhileStatement do_while_statement_fields span (view row.now) (entries R.plain kept.old.items)) }
+        (read_node number types.DoWhileStatement do_while_statement_fields span (row_data row.now) (entries R.plain kept.old.items)) }
 {
     let body = match needed_statement::<N, R>(alloc, kept, number, 2, row, "body") {
         Ok(body) => body,
@@ -244,10 +244,10 @@ fn read_label_identifier<N: HasType + Drop, R: RowOf<N> + Drop>(
     kept: &mut Vec<Kept<R>>,
     number: usize,
     span: Span,
-    row: &Value,
+    row: &GivenRow<'_>,
 ) -> Result<R, InputFault>
     ensures { Gives R.plain result (entries R.plain kept.new.items)
-        (read_node number types.LabelIdentifier label_identifier_fields span (view row.now) (entries R.plain kept.old.items)) }
+        (read_node number types.LabelIdentifier label_identifier_fields span (row_data row.now) (entries R.plain kept.old.items)) }
 {
     let _ = kept;
     let name = match needed_text(alloc, number, 2, row, "name") {
@@ -267,10 +267,10 @@ fn read_labeled_statement<N: HoldsDeclaration + HoldsStatement + Drop, R: RowOf<
     kept: &mut Vec<Kept<R>>,
     number: usize,
     span: Span,
-    row: &Value,
+    row: &GivenRow<'_>,
 ) -> Result<R, InputFault>
     ensures { Gives R.plain result (entries R.plain kept.new.items)
-        (read_node number types.LabeledStatement labeled_statement_fields span (view row.now) (entries R.plain kept.old.items)) }
+        (read_node number types.LabeledStatement labeled_statement_fields span (row_data row.now) (entries R.plain kept.old.items)) }
 {
     let label = match needed_label_identifier::<N, R>(alloc, kept, number, 2, row, "label") {
         Ok(label) => label,
@@ -298,10 +298,10 @@ fn read_continue_statement<N: HasType + Drop, R: RowOf<N> + Drop>(
     kept: &mut Vec<Kept<R>>,
     number: usize,
     span: Span,
-    row: &Value,
+    row: &GivenRow<'_>,
 ) -> Result<R, InputFault>
     ensures { Gives R.plain result (entries R.plain kept.new.items)
-        (read_node number types.ContinueStatement continue_statement_fields span (view row.now) (entries R.plain kept.old.items)) }
+        (read_node number types.ContinueStatement continue_statement_fields span (row_data row.now) (entries R.plain kept.old.items)) }
 {
     let label = match optional_label_identifier::<N, R>(alloc, kept, number, 2, row, "label") {
         Ok(label) => label,
@@ -325,10 +325,10 @@ fn read_break_statement<N: HasType + Drop, R: RowOf<N> + Drop>(
     kept: &mut Vec<Kept<R>>,
     number: usize,
     span: Span,
-    row: &Value,
+    row: &GivenRow<'_>,
 ) -> Result<R, InputFault>
     ensures { Gives R.plain result (entries R.plain kept.new.items)
-        (read_node number types.BreakStatement break_statement_fields span (view row.now) (entries R.plain kept.old.items)) }
+        (read_node number types.BreakStatement break_statement_fields span (row_data row.now) (entries R.plain kept.old.items)) }
 {
     let label = match optional_label_identifier::<N, R>(alloc, kept, number, 2, row, "label") {
         Ok(label) => label,
@@ -352,10 +352,10 @@ fn read_return_statement<N: HoldsExpression + Drop, R: RowOf<N> + Drop>(
     kept: &mut Vec<Kept<R>>,
     number: usize,
     span: Span,
-    row: &Value,
+    row: &GivenRow<'_>,
 ) -> Result<R, InputFault>
     ensures { Gives R.plain result (entries R.plain kept.new.items)
-        (read_node number types.ReturnStatement return_statement_fields span (view row.now) (entries R.plain kept.old.items)) }
+        (read_node number types.ReturnStatement return_statement_fields span (row_data row.now) (entries R.plain kept.old.items)) }
 {
     let argument = match optional_expression::<N, R>(alloc, kept, number, 2, row, "argument") {
         Ok(argument) => argument,
@@ -379,10 +379,10 @@ fn read_throw_statement<N: HoldsExpression + Drop, R: RowOf<N> + Drop>(
     kept: &mut Vec<Kept<R>>,
     number: usize,
     span: Span,
-    row: &Value,
+    row: &GivenRow<'_>,
 ) -> Result<R, InputFault>
     ensures { Gives R.plain result (entries R.plain kept.new.items)
-        (read_node number types.ThrowStatement throw_statement_fields span (view row.now) (entries R.plain kept.old.items)) }
+        (read_node number types.ThrowStatement throw_statement_fields span (row_data row.now) (entries R.plain kept.old.items)) }
 {
     let argument = match needed_expression::<N, R>(alloc, kept, number, 2, row, "argument") {
         Ok(argument) => argument,
@@ -406,10 +406,10 @@ fn read_debugger_statement<N: HasType + Drop, R: RowOf<N> + Drop>(
     kept: &mut Vec<Kept<R>>,
     number: usize,
     span: Span,
-    row: &Value,
+    row: &GivenRow<'_>,
 ) -> Result<R, InputFault>
     ensures { Gives R.plain result (entries R.plain kept.new.items)
-        (read_node number types.DebuggerStatement debugger_statement_fields span (view row.now) (entries R.plain kept.old.items)) }
+        (read_node number types.DebuggerStatement debugger_statement_fields span (row_data row.now) (entries R.plain kept.old.items)) }
 {
     let _ = kept;
     let _ = number;
@@ -433,11 +433,11 @@ pub fn read_in_loops<N: ReadNode + Drop, R: RowOf<N> + Drop>(
     node_type: NodeType,
     number: usize,
     span: Span,
-    row: &Value,
+    row: &GivenRow<'_>,
 ) -> Result<R, InputFault>
     requires { is_in_loops node_type ≡ true }
     ensures { Gives R.plain result (entries R.plain kept.new.items)
-        (read_typed number node_type span (view row.now) (entries R.plain kept.old.items)) }
+        (read_typed number node_type span (row_data row.now) (entries R.plain kept.old.items)) }
 {
     match node_type {
         NodeType::ForStatement => read_for_statement::<N, R>(alloc, kept, number, span, row),

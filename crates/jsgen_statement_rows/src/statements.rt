@@ -1,7 +1,7 @@
 // Generated from tools/nodes/table.txt; edit that and run tools/nodes/generate.
 // Rows of a job: programs, statements and declarations (ECMA-262, clauses 14 and 16).
 ghost use Rattle.std.specs.Prelude.{◌≡◌, true};
-ghost use Rattle.serde_json.specs.View.{view};
+ghost use Rattle.jsgen_fields.specs.Given.{row_data};
 ghost use Rattle.jsgen_tree.specs.RowFields.{program_fields, comment_fields, directive_fields, variable_declaration_fields, variable_declarator_fields, binding_identifier_fields, expression_statement_fields, block_statement_fields, if_statement_fields, empty_statement_fields};
 ghost use Rattle.jsgen_fields.specs.Reads.{Gives, read_node, read_typed};
 ghost use Rattle.jsgen_pool.specs.Pool.{entries};
@@ -10,6 +10,7 @@ ghost use Rattle.jsgen_tree.specs.declared.types.NodeType.TheVariants as types;
 
 use jsgen_fields::InputFault;
 use jsgen_fields::fields::boxed;
+use jsgen_fields::given::GivenRow;
 use jsgen_fields::list_fields::{
     comment_list, directive_list, statement_list, variable_declarator_list,
 };
@@ -39,7 +40,6 @@ use jsgen_tree::{
     EmptyStatement, ExpressionStatement, HasType, IfStatement, NodeType, Program, Statement,
     VariableDeclaration, VariableDeclarator,
 };
-use serde_json::Value;
 use std::alloc::Global;
 
 #[tactic(auto, unfolding(jsgen_fields::specs::Reads::read_node))]
@@ -48,10 +48,10 @@ fn read_program<N: HoldsDeclaration + HoldsStatement + Drop, R: RowOf<N> + Drop>
     kept: &mut Vec<Kept<R>>,
     number: usize,
     span: Span,
-    row: &Value,
+    row: &GivenRow<'_>,
 ) -> Result<R, InputFault>
     ensures { Gives R.plain result (entries R.plain kept.new.items)
-        (read_node number types.Program program_fields span (view row.now) (entries R.plain kept.old.items)) }
+        (read_node number types.Program program_fields span (row_data row.now) (entries R.plain kept.old.items)) }
 {
     let source = match optional_text(alloc, number, 2, row, "source") {
         Ok(source) => source,
@@ -102,10 +102,10 @@ fn read_comment<N: HasType + Drop, R: RowOf<N> + Drop>(
     kept: &mut Vec<Kept<R>>,
     number: usize,
     span: Span,
-    row: &Value,
+    row: &GivenRow<'_>,
 ) -> Result<R, InputFault>
     ensures { Gives R.plain result (entries R.plain kept.new.items)
-        (read_node number types.Comment comment_fields span (view row.now) (entries R.plain kept.old.items)) }
+        (read_node number types.Comment comment_fields span (row_data row.now) (entries R.plain kept.old.items)) }
 {
     let _ = kept;
     let kind = match needed_kind_of_comment(number, 2, row, "kind") {
@@ -153,10 +153,10 @@ fn read_directive<N: HasType + Drop, R: RowOf<N> + Drop>(
     kept: &mut Vec<Kept<R>>,
     number: usize,
     span: Span,
-    row: &Value,
+    row: &GivenRow<'_>,
 ) -> Result<R, InputFault>
     ensures { Gives R.plain result (entries R.plain kept.new.items)
-        (read_node number types.Directive directive_fields span (view row.now) (entries R.plain kept.old.items)) }
+        (read_node number types.Directive directive_fields span (row_data row.now) (entries R.plain kept.old.items)) }
 {
     let _ = kept;
     let directive = match needed_text(alloc, number, 2, row, "directive") {
@@ -176,10 +176,10 @@ fn read_variable_declaration<N: HasType + Drop, R: RowOf<N> + Drop>(
     kept: &mut Vec<Kept<R>>,
     number: usize,
     span: Span,
-    row: &Value,
+    row: &GivenRow<'_>,
 ) -> Result<R, InputFault>
     ensures { Gives R.plain result (entries R.plain kept.new.items)
-        (read_node number types.VariableDeclaration variable_declaration_fields span (view row.now) (entries R.plain kept.old.items)) }
+        (read_node number types.VariableDeclaration variable_declaration_fields span (row_data row.now) (entries R.plain kept.old.items)) }
 {
     let kind = match needed_declaration_kind(number, 2, row, "kind") {
         Ok(kind) => kind,
@@ -222,10 +222,10 @@ fn read_variable_declarator<N: HoldsExpression + HoldsBindingPattern + Drop, R: 
     kept: &mut Vec<Kept<R>>,
     number: usize,
     span: Span,
-    row: &Value,
+    row: &GivenRow<'_>,
 ) -> Result<R, InputFault>
     ensures { Gives R.plain result (entries R.plain kept.new.items)
-        (read_node number types.VariableDeclarator variable_declarator_fields span (view row.now) (entries R.plain kept.old.items)) }
+        (read_node number types.VariableDeclarator variable_declarator_fields span (row_data row.now) (entries R.plain kept.old.items)) }
 {
     let id = match needed_binding_pattern::<N, R>(alloc, kept, number, 2, row, "id") {
         Ok(id) => id,
@@ -252,10 +252,10 @@ fn read_binding_identifier<N: HasType + Drop, R: RowOf<N> + Drop>(
     kept: &mut Vec<Kept<R>>,
     number: usize,
     span: Span,
-    row: &Value,
+    row: &GivenRow<'_>,
 ) -> Result<R, InputFault>
     ensures { Gives R.plain result (entries R.plain kept.new.items)
-        (read_node number types.BindingIdentifier binding_identifier_fields span (view row.now) (entries R.plain kept.old.items)) }
+        (read_node number types.BindingIdentifier binding_identifier_fields span (row_data row.now) (entries R.plain kept.old.items)) }
 {
     let _ = kept;
     let name = match needed_text(alloc, number, 2, row, "name") {
@@ -279,10 +279,10 @@ fn read_expression_statement<N: HoldsExpression + Drop, R: RowOf<N> + Drop>(
     kept: &mut Vec<Kept<R>>,
     number: usize,
     span: Span,
-    row: &Value,
+    row: &GivenRow<'_>,
 ) -> Result<R, InputFault>
     ensures { Gives R.plain result (entries R.plain kept.new.items)
-        (read_node number types.ExpressionStatement expression_statement_fields span (view row.now) (entries R.plain kept.old.items)) }
+        (read_node number types.ExpressionStatement expression_statement_fields span (row_data row.now) (entries R.plain kept.old.items)) }
 {
     let expression = match needed_expression::<N, R>(alloc, kept, number, 2, row, "expression") {
         Ok(expression) => expression,
@@ -306,10 +306,10 @@ fn read_block_statement<N: HoldsDeclaration + HoldsStatement + Drop, R: RowOf<N>
     kept: &mut Vec<Kept<R>>,
     number: usize,
     span: Span,
-    row: &Value,
+    row: &GivenRow<'_>,
 ) -> Result<R, InputFault>
     ensures { Gives R.plain result (entries R.plain kept.new.items)
-        (read_node number types.BlockStatement block_statement_fields span (view row.now) (entries R.plain kept.old.items)) }
+        (read_node number types.BlockStatement block_statement_fields span (row_data row.now) (entries R.plain kept.old.items)) }
 {
     let body = match statement_list::<N, R>(alloc, kept, number, 2, row, "body") {
         Ok(body) => body,
@@ -336,10 +336,10 @@ fn read_if_statement<
     kept: &mut Vec<Kept<R>>,
     number: usize,
     span: Span,
-    row: &Value,
+    row: &GivenRow<'_>,
 ) -> Result<R, InputFault>
     ensures { Gives R.plain result (entries R.plain kept.new.items)
-        (read_node number types.IfStatement if_statement_fields span (view row.now) (entries R.plain kept.old.items)) }
+        (read_node number types.IfStatement if_statement_fields span (row_data row.now) (entries R.plain kept.old.items)) }
 {
     let test = match needed_expression::<N, R>(alloc, kept, number, 2, row, "test") {
         Ok(test) => test,
@@ -376,10 +376,10 @@ fn read_empty_statement<N: HasType + Drop, R: RowOf<N> + Drop>(
     kept: &mut Vec<Kept<R>>,
     number: usize,
     span: Span,
-    row: &Value,
+    row: &GivenRow<'_>,
 ) -> Result<R, InputFault>
     ensures { Gives R.plain result (entries R.plain kept.new.items)
-        (read_node number types.EmptyStatement empty_statement_fields span (view row.now) (entries R.plain kept.old.items)) }
+        (read_node number types.EmptyStatement empty_statement_fields span (row_data row.now) (entries R.plain kept.old.items)) }
 {
     let _ = kept;
     let _ = number;
@@ -403,11 +403,11 @@ pub fn read_in_statements<N: ReadNode + Drop, R: RowOf<N> + Drop>(
     node_type: NodeType,
     number: usize,
     span: Span,
-    row: &Value,
+    row: &GivenRow<'_>,
 ) -> Result<R, InputFault>
     requires { is_in_statements node_type ≡ true }
     ensures { Gives R.plain result (entries R.plain kept.new.items)
-        (read_typed number node_type span (view row.now) (entries R.plain kept.old.items)) }
+        (read_typed number node_type span (row_data row.now) (entries R.plain kept.old.items)) }
 {
     match node_type {
         NodeType::Program => read_program::<N, R>(alloc, kept, number, span, row),

@@ -46,7 +46,7 @@ def answers(table, part, file, n):
     each.append(answer("returns-in-Ok-boxed", last(table, n, whole(read))))
     each.append("pub returns-in-Err-boxed : goal.returns-in-Err-boxed\n"
                 "returns-in-Err-boxed g c = λ told. let h = c.in-Err-boxed.ensures told in cc h")
-    homes = [("Rattle.std.proofs.Common", ["refl"]), ("Rattle.std.specs.Prelude", ["codes"]), ("Rattle.serde_json.specs.View", ["view"]),
+    homes = [("Rattle.std.proofs.Common", ["refl"]), ("Rattle.std.specs.Prelude", ["codes"]), (f"{READER}.specs.Given", ["row_data"]),
              (f"{READER}.specs.Reads", ["read_node"]), (f"{READER}.specs.Values", ["at", "field", "not_given"])]
     homes += [(f"{READER}.proofs.FieldSteps", ["refused", "passed", "gives_by"])]
     homes += [(f"{READER}.proofs.Gives", ["first_of_two", "second_of_two", "refused_of_two", "gives_row", "gives_node"])] + row_names(table)
@@ -61,7 +61,7 @@ def passed(fact):
 def of_two(call):
     """The two fields that the call refuses."""
     number, names = int(re.findall(r"\d+", call)[0]), re.findall(r'"(\w+)"', call)
-    return " ".join(f'(not_given (at c.args.number {i}) (field (codes "{name}") (view c.args.row.now)))'
+    return " ".join(f'(not_given (at c.args.number {i}) (field (codes "{name}") (row_data c.args.row.now)))'
                     for i, name in enumerate(names, number))
 
 

@@ -297,14 +297,14 @@ def readers(table, of_lists):
     fields = {reader_of(f): f for n in table.nodes.values() for f in table.children(n) if f.is_list == of_lists}
     body = "\n\n".join(reader(table, f) for f in fields.values())
     ghosts = [("Rattle.std.specs.Prelude", ["true", "false", "map", "option_map"]),
-              ("Rattle.serde_json.specs.View", ["view"]), (f"{SPECS}.Tree", ["optional", "optional_list", "trees", "holed"])]
+              (f"{READER}.specs.Given", ["row_data"]), (f"{SPECS}.Tree", ["optional", "optional_list", "trees", "holed"])]
     ghosts += [(f"{SPECS}.Table", ["needed", "may_be_absent", "child", "children as many", "children_or_holes as many_or_holes", "maybe_children as maybe_many"])] + row_names(table)
     ghosts += [(f"{READER}.specs.Values", ["at", "field as value_under"]), (f"{READER}.specs.Meaning", ["a_child", "a_maybe", "a_list", "a_maybe_list"]),
                (f"{READER}.specs.Reads", ["Gives", "read_children"]), ("Rattle.jsgen_pool.specs.Pool", ["entries"])]
     tree = list(table.nodes) + list(table.sets) + [s.name + "Node" for s in table.nesting()]
     homes = [("crate", ["InputFault"]), ("crate::fields", ["needed_child", "optional_child", "children", "optional_children", "children_or_holes"]),
              ("jsgen_kept::asked", ["RowOf"] + [holds(s) for s in table.nesting()]), ("jsgen_pool", ["Kept"]), ("jsgen_tree", ["HasType"] + tree)]
-    homes += [("serde_json", ["Value"]), ("std::alloc", ["Global"])]
+    homes += [("crate::given", ["GivenRow"]), ("std::alloc", ["Global"])]
     about = f"Fields that hold {'lists of' if of_lists else 'single'} children, by set: a row that calls one of these passes no impl of `Child`, which would be " \
             "proved at each call."
     return layout.rust(about, ghosts, TYPES, homes, body)
@@ -320,11 +320,11 @@ def reader(table, f):
     kept: &mut Vec<Kept<R>>,
     number: usize,
     field: usize,
-    row: &Value,
+    row: &GivenRow<'_>,
     name: &str,
 ) -> Result<{of}, InputFault>
     ensures {{ Gives ({gives.format(plain)}) result (entries R.plain kept.new.items)
-        (read_children (at number field) {field.format(f.kind)} (value_under name.now (view row.now)) (entries R.plain kept.old.items)) }}
+        (read_children (at number field) {field.format(f.kind)} (value_under name.now (row_data row.now)) (entries R.plain kept.old.items)) }}
 {{
     {inner}::<N, R, _>(alloc, kept, number, field, row, name)
 }}"""

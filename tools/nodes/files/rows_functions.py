@@ -61,7 +61,7 @@ def root(table, crate):
 
 
 def ghosts_of(nodes):
-    return [("Rattle.std.specs.Prelude", ["◌≡◌", "true", "false"]), ("Rattle.serde_json.specs.View", ["view"]),
+    return [("Rattle.std.specs.Prelude", ["◌≡◌", "true", "false"]), (f"{READER}.specs.Given", ["row_data"]),
             (f"{SPECS}.RowFields", [snake(n.name) + "_fields" for n in nodes]),
             (f"{READER}.specs.Reads", ["Gives", "read_node", "read_typed"]), ("Rattle.jsgen_pool.specs.Pool", ["entries"])]
 
@@ -81,7 +81,7 @@ def one_file(table, name, text, every):
              ("jsgen_kept::others", [kept(table, s) for s in sets if inner(table, s)]),
              ("jsgen_fields", ["InputFault"]), ("jsgen_pool", ["Kept"]), ("jsgen_syntax", ["Span"]),
              ("jsgen_tree", list(dict.fromkeys(["HasType", "NodeType"] + [n.name for n in nodes] + [s.name for s in sets]))),
-             ("serde_json", ["Value"]), ("std::alloc", ["Global"])]
+             ("jsgen_fields::given", ["GivenRow"]), ("std::alloc", ["Global"])]
     homes = [(module, list(dict.fromkeys(names))) for module, names in homes]
     body = "\n\n".join([function(table, n) for n in nodes] + [of_part(table, name, every)])
     ghosts = ghosts_of(nodes) + [(f"{READER}.specs.Parts", [f"is_in_{part}" for part, _ in tested(table)])]
@@ -97,10 +97,10 @@ fn read_{snake(n.name)}<N: {asked_by(table, table.children(n))} + Drop, R: RowOf
     kept: &mut Vec<Kept<R>>,
     number: usize,
     span: Span,
-    row: &Value,
+    row: &GivenRow<'_>,
 ) -> Result<R, InputFault>
     ensures {{ Gives R.plain result (entries R.plain kept.new.items)
-        (read_node number types.{n.name} {snake(n.name)}_fields span (view row.now) (entries R.plain kept.old.items)) }}
+        (read_node number types.{n.name} {snake(n.name)}_fields span (row_data row.now) (entries R.plain kept.old.items)) }}
 {{
 {lines}    let node = {n.name} {{ span{held} }};
     match boxed(alloc, node) {{
@@ -170,12 +170,12 @@ HEAD = """<N: ReadNode + Drop, R: RowOf<N> + Drop>(
     node_type: NodeType,
     number: usize,
     span: Span,
-    row: &Value,
+    row: &GivenRow<'_>,
 ) -> Result<R, InputFault>
 """
 
 GIVES = """    ensures { Gives R.plain result (entries R.plain kept.new.items)
-        (read_typed number node_type span (view row.now) (entries R.plain kept.old.items)) }
+        (read_typed number node_type span (row_data row.now) (entries R.plain kept.old.items)) }
 """
 
 TYPED = "(alloc, kept, node_type, number, span, row)"
@@ -211,6 +211,6 @@ def choice(table):
     body = "\n\n".join([test(name, nodes) for name, nodes in tested(table)] + [whole])
     homes = [(f"{table.row_crates[file]}::{name}", [f"read_in_{name}"]) for name, file, _ in parts(table)]
     homes += [("jsgen_kept::asked", ["ReadNode", "RowOf"]), ("jsgen_fields", ["InputFault"]), ("jsgen_pool", ["Kept"]),
-              ("jsgen_syntax", ["Span"]), ("jsgen_tree", ["NodeType"]), ("serde_json", ["Value"]), ("std::alloc", ["Global"])]
+              ("jsgen_syntax", ["Span"]), ("jsgen_tree", ["NodeType"]), ("jsgen_fields::given", ["GivenRow"]), ("std::alloc", ["Global"])]
     ghosts = ghosts_of([]) + [(f"{READER}.specs.Parts", [f"is_in_{name}" for name, _ in tested(table)])]
     return layout.rust("The rows of a job, by their types.", ghosts, [], homes, body)

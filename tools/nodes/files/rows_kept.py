@@ -1,18 +1,22 @@
 """jsgen_kept's src/kept.rt and specs/Kept.antt: the rows that were read, by the set that they are children of; and src/others.rt and specs/Others.antt: the members of a set whose rows are kept by it, where others are
 kept elsewhere. What the reader asks of a node where trees nest stands in src/asked.rt. jsgen_fields' src/set_rows.rt: the rows of members of sets, which may want memory."""
 
+from functools import cache
+
 import layout
 from names import KEPT, READER, SPECS, TYPES, row_names, sets_in_antt, types_in_antt, variants_of_sets
 from table import snake, spoken
 
 # ---- how each type is kept, for all files of the reader
 
+@cache
 def set_of(table, name):
     """The set that a type's rows are kept by: the one that nests and has it; None where there is none, or more than one."""
     sets = [s for s in table.nesting() if name in s.members]
     return sets[0] if len(sets) == 1 else None
 
 
+@cache
 def groups(table):
     """What a row may be, in the order of the types: a set, or the name of a type that is in none."""
     every = {}
@@ -26,11 +30,13 @@ def large(table):
     return [g for g in groups(table) if not isinstance(g, str)]
 
 
+@cache
 def own(table, s):
     """The types of a set whose rows are kept by it."""
     return [m for m in s.members if m in table.nodes and set_of(table, m)]
 
 
+@cache
 def inner(table, s):
     """The members of a set whose rows are kept elsewhere: the sets within it, and types that are in another set too."""
     return [m for m in s.members if m not in own(table, s)]

@@ -10,7 +10,8 @@ MOST = 50
 def write(table):
     tables = in_tables(list(table.nodes))
     invariant = {"crates/jsgen_fields/proofs/names/first_named/Invariants.antt": left()}
-    return {"crates/jsgen_fields/specs/Names.antt": specs(tables), "crates/jsgen_fields/src/names.rt": rust(tables)} | invariant
+    return {"crates/jsgen_fields/specs/Names.antt": specs(tables), "crates/jsgen_fields/src/names.rt": rust(tables),
+            "crates/jsgen_fields/proofs/TypeNames.antt": laws(table, tables)} | invariant
 
 
 def in_tables(types):
@@ -36,6 +37,29 @@ first_named (n ∷ ns) s = if bytes_eq s n.0 then Some n.1 else first_named ns s
     homes = [("Rattle.std.specs.Prelude", ["ℕ", "List", "[]", "◌∷◌", "codes", "Option", "Some", "None", "if◌then◌else◌"]),
              ("Rattle.std.specs.Str", ["bytes_eq"])] + types_in_antt(None)
     return layout.antt("The types of nodes by their names.", homes, TYPES, "\n\n".join(parts))
+
+
+def laws(table, tables):
+    """Each type is named by its name, and so is that of a row of a flat job."""
+    clauses = "".join(f"\nby_name types.{n} = refl" for n in table.nodes)
+    unfolded = " ".join([f"in_{t}" for t in tables] if len(tables) > 1 else ["type_named"])
+    body = f"""by_name : (type : NodeType) → type_named (type_name type) ≡ Some type
+unfolding {unfolded}{clauses}
+
+named : (k : ℕ) (r : FlatRow) (o : Option Data) → o ≡ Some (string (type_name r.node_type)) → after (field_in (at k 0) true (present o)) (type_given (at k 0)) ≡ Ok r.node_type
+named k r o e = rw (e, by_name r.node_type) refl
+
+-- a row of a flat job has its type
+pub typed : (k : ℕ) (r : FlatRow) → type_of k (flat_row_data r) ≡ Ok r.node_type
+unfolding row_data
+typed k r = named k r (get (codes "type") (flat_row_data r)) (flat_typed r)"""
+    homes = [("Rattle.std.proofs.Common", ["◌≡◌", "ℕ", "codes", "Option", "Some", "Ok", "true", "refl"]),
+             ("Rattle.serde_json.specs.Data", ["Data", "string"]), ("Rattle.serde_json.specs.Find", ["get"]),
+             ("Rattle.jsgen_flat.specs.Names", ["type_name"]), ("Rattle.jsgen_flat.specs.Flat", ["row_data"]),
+             ("Rattle.jsgen_flat.specs.Views", ["flat_row_data"]), ("Rattle.jsgen_flat.specs.declared.rows.FlatRow", ["FlatRow"]),
+             ("Rattle.jsgen_flat.proofs.Views", ["typed as flat_typed"]), (f"{READER}.specs.Names", ["type_named"] + [f"in_{t}" for t in tables]),
+             (f"{READER}.specs.Values", ["after", "at", "field_in", "present", "type_given", "type_of"])] + types_in_antt(None)
+    return layout.antt("The type of a row of a flat job.", homes, TYPES, body)
 
 
 def either(tables):

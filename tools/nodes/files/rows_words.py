@@ -26,12 +26,12 @@ def rust(words):
     for w in words:
         parts += [of_length(w, n) for n in lengths(w)] + [by_length(w)] if is_many(w) else [by_word(w)]
         parts += [reader(w)]
-    ghosts = [("Rattle.std.specs.Prelude", ["◌≡◌", "true", "option_map"]), ("Rattle.serde_json.specs.View", ["view"])]
+    ghosts = [("Rattle.std.specs.Prelude", ["◌≡◌", "true", "option_map"]), (f"{READER}.specs.Given", ["row_data"])]
     ghosts += [(f"{SPECS}.Atom", ["no_value"] + [w.short for w in words]), (f"{SPECS}.Table", ["word"])]
     ghosts += [(f"{SPECS}.Fields", [f"{w.short}_words" for w in words])]
     ghosts += [(f"{READER}.specs.Reads", ["read_value"]),
                (f"{READER}.specs.Values", ["Same", "at", "field as value_under", "word_meaning", "words_of_length"])]
-    homes = [("crate::values", ["needed_word"]), ("crate", ["At", "InputFault"]), ("serde_json", ["Value"])]
+    homes = [("crate::values", ["needed_word"]), ("crate", ["At", "InputFault"]), ("crate::given", ["GivenRow"])]
     homes += [("jsgen_syntax" if w.home else "jsgen_tree", [w.name]) for w in words]
     return layout.rust("Fields that hold a word.", ghosts, [], joined(homes), "\n\n".join(parts))
 
@@ -79,9 +79,9 @@ def by_length(w):
 
 
 def reader(w):
-    return f"""pub fn needed_{w.short}(number: usize, field: usize, row: &Value, name: &str) -> Result<{w.name}, InputFault>
+    return f"""pub fn needed_{w.short}(number: usize, field: usize, row: &GivenRow<'_>, name: &str) -> Result<{w.name}, InputFault>
     ensures {{ Same (λ o. {w.short} o) result
-        (read_value (at number field) true no_value (word {w.short}_words) (value_under name.now (view row.now))) }}
+        (read_value (at number field) true no_value (word {w.short}_words) (value_under name.now (row_data row.now))) }}
 {{
     match needed_word(number, field, row, name) {{
         Ok(word) => match {w.short}_by_word(word) {{

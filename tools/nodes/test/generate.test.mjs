@@ -6,6 +6,7 @@ import { tmpdir } from "node:os";
 import { join } from "node:path";
 import { test } from "node:test";
 import { fileURLToPath } from "node:url";
+import { TABLE_NUMBER } from "../../flat/decode.mjs";
 
 const FOLDER = fileURLToPath(new URL("..", import.meta.url));
 // Tells the number of a table that is in a file.
@@ -54,6 +55,12 @@ function numberOf(change = (table) => table) {
     rmSync(folder, { recursive: true });
   }
 }
+
+test("the table's number in jsgen_flat, and here, is the one that is worked out from docs/FORMAT.md", () => {
+  const source = readFileSync(join(FOLDER, "../../crates/jsgen_flat/src/names.rt"), "utf8");
+  assert.deepEqual([...source.matchAll(/^pub const TABLE_NUMBER: u32 = (\d+);$/gm)].map(([, number]) => Number(number)), [TABLE_NUMBER]);
+  assert.equal(numberOf(), TABLE_NUMBER);
+});
 
 function turned(table, one, other) {
   assert.equal(table.split(`${one}${other}`).length, 2);

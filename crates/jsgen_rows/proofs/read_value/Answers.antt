@@ -1,20 +1,13 @@
+use Rattle.serde_json.specs.View.{view}
 use Rattle.jsgen_fields.proofs.Gives.{handed_on}
+use Rattle.jsgen_rows.proofs.JobLaw.{value_law}
 use Rattle.jsgen_rows.proofs.read_value.Goals as goal
 
-pub returns-in_err-options : goal.returns-in_err-options
-returns-in_err-options c = handed_on _ _ _ _ c.from_residual.ensures (λ told. rw (c.in_err-options.ensures told))
-
-pub returns-in_err-symbols : goal.returns-in_err-symbols
-returns-in_err-symbols c = handed_on _ _ _ _ c.from_residual-in_err-symbols.ensures (λ told. rw (c.in_ok-options.ensures, c.in_err-symbols.ensures told))
-
-pub returns-in_err-references : goal.returns-in_err-references
-returns-in_err-references c = handed_on _ _ _ _ c.from_residual-in_err-references.ensures (λ told. rw (c.in_ok-options.ensures, c.in_ok-symbols.ensures, c.in_err-references.ensures told))
-
-pub returns-in_err-private : goal.returns-in_err-private
-returns-in_err-private c = handed_on _ _ _ _ c.from_residual-in_err-private.ensures (λ told. rw (c.in_ok-options.ensures, c.in_ok-symbols.ensures, c.in_ok-references.ensures, c.in_err-private.ensures told))
+pub returns-in_err-head : goal.returns-in_err-head
+returns-in_err-head c = handed_on _ _ _ _ c.from_residual.ensures (λ told. rw (value_law (view c.args.value.now), c.in_err-head.ensures told))
 
 pub returns-in_err-program : goal.returns-in_err-program
-returns-in_err-program c = handed_on _ _ _ _ c.from_residual-in_err-program.ensures (λ told. rw (c.in_ok-options.ensures, c.in_ok-symbols.ensures, c.in_ok-references.ensures, c.in_ok-private.ensures, c.in_err-program.ensures told))
+returns-in_err-program c = handed_on _ _ _ _ c.from_residual-in_err-program.ensures (λ told. rw (value_law (view c.args.value.now), c.in_ok-head.ensures, c.in_err-program.ensures told))
 
 pub returns : goal.returns
-returns c = rw (c.in_ok-options.ensures, c.in_ok-symbols.ensures, c.in_ok-references.ensures, c.in_ok-private.ensures, c.in_ok-program.ensures, c.scoping_of.ensures)
+returns c = rw (value_law (view c.args.value.now), c.in_ok-head.ensures, c.in_ok-program.ensures, c.job_of.ensures)

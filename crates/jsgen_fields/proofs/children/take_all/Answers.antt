@@ -1,12 +1,11 @@
 use Rattle.std.proofs.Common.{arith}
 use Rattle.std.proofs.lemmas.Grind.{common_steps}
+use Rattle.jsgen_fields.specs.Given.{given_data, given_items}
+use Rattle.jsgen_fields.proofs.Listed.{left_behind}
 use Rattle.jsgen_fields.proofs.children.take_all.Goals as goal
 
 pub returns-in_err-child : goal.returns-in_err-child
-returns-in_err-child g l = grind (arith, common_steps)
+returns-in_err-child g c = grind (arith, common_steps, left_behind (given_items c.args.items) c.loop-index.index (given_data c.item.result) c.item.ensures)
 
-pub loop-value-preserved : goal.loop-value-preserved
-loop-value-preserved g l = grind (arith, common_steps)
-
-pub returns : goal.returns
-returns g l = grind (arith, common_steps)
+pub loop-index-preserved : goal.loop-index-preserved
+loop-index-preserved g c = grind (arith, common_steps, left_behind (given_items c.args.items) c.loop-index.index (given_data c.item.result) c.item.ensures)

@@ -7,7 +7,7 @@ use Rattle.jsgen_fields.proofs.fields.children.Goals as goal
 
 pub returns-in-Ok : goal.returns-in-Ok
 unfolding read_children
-returns-in-Ok g c = rw (sym c.of_row-at.ensures, c.in-Ok-Some.ensures, c.in-Ok-Some.field-0-is, c.in-Ok.ensures) (gives_holding _ (λ ts. a_list (trees ts)) _ _ _ (rw c.deref.ensures.value at c.take_all.ensures))
+returns-in-Ok g c = rw (sym c.of_row-at.ensures, c.in-Ok-Some.ensures, c.in-Ok-Some.field-0-is, c.in-Ok.ensures) (gives_holding _ (λ ts. a_list (trees ts)) _ _ _ c.take_all.ensures)
 
 pub returns-in-Err-items_in : goal.returns-in-Err-items_in
 unfolding read_children

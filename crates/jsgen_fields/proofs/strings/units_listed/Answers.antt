@@ -1,12 +1,11 @@
 use Rattle.std.proofs.Common.{arith}
 use Rattle.std.proofs.lemmas.Grind.{common_steps}
+use Rattle.jsgen_fields.specs.Given.{given_data, given_items}
+use Rattle.jsgen_fields.proofs.Listed.{left_behind}
 use Rattle.jsgen_fields.proofs.strings.units_listed.Goals as goal
 
 pub returns-in_default : goal.returns-in_default
-returns-in_default l = grind (arith, common_steps)
+returns-in_default c = grind (arith, common_steps, left_behind (given_items c.args.items) c.loop-index.index (given_data c.item.result) c.item.ensures)
 
-pub loop-item-preserved : goal.loop-item-preserved
-loop-item-preserved l = grind (arith, common_steps)
-
-pub returns : goal.returns
-returns l = grind (arith, common_steps)
+pub loop-index-preserved : goal.loop-index-preserved
+loop-index-preserved c = grind (arith, common_steps, left_behind (given_items c.args.items) c.loop-index.index (given_data c.item.result) c.item.ensures)
