@@ -1,13 +1,13 @@
 // `node bench/in_process.mjs`: what printing costs in node's own process, by the addon that bindings/node/build.mjs makes. Its tables
 // have the memory of the process after many calls, the time of a small module beside that of starting the program, the time of
-// three.js beside that of other printers, and that of its text with a map, by one call beside two. Everything is printed pretty and without
-// comments. The packages of the other printers are found as those of tools/estree are, or in the folder that the variable NODE_PATH names;
+// three.js beside that of other printers, by flat jobs and by jobs in JSON, and that of its text with a map, by one call beside two.
+// Everything is printed pretty and without comments. The packages of the other printers are found as those of tools/estree are, or in the folder that the variable NODE_PATH names;
 // what isn't there is left out, and a line says so.
 import assert from "node:assert/strict";
 import { spawnSync } from "node:child_process";
 import { existsSync, readFileSync } from "node:fs";
 import { buildJob, mapJob, printJob } from "../bindings/node/index.mjs";
-import { jobOf } from "../bindings/node/lib/convert.mjs";
+import { flatJobOf, jobOf } from "../bindings/node/lib/convert.mjs";
 import { packageOrNull } from "../bindings/node/lib/packages.mjs";
 import { addon } from "../bindings/node/lib/printer.mjs";
 import { parsed } from "../tools/estree/parser.mjs";
@@ -17,7 +17,7 @@ const SMALL = ["hello.mjs", "modules.js"].map((name) => new URL(`../examples/${n
 const THREE = ["/usr/share/javascript/three/three.module.js", "/usr/share/nodejs/three/build/three.module.js"];
 const STARTED_LIMIT = 0.1;
 const BABEL = "@babel/generator";
-const BABEL_LIMIT = 3;
+const LIMITS = { "flat": 0.75, "flat, with spans": 0.75, "in JSON": 3, "in JSON, with spans": 3 };
 const CALLS = [100, 10_000, 100_000];
 
 function milliseconds(work) {
@@ -26,17 +26,26 @@ function milliseconds(work) {
   return Number(process.hrtime.bigint() - start) / 1e6;
 }
 
+// The processor time of this process.
+function processorMilliseconds(work) {
+  const start = process.cpuUsage();
+  work();
+  const { user, system } = process.cpuUsage(start);
+  return (user + system) / 1000;
+}
+
 // The times of so many runs, the shortest first.
-function timesOf(count, work) {
-  return Array.from({ length: count }, () => milliseconds(work)).sort((one, other) => one - other);
+function timesOf(count, work, measure = milliseconds) {
+  return Array.from({ length: count }, () => measure(work)).sort((one, other) => one - other);
 }
 
 function medianOf(count, work) {
   return timesOf(count, work)[Math.floor(count / 2)];
 }
 
+// In processor time, which a machine at work with other things changes less.
 function bestOfFive(work) {
-  return timesOf(5, work)[0];
+  return timesOf(5, work, processorMilliseconds)[0];
 }
 
 function show(what, ...figures) {
@@ -82,15 +91,27 @@ function showMemory(bytes) {
 
 // ---- three.js
 
-// Shows the parts of printing a tree, and gives their sum. With the source, rows have spans.
+// Shows the parts of printing a tree by a job in JSON, and gives their sum. With the source, rows have spans.
 function printed(title, tree, source) {
   const job = jobOf(tree, { source });
   const bytes = bytesOf(job);
-  const parts = {
+  return shownSum(title, bytes, {
     "converting": bestOfFive(() => jobOf(tree, { source })),
     "writing JSON": bestOfFive(() => bytesOf(job)),
     "reading, checking and printing": bestOfFive(() => printJob(bytes)),
-  };
+  });
+}
+
+// The same by a flat job.
+function printedFlat(title, tree, source) {
+  const bytes = flatJobOf(tree, { source });
+  return shownSum(title, bytes, {
+    "converting": bestOfFive(() => flatJobOf(tree, { source })),
+    "reading, checking and printing": bestOfFive(() => printJob(bytes)),
+  });
+}
+
+function shownSum(title, bytes, parts) {
   const sum = Object.values(parts).reduce((one, other) => one + other);
   show(title, sum.toFixed(0), printJob(bytes).length);
   for (const [part, time] of Object.entries(parts)) show(`  ${part}`, time.toFixed(0));
@@ -125,7 +146,12 @@ async function othersOf(source) {
 
 async function compareWithOthers(source) {
   const tree = parsed(source);
-  const sums = { "without spans": printed("jsgen, without spans", tree), "with spans": printed("jsgen, with spans", tree, source) };
+  const sums = {
+    "flat": printedFlat("jsgen, flat", tree),
+    "flat, with spans": printedFlat("jsgen, flat, with spans", tree, source),
+    "in JSON": printed("jsgen, in JSON", tree),
+    "in JSON, with spans": printed("jsgen, in JSON, with spans", tree, source),
+  };
   const times = {};
   for (const [name, print] of Object.entries(await othersOf(source))) {
     if (print !== null) times[name] = bestOfFive(print);
@@ -133,7 +159,7 @@ async function compareWithOthers(source) {
     else show(name, times[name].toFixed(0), print().length);
   }
   if (times[BABEL] === undefined) return;
-  for (const [name, sum] of Object.entries(sums)) showRatio(`jsgen ${name}, over ${BABEL}`, sum / times[BABEL], BABEL_LIMIT);
+  for (const [name, sum] of Object.entries(sums)) showRatio(`jsgen ${name}, over ${BABEL}`, sum / times[BABEL], LIMITS[name]);
 }
 
 // ---- a source map
@@ -160,7 +186,7 @@ const path = THREE.find((file) => existsSync(file));
 if (path === undefined) {
   show("three.js is left out: not installed");
 } else {
-  show("three.js, best of five", "ms", "characters");
+  show("three.js, best of five, processor time", "ms", "characters");
   const source = readFileSync(path, "utf8");
   await compareWithOthers(source);
   compareCalls(source);

@@ -1,6 +1,6 @@
 /*
- * jsgen prints JavaScript: the bytes of a job go in, a syntax tree in JSON (docs/FORMAT.md), and its text, the lines of its source
- * map or those of its licences come out, in UTF-8, or all of these by one call.
+ * jsgen prints JavaScript: the bytes of a job go in, a syntax tree in JSON or in numbers (docs/FORMAT.md), and its text, the lines of
+ * its source map or those of its licences come out, in UTF-8, or all of these by one call.
  *
  * Memory. Every pointer is the caller's, before the call and after it: nothing is kept, and a call reads and writes only
  * while it runs. No pointer is NULL, not even beside a length of 0. The buffer and the answer overlap neither each other nor the

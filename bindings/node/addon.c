@@ -5,12 +5,21 @@
 #include <pthread.h>
 #include <stdint.h>
 #include <stdlib.h>
+#include <string.h>
 #include <sys/mman.h>
+#include "arena.h"
 #include "jsgen.h"
 
-// A call goes down the tree on its stack. The rows of a job are its levels at most, so the stack is so many bytes for each byte of the
-// job, and some more: README.md has what a level takes. It is reserved, and touched only as far as it is needed.
+// A call goes down the tree on its stack. The rows of a job are its levels at most, so the stack is so many bytes for each byte of a job in
+// JSON, or for each row of a flat job, and some more: README.md has what a level takes. It is reserved, and touched only as far as it is
+// needed.
 #define STACK_FOR_BYTE ((size_t)160)
+#define STACK_FOR_ROW ((size_t)8 << 10)
+// A flat job (docs/FORMAT.md): how it begins, how long its head is, where that says how many rows there are, and the bytes of a row at least.
+#define FLAT_BEGIN "JSGF"
+#define FLAT_HEAD 32
+#define FLAT_ROW_COUNT 8
+#define FLAT_LEAST_ROW 12
 #define STACK_BESIDE ((size_t)16 << 20)
 #define STACK_GUARD ((size_t)1 << 20)
 // What a call takes here beside its levels, with room.
@@ -40,21 +49,23 @@ static void keep(struct work *work, const struct jsgen_answer *answer) {
 
 // Writes what is asked for into a buffer of this length.
 static uint32_t fill(struct work *work, size_t capacity) {
-  if (work->asked == ALL) return jsgen_build_job(work->job, work->length, work->texts, capacity, &work->answer);
-  struct jsgen_answer answer;
-  uint32_t status = work->call(work->job, work->length, work->texts, capacity, &answer);
-  keep(work, &answer);
+  uint32_t status;
+  if (work->asked == ALL) {
+    status = jsgen_build_job(work->job, work->length, work->texts, capacity, &work->answer);
+  } else {
+    struct jsgen_answer answer;
+    status = work->asked == NONE ? jsgen_check_job(work->job, work->length, &answer) : work->call(work->job, work->length, work->texts, capacity, &answer);
+    keep(work, &answer);
+  }
+  arena_end(true);
   return status;
 }
 
 // A text is hardly ever longer than its job, and all texts hardly ever twice as long; where they are, it is told how long.
-static void *run(void *given) {
-  struct work *work = given;
+static void run(struct work *work) {
   if (work->asked == NONE) {
-    struct jsgen_answer answer;
-    work->status = jsgen_check_job(work->job, work->length, &answer);
-    keep(work, &answer);
-    return NULL;
+    work->status = fill(work, 0);
+    return;
   }
   size_t capacity = work->length * (work->asked == ALL ? 2 : 1) + 64;
   work->status = JSGEN_BUFFER_TOO_SMALL;
@@ -64,7 +75,23 @@ static void *run(void *given) {
     work->status = work->texts == NULL ? JSGEN_MEMORY : fill(work, capacity);
     capacity = work->answer.code_length + work->answer.map_length + work->answer.legal_length;
   }
+}
+
+// The work on a thread that ends with it.
+static void *run_apart(void *given) {
+  run(given);
+  arena_end(false);
   return NULL;
+}
+
+// The stack that a job may take.
+static size_t stack_for(const uint8_t *job, size_t length) {
+  if (length > JSGEN_LONGEST_JOB) return 0;
+  if (length < FLAT_HEAD || memcmp(job, FLAT_BEGIN, sizeof FLAT_BEGIN - 1) != 0) return length * STACK_FOR_BYTE;
+  size_t rows = 0;
+  for (int byte = 3; byte >= 0; byte--) rows = rows << 8 | job[FLAT_ROW_COUNT + byte];
+  size_t most = length / FLAT_LEAST_ROW;
+  return (rows < most ? rows : most) * STACK_FOR_ROW;
 }
 
 // How much of this thread's stack is left, as far as that is known. Where it ends is asked once.
@@ -81,10 +108,6 @@ static size_t stack_left(void) {
   return end != NULL && here > end ? (size_t)(here - end) : 0;
 }
 
-// Whether this thread has the stack for a job of this length.
-static bool fits_here(size_t length) {
-  return length <= JSGEN_LONGEST_JOB && STACK_HERE + length * STACK_FOR_BYTE <= stack_left();
-}
 
 // Whether the work was done, on a thread whose stack is `size` bytes from `stack` on, below which nothing may be touched.
 static bool run_on(uint8_t *stack, size_t size, struct work *work) {
@@ -92,18 +115,18 @@ static bool run_on(uint8_t *stack, size_t size, struct work *work) {
   pthread_t thread;
   if (mprotect(stack, STACK_GUARD, PROT_NONE) != 0 || pthread_attr_init(&attributes) != 0) return false;
   bool is_started = pthread_attr_setstack(&attributes, stack + STACK_GUARD, size - STACK_GUARD) == 0 &&
-                    pthread_create(&thread, &attributes, run, work) == 0;
+                    pthread_create(&thread, &attributes, run_apart, work) == 0;
   pthread_attr_destroy(&attributes);
   return is_started && pthread_join(thread, NULL) == 0;
 }
 
 static bool run_deep(struct work *work) {
-  if (fits_here(work->length)) {
+  size_t stack_wanted = stack_for(work->job, work->length);
+  if (STACK_HERE + stack_wanted <= stack_left()) {
     run(work);
     return true;
   }
-  size_t length = work->length < JSGEN_LONGEST_JOB ? work->length : JSGEN_LONGEST_JOB;
-  size_t size = STACK_GUARD + STACK_BESIDE + ((length * STACK_FOR_BYTE) & ~(STACK_GUARD - 1));
+  size_t size = STACK_GUARD + STACK_BESIDE + (stack_wanted & ~(STACK_GUARD - 1));
   uint8_t *stack = mmap(NULL, size, PROT_READ | PROT_WRITE, MAP_PRIVATE | MAP_ANONYMOUS | MAP_NORESERVE | MAP_STACK, -1, 0);
   if (stack == MAP_FAILED) return false;
   bool is_done = run_on(stack, size, work);

@@ -1,9 +1,10 @@
-// `node bindings/node/build.mjs`: compiles the addon over the static library that `rt` has built, by `cc` and node's own headers.
+// `node bindings/node/build.mjs`: compiles the addon over the static library that `rt` has built, by `cc` and node's own headers. Its memory
+// comes from arena.c.
 import { spawnSync } from "node:child_process";
 import { existsSync, mkdirSync } from "node:fs";
 import { dirname, join } from "node:path";
 import { fileURLToPath } from "node:url";
-import { libraries } from "../../tools/bindings/library.mjs";
+import { libraryFile } from "../../tools/bindings/library.mjs";
 
 const here = (name) => fileURLToPath(new URL(name, import.meta.url));
 const HEADERS = [process.env.NODE_HEADERS, join(dirname(process.execPath), "../include/node")].filter(Boolean);
@@ -13,7 +14,7 @@ if (!headers) {
   process.exit(1);
 }
 mkdirSync(here("build"), { recursive: true });
-const words = ["-O2", "-Wall", "-Wextra", "-Werror", "-fPIC", "-shared", "-pthread", `-I${headers}`, `-I${here("../c")}`, "-o", here("build/jsgen.node"), here("addon.c"), ...libraries()];
+const words = ["-O2", "-Wall", "-Wextra", "-Werror", "-fPIC", "-shared", "-pthread", `-I${headers}`, `-I${here("../c")}`, "-o", here("build/jsgen.node"), here("addon.c"), here("arena.c"), libraryFile()];
 const { status, error } = spawnSync("cc", words, { stdio: "inherit" });
 if (error) throw error;
 process.exit(status ?? 1);

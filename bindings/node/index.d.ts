@@ -145,7 +145,7 @@ export class NotRead extends Error {
 /** Prints an ESTree tree of a module. Throws a JsgenError, a NotRead, or a TypeError for wrong arguments. */
 export function print(program: object, settings?: Settings): Printed;
 
-/** The code of a job (docs/FORMAT.md): JSON as a string, or as bytes of UTF-8. */
+/** The code of a job (docs/FORMAT.md): JSON as a string, or as bytes of UTF-8, or the bytes of a flat job. */
 export function printJob(job: string | Uint8Array): string;
 
 /** The lines of the source map of a job, which is empty where no `source_map_path` is given. */

@@ -1,5 +1,6 @@
 // Prints ESTree trees and jobs, by the addon that build.mjs makes, in this process, or by the program where there is no addon.
-import { jobAndNodes, jobOf as jobOfTree, NotRead } from "./lib/convert.mjs";
+import { flatJobOf, jobAndNodes, jobOf as jobOfTree, NotRead } from "./lib/convert.mjs";
+import { NoWord } from "./lib/flat_rows.mjs";
 import { licencesOf } from "./lib/licences.mjs";
 import { placeOfFault } from "./lib/fault_places.mjs";
 import { allAnswered, answered } from "./lib/printer.mjs";
@@ -15,7 +16,7 @@ const KINDS = ["normal", "jsdoc", "annotation"];
 const NO_COMMENTS = { normal: false, jsdoc: false, annotation: false, legal: "none" };
 const UNNAMED = "<source>";
 
-/** The code of a job: JSON as a string, or as bytes of UTF-8. */
+/** The code of a job: JSON as a string, or as bytes of UTF-8, or the bytes of a flat job. */
 export function printJob(job) {
   return answered("print", job);
 }
@@ -55,35 +56,46 @@ export function print(program, settings = {}) {
   const comments = source === undefined ? [] : (program.comments ?? program.program?.comments ?? []);
   const keepSourceMappingUrl = flag("keepSourceMappingUrl", settings.keepSourceMappingUrl ?? false);
   const asked = { source, names: settings.names ?? null, options, spans: source !== undefined, comments, keepSourceMappingUrl };
-  const made = unlessTooDeep(() => jobAndNodes(program, asked));
+  const job = unlessTooDeep(() => unlessTooLong(() => bytesOf(program, asked)));
   try {
-    return printed(textOf(made.job), options, settings);
+    return printed(job, options, settings);
   } catch (error) {
-    throw error instanceof JsgenError ? placed(error, { ...made, source }) : error;
+    // The rows have the same numbers in JSON, where each is an object that can be looked into.
+    throw error instanceof JsgenError ? placed(error, source, () => unlessTooDeep(() => jobAndNodes(program, asked))) : error;
   }
 }
 
-// A text that is too long for a string is too long for a job.
-function textOf(job) {
+// The flat job, or the one in JSON, which says what no word can, so that it is told what is wrong with it.
+function bytesOf(program, asked) {
   try {
-    return JSON.stringify(job);
+    return flatJobOf(program, asked);
   } catch (error) {
-    throw error instanceof RangeError ? new JsgenError("input too long", { status: 7, cause: error }) : error;
+    if (!(error instanceof NoWord)) throw error;
+    return Buffer.from(JSON.stringify(jobOfTree(program, asked)));
+  }
+}
+
+// What is too long for a string or a buffer is too long for a job.
+function unlessTooLong(work) {
+  try {
+    return work();
+  } catch (error) {
+    throw error instanceof RangeError && !/stack/.test(error.message) ? new JsgenError("input too long", { status: 7, cause: error }) : error;
   }
 }
 
 function printed(job, options, { source, sourceMap }) {
   const areApart = source !== undefined && /^(linked|external)$/.test(options.legal);
   const words = ["print", ...(sourceMap ? ["map"] : []), ...(areApart ? ["legal"] : [])];
-  const texts = allAnswered(words, Buffer.from(job));
+  const texts = allAnswered(words, job);
   const map = sourceMap ? sourceMapOf(texts.map, { name: options.source_map_path, source }) : null;
   return areApart ? { code: texts.print, map, licences: licencesOf(texts.legal, source) } : { code: texts.print, map };
 }
 
-// The error with the place of its fault, where one is known.
-function placed(error, made) {
+// The error with the place of its fault, where one is known. `make` makes the job in JSON, with the nodes of its rows.
+function placed(error, source, make) {
   if (error.status !== 1 && error.status !== 3) return error;
-  const { words, ...place } = placeOfFault(error, { ...made, check: (job) => checkJob(textOf(job)) });
+  const { words, ...place } = placeOfFault(error, { ...make(), source, check: (job) => checkJob(unlessTooLong(() => JSON.stringify(job))) });
   if (words !== "") error.message += ` (${words})`;
   return Object.assign(error, place);
 }

@@ -52,11 +52,16 @@ export const unlinkable =
   (answers("cc", ["--version"]).status !== 0 && "there is no C compiler, cc") ||
   ((heap === undefined || !existsSync(heap)) && "there is no toolchain, whose liblibc_c.a the library stands on");
 
-/** The files to link, in order. */
-export function libraries() {
+/** The static library. */
+export function libraryFile() {
   const library = process.env.JSGEN_LIBRARY ?? BUILT;
   if (!existsSync(library)) throw new Error(`JSGEN_LIBRARY names no library that is there: ${library}`);
-  return [library, heap];
+  return library;
+}
+
+/** The files to link, in order: the library, and where its memory comes from. */
+export function libraries() {
+  return [libraryFile(), heap];
 }
 
 /** Compiles a C program, with each warning an error. */

@@ -1,9 +1,9 @@
-// `node tools/estree/job.mjs [--minify] [--ascii-only] [--single-quote] < TREE`: the job of an ESTree tree in JSON.
+// `node tools/estree/job.mjs [--minify] [--ascii-only] [--single-quote] [--flat] < TREE`: the job of an ESTree tree, in JSON or flat.
 import { faultOf, readText, writeOut } from "../../bindings/node/lib/command.mjs";
-import { jobOf } from "../../bindings/node/lib/convert.mjs";
+import { flatJobOf, jobOf } from "../../bindings/node/lib/convert.mjs";
 import { Refused, run } from "./command.mjs";
 
-const FLAGS = { minify: { type: "boolean" }, "ascii-only": { type: "boolean" }, "single-quote": { type: "boolean" } };
+const FLAGS = { minify: { type: "boolean" }, "ascii-only": { type: "boolean" }, "single-quote": { type: "boolean" }, flat: { type: "boolean" } };
 
 function treeIn(text) {
   try {
@@ -13,16 +13,16 @@ function treeIn(text) {
   }
 }
 
-function jobIn(tree, options) {
+function jobIn(tree, options, isFlat) {
   try {
-    return jobOf(tree, { options });
+    return isFlat ? flatJobOf(tree, { options }) : `${JSON.stringify(jobOf(tree, { options }))}\n`;
   } catch (error) {
     throw faultOf(error, "<stdin>");
   }
 }
 
-await run({ usage: "node job.mjs [--minify] [--ascii-only] [--single-quote] < TREE.json", options: FLAGS }, async (flags, others) => {
+await run({ usage: "node job.mjs [--minify] [--ascii-only] [--single-quote] [--flat] < TREE.json", options: FLAGS }, async ({ flat = false, ...flags }, others) => {
   if (others.length > 0) throw new Refused(`unknown word ${others[0]}`);
   const options = Object.fromEntries(Object.entries(flags).map(([name, value]) => [name.replace("-", "_"), value]));
-  await writeOut(`${JSON.stringify(jobIn(treeIn(await readText(null)), options))}\n`);
+  await writeOut(jobIn(treeIn(await readText(null)), options, flat));
 });

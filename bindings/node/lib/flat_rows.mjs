@@ -103,6 +103,9 @@ class Texts {
   }
 }
 
+/** A number that no word of a flat job can say: only tables of names that `renaming` didn't make have one. In JSON it is a fault of the job. */
+export class NoWord extends TypeError {}
+
 /** The sections of a flat job. `length` is about that of the source, or anything where it isn't known. */
 export class FlatRows {
   constructor(length) {
@@ -176,7 +179,7 @@ export class FlatRows {
   }
 
   number(field, number) {
-    if (number >>> 0 !== number || number === MOST_WORD) throw new TypeError(`the ${field.name} ${number} is no whole number below ${MOST_WORD}`);
+    if (number >>> 0 !== number || number === MOST_WORD) throw new NoWord(`the ${field.name} ${number} is no whole number below ${MOST_WORD}`);
     this.set(field, number + 1);
   }
 

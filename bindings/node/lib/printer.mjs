@@ -27,7 +27,7 @@ function loaded() {
   }
 }
 
-/** What one of the program's words (`print`, `map`, `legal`, `check`) gives for a job, which is a string or bytes of UTF-8. */
+/** What one of the program's words (`print`, `map`, `legal`, `check`) gives for a job, which is a string, or bytes of JSON or of a flat job. */
 export function answered(word, job) {
   return allAnswered([word], job)[word];
 }

@@ -1,4 +1,4 @@
-"""jsgen prints JavaScript: a job goes in, a syntax tree in JSON (docs/FORMAT.md), and its text comes out.
+"""jsgen prints JavaScript: a job goes in, a syntax tree in JSON, or a flat one (docs/FORMAT.md), and its text comes out.
 
 The calls are those of the shared library libjsgen.so: the one that the variable JSGEN_SHARED names, or else the one beside this file,
 as an installed wheel has it, or else the one that the system's loader finds. Any number of threads may call at once: a call lets go
@@ -19,9 +19,15 @@ _RULES = {1: "Place", 2: "Name", 3: "Literal", 4: "Template", 5: "Span", 6: "Com
 _FAULTS = {11: "Json", 12: "Float", 13: "Missing", 14: "Wrong", 15: "Child", 16: "Shared"}
 _LINES = {_MEMORY: "out of memory", _TOO_LONG: "input too long"}
 
-# A call goes down the tree on its stack. The rows of a job are its levels at most, so the stack is so many bytes for each byte of the
-# job, and some more: the README of bindings/node has what a level takes.
+# A call goes down the tree on its stack. The rows of a job are its levels at most, so the stack is so many bytes for each byte of a job in
+# JSON, or for each row of a flat job, and some more: the README of bindings/node has what a level takes.
 _STACK_FOR_BYTE = 160
+_STACK_FOR_ROW = 8 << 10
+# A flat job (docs/FORMAT.md): how it begins, how long its head is, where that says how many rows there are, and the bytes of a row at least.
+_FLAT_BEGIN = b"JSGF"
+_FLAT_HEAD = 32
+_FLAT_ROW_COUNT = slice(8, 12)
+_FLAT_LEAST_ROW = 12
 _STACK_BESIDE = 16 << 20
 _STACK_UNIT = 1 << 20
 _LONGEST_JOB = 33554432
@@ -138,8 +144,17 @@ def _bytes_of(job: Job) -> bytes:
     raise TypeError("a job is a str, bytes or a dict")
 
 
+def _stack_of_levels(job: bytes) -> int:
+    if len(job) > _LONGEST_JOB:
+        return 0
+    if len(job) < _FLAT_HEAD or not job.startswith(_FLAT_BEGIN):
+        return len(job) * _STACK_FOR_BYTE
+    rows = int.from_bytes(job[_FLAT_ROW_COUNT], "little")
+    return min(rows, len(job) // _FLAT_LEAST_ROW) * _STACK_FOR_ROW
+
+
 def _stack_for(job: bytes) -> int:
-    size = _STACK_BESIDE + min(len(job), _LONGEST_JOB) * _STACK_FOR_BYTE
+    size = _STACK_BESIDE + _stack_of_levels(job)
     return (size + _STACK_UNIT - 1) // _STACK_UNIT * _STACK_UNIT
 
 
@@ -199,7 +214,7 @@ def _answered(call: Any, job: Job) -> str:
 
 
 def print_job(job: Job) -> str:
-    """The code of a job's program. The job is JSON, a str or bytes of UTF-8, or a dict, which is written as JSON."""
+    """The code of a job's program. The job is JSON, a str or bytes of UTF-8, or a dict, which is written as JSON, or the bytes of a flat job."""
     return _answered(_library.jsgen_print_job, job)
 
 

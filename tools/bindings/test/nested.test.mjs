@@ -7,6 +7,7 @@ import { Worker } from "node:worker_threads";
 
 const { buildJob, printJob } = await import("../../../bindings/node/index.mjs");
 const { addon } = await import("../../../bindings/node/lib/printer.mjs");
+const { TABLE_NUMBER, TYPES } = await import("../../../bindings/node/lib/table.mjs");
 const skip = addon === null && "the addon isn't built: node bindings/node/build.mjs";
 
 const LEVELS = 200_000;
@@ -32,6 +33,49 @@ const methods = (levels) =>
     `{"type":"ObjectProperty","kind":"init","key":${at},"value":${at + 4},"method":true}`,
     `{"type":"ObjectExpression","properties":[${at + 5}]}`,
   ], true);
+
+// The first word of a program's kind.
+const MODULE = 0;
+
+// A flat job of rows without spans: each is its type and its fields, of which a child is its row, a list its rows, and a word its number.
+const NUMBERS = Object.fromEntries(Object.keys(TYPES).map((name, number) => [name, number]));
+
+function flatJob(rows) {
+  const words = [];
+  const lists = [];
+  for (const { type, ...fields } of rows) {
+    words.push(NUMBERS[type], 0, 0);
+    for (const name of Object.keys(TYPES[type])) words.push(wordOf(fields[name], lists));
+  }
+  const head = Buffer.from('{"options":{"minify":true}}');
+  const numbers = Uint32Array.of(0x4647534a, TABLE_NUMBER, rows.length, words.length, lists.length, 0, 0, head.length);
+  return Buffer.concat([numbers, Uint32Array.from(words), Uint32Array.from(lists)].map((part) => Buffer.from(part.buffer)).concat(head));
+}
+
+function wordOf(value, lists) {
+  if (value === undefined) return 0;
+  if (!Array.isArray(value)) return value + 1;
+  lists.push(value.length, ...value.map((row) => row + 1));
+  return lists.length - value.length;
+}
+
+function flatOfLevels(levels, level) {
+  const rows = [{ type: "ThisExpression" }];
+  for (let count = 0; count < levels; count += 1) rows.push(level(count));
+  rows.push({ type: "ExpressionStatement", expression: levels }, { type: "Program", kind: MODULE, body: [levels + 1] });
+  return flatJob(rows);
+}
+
+for (const [what, level, code] of [
+  ["arrays", (child) => ({ type: "ArrayExpression", elements: [child] }), (count) => `${"[".repeat(count)}this${"]".repeat(count)};`],
+  ["awaits", (child) => ({ type: "AwaitExpression", argument: child }), (count) => `${"await ".repeat(count)}this;`],
+  ["new", (child) => ({ type: "NewExpression", callee: child }), (count) => `${"new(".repeat(count - 1)}new this${"())".repeat(count - 1)};`],
+]) {
+  test(`${LEVELS} ${what} one in another print of a flat job`, { skip }, () => {
+    const job = flatOfLevels(LEVELS, level);
+    assert.ok(printJob(job) === code(LEVELS));
+  });
+}
 
 test(`${LEVELS} blocks one in another print`, { skip }, () => {
   const code = `${"{".repeat(LEVELS)};${"}".repeat(LEVELS)}`;

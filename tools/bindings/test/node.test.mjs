@@ -7,7 +7,7 @@ import { join } from "node:path";
 import { test } from "node:test";
 import { fileURLToPath } from "node:url";
 import { Worker } from "node:worker_threads";
-import { jobOf } from "../../../bindings/node/lib/convert.mjs";
+import { flatJobOf, jobOf } from "../../../bindings/node/lib/convert.mjs";
 import { packageOrNull } from "../../../bindings/node/lib/packages.mjs";
 import { parsed } from "../../estree/parser.mjs";
 import { program, unbuilt, unmapped } from "../../estree/program.mjs";
@@ -174,7 +174,12 @@ test("the addon gives the lines of a map and of licences", { skip: withoutAddon 
 
 test("all that is made of a job comes at once, as a string or as bytes", { skip }, () => {
   const job = jobOfSource("/*! L */\na", { source_map_path: "x.js", legal: "external" });
-  for (const given of [job, job.toString(), new Uint8Array(job)]) assert.deepEqual(buildJob(given), { code: "a;\n", map: "0 0 1 0\n", licences: "0 8\n" });
+  const source = "/*! L */\na";
+  const tree = parsed(source, { comments: true });
+  const flat = flatJobOf(tree, { source, comments: tree.comments, options: { source_map_path: "x.js", legal: "external" } });
+  for (const given of [job, job.toString(), new Uint8Array(job), flat, new Uint8Array(flat)]) {
+    assert.deepEqual(buildJob(given), { code: "a;\n", map: "0 0 1 0\n", licences: "0 8\n" });
+  }
   assert.deepEqual(buildJob(FIRST), { code: "const a = 1 + 2;\n", map: "", licences: "" });
   assert.deepEqual(buildJob('{"rows":[{"type":"Program","kind":"module"}]}'), { code: "", map: "", licences: "" });
 });

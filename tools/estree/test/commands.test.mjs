@@ -6,6 +6,7 @@ import { tmpdir } from "node:os";
 import { join } from "node:path";
 import { test } from "node:test";
 import { fileURLToPath } from "node:url";
+import { decoded } from "../../flat/decode.mjs";
 import { unbuilt } from "../program.mjs";
 
 const here = (name) => fileURLToPath(new URL(name, import.meta.url));
@@ -14,6 +15,11 @@ function ran(command, words, input = "", program = process.env.JSGEN) {
   const env = { ...process.env, ...(program && { JSGEN: program }) };
   const child = spawnSync(process.execPath, [here(`../${command}.mjs`), ...words], { input, env });
   return { status: child.status, out: child.stdout.toString(), err: child.stderr.toString() };
+}
+
+// The bytes that `job` writes.
+function bytesOfJob(words, tree) {
+  return spawnSync(process.execPath, [here("../job.mjs"), ...words], { input: JSON.stringify(tree) }).stdout;
 }
 
 function withFile(source, use) {
@@ -37,8 +43,21 @@ test("job writes the job of a tree", () => {
   });
 });
 
+test("job --flat writes the flat job of the same tree", () => {
+  const body = [{ type: "ExpressionStatement", expression: { type: "Literal", value: "\u{e9}\ud800" } }];
+  for (const tree of [{ type: "Program", sourceType: "module", body }, { type: "Program", sourceType: "module", body: [] }]) {
+    for (const words of [[], ["--minify", "--ascii-only", "--single-quote"]]) {
+      const flat = bytesOfJob([...words, "--flat"], tree);
+      assert.equal(flat.subarray(0, 4).toString("latin1"), "JSGF");
+      assert.deepEqual(decoded(flat), JSON.parse(bytesOfJob(words, tree)));
+    }
+  }
+  const refused = ran("job", ["--flat"], '{"type":"Program","body":[null]}');
+  assert.deepEqual(refused, { status: 1, out: "", err: "<stdin>: program.body[0] is no node\n" });
+});
+
 test("what is wrong with words and input is one line, and the usage behind that of words", () => {
-  const usage = "usage: node job.mjs [--minify] [--ascii-only] [--single-quote] < TREE.json\n";
+  const usage = "usage: node job.mjs [--minify] [--ascii-only] [--single-quote] [--flat] < TREE.json\n";
   assert.deepEqual(ran("job", ["--indent"]), { status: 2, out: "", err: `Unknown option '--indent'\n${usage}` });
   assert.deepEqual(ran("job", ["a"]), { status: 2, out: "", err: `unknown word a\n${usage}` });
   assert.deepEqual(ran("job", ["--help"]), { status: 0, out: usage, err: "" });

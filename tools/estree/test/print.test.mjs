@@ -12,6 +12,7 @@ import { STATUS, faultOf } from "../../../bindings/node/lib/command.mjs";
 import { NotRead } from "../../../bindings/node/lib/convert.mjs";
 import { excerptAt } from "../../../bindings/node/lib/places.mjs";
 import { addon } from "../../../bindings/node/lib/printer.mjs";
+import { decoded } from "../../flat/decode.mjs";
 import { parsed } from "../parser.mjs";
 import { unbuilt } from "../program.mjs";
 
@@ -57,7 +58,8 @@ function printedBy(answers, source, words) {
     writeFileSync(join(folder, "program"), `#!/bin/sh\ncat > ${folder}/$1\ncase $1 in ${cases.join(" ")} *) echo usage >&2; exit 2 ;; esac\n`);
     chmodSync(join(folder, "program"), 0o755);
     const ends = ran(folder, [...words.map((word) => word.replace("FOLDER", folder)), "file.js"], { program: join(folder, "program") });
-    return { ...ends, job: JSON.parse(read("print") ?? "null"), legal: read("legal"), code: read("code.js"), licences: read("code.txt") };
+    const jobOfWord = (word) => (existsSync(join(folder, word)) ? decoded(readFileSync(join(folder, word))) : null);
+    return { ...ends, job: jobOfWord("print"), legal: jobOfWord("legal"), code: read("code.js"), licences: read("code.txt") };
   });
 }
 
@@ -146,7 +148,7 @@ test("licences are written into a file of their own", { skip }, () => {
   const words = ["--legal", "linked=code.txt", "-o", "code.js"];
   const both = printedBy({ print: "a;", legal: "0 9\\n13 30\\n" }, source, words);
   assert.deepEqual([both.status, both.err, both.code, both.licences], [0, "", "a;", "/*! é */\n/* @license\n b */\n"]);
-  assert.deepEqual(JSON.parse(both.legal), both.job);
+  assert.deepEqual(both.legal, both.job);
   const none = printedBy({ print: "a;", legal: "" }, "a", words);
   assert.deepEqual([none.status, none.code, none.licences], [0, "a;", null]);
 });

@@ -10,6 +10,7 @@ import { fileURLToPath } from "node:url";
 import { addon } from "../../../bindings/node/lib/printer.mjs";
 import { jobOf } from "../../../bindings/node/lib/convert.mjs";
 import { packageOrNull } from "../../../bindings/node/lib/packages.mjs";
+import { decoded } from "../../flat/decode.mjs";
 import { parsed } from "../parser.mjs";
 import { program, unmapped } from "../program.mjs";
 import { dataUrl, linked, sourceMapOf } from "../../../bindings/node/lib/source_map.mjs";
@@ -84,7 +85,7 @@ function withProgram(answers, use) {
     chmodSync(program, 0o755);
     mkdirSync(join(folder, "in"));
     writeFileSync(join(folder, "in/a b.js"), "let ab=1\nab");
-    const jobOfWord = (word) => JSON.parse(readFileSync(join(folder, `job-${word}`), "utf8"));
+    const jobOfWord = (word) => decoded(readFileSync(join(folder, `job-${word}`)));
     return use((words) => ran(words, folder, program), folder, jobOfWord);
   });
 }
