@@ -1,26 +1,35 @@
 // The members of the nodes of an ESTree tree, by their types: what the converter reads, and what each of them holds.
+import { firstLook } from "./looks.mjs";
 
-// What a member holds, whether it is needed, and the types of the nodes where only some may stand there.
-const member = (holds, isNeeded, types) => ({ holds, isNeeded, types: types.length > 0 ? types : null });
-const node = (...types) => member("node", true, types);
-const maybe = (...types) => member("node", false, types);
-const list = (...types) => member("list", true, types);
-const maybeList = (...types) => member("list", false, types);
-const HOLES = member("holes", true, []);
-const TEXT = member("text", true, []);
-const MAYBE_TEXT = member("text", false, []);
-const FLAG = member("flag", false, []);
-const NEEDED_FLAG = member("flag", true, []);
+/** What a member may hold: a node, a list of nodes, or one that has holes too, a text, true or false, or the word `value` alone. */
+export const NODE = 1;
+export const LIST = 2;
+export const HOLES = 3;
+export const TEXT = 4;
+export const FLAG = 5;
 // `importKind` and `exportKind` of trees that may have types
-const OF_VALUES = member("value", false, []);
+export const VALUE = 6;
 // what the converter looks into
-const ANY = member("any", false, []);
+const ANY = 7;
 /** What parsers and tools note of a node, on which its meaning doesn't depend. */
-export const NOTE = member("note", false, []);
+export const NOTE = 8;
 
-const HOLD_NODES = ["node", "list", "holes"];
-// How many orders of names are kept of a type.
-const MOST_LOOKS = 8;
+// A member of a type: what it holds, whether it is needed, and the types of the nodes where only some may stand there. Of these `areAllowed`
+// says by the number of each type whether it is one of them.
+const member = (holds, isNeeded, types = []) => ({ holds, isNeeded, types: types.length > 0 ? types : null, areAllowed: null });
+const node = (...types) => member(NODE, true, types);
+const maybe = (...types) => member(NODE, false, types);
+const list = (...types) => member(LIST, true, types);
+const maybeList = (...types) => member(LIST, false, types);
+const holes = () => member(HOLES, true);
+const text = () => member(TEXT, true);
+const maybeText = () => member(TEXT, false);
+const flag = () => member(FLAG, true);
+const maybeFlag = () => member(FLAG, false);
+const ofValues = () => member(VALUE, false);
+const any = () => member(ANY, false);
+
+const HOLD_NODES = [NODE, LIST, HOLES];
 
 const NOTES = [
   "type", "start", "end", "loc", "range", "extra", "parent", "tokens", "comments", "leadingComments", "trailingComments", "innerComments", "errors",
@@ -29,25 +38,25 @@ const NOTES = [
   "_rollupAnnotations", "_rollupRemoved",
 ];
 
-const FUNCTION = { id: maybe("Identifier"), params: list(), body: node("BlockStatement"), async: FLAG, generator: FLAG };
+const FUNCTION = { id: maybe("Identifier"), params: list(), body: node("BlockStatement"), async: maybeFlag(), generator: maybeFlag() };
 const CLASS = { id: maybe("Identifier"), superClass: maybe(), body: node("ClassBody") };
-const OPERATION = { operator: TEXT, left: node(), right: node() };
+const OPERATION = { operator: text(), left: node(), right: node() };
 const NAME = ["Identifier", "Literal"];
 const ATTRIBUTES = { attributes: maybeList("ImportAttribute"), assertions: maybeList("ImportAttribute") };
 const LOOP_OVER = { left: node(), right: node(), body: node() };
 
 // The members of a type stand in the order of the text.
 const TYPES = {
-  Program: { body: list(), sourceType: MAYBE_TEXT, interpreter: maybe("InterpreterDirective"), hashbang: maybe("Hashbang") },
-  InterpreterDirective: { value: TEXT },
-  Hashbang: { value: TEXT },
+  Program: { body: list(), sourceType: maybeText(), interpreter: maybe("InterpreterDirective"), hashbang: maybe("Hashbang") },
+  InterpreterDirective: { value: text() },
+  Hashbang: { value: text() },
 
-  ExpressionStatement: { expression: node(), directive: MAYBE_TEXT },
+  ExpressionStatement: { expression: node(), directive: maybeText() },
   BlockStatement: { body: list() },
   EmptyStatement: {},
   DebuggerStatement: {},
   IfStatement: { test: node(), consequent: node(), alternate: maybe() },
-  VariableDeclaration: { kind: TEXT, declarations: list("VariableDeclarator") },
+  VariableDeclaration: { kind: text(), declarations: list("VariableDeclarator") },
   VariableDeclarator: { id: node(), init: maybe() },
   ReturnStatement: { argument: maybe() },
   ThrowStatement: { argument: node() },
@@ -62,56 +71,56 @@ const TYPES = {
   DoWhileStatement: { body: node(), test: node() },
   ForStatement: { init: maybe(), test: maybe(), update: maybe(), body: node() },
   ForInStatement: LOOP_OVER,
-  ForOfStatement: { ...LOOP_OVER, await: FLAG },
+  ForOfStatement: { ...LOOP_OVER, await: maybeFlag() },
 
   ImportDeclaration: {
     specifiers: list("ImportSpecifier", "ImportDefaultSpecifier", "ImportNamespaceSpecifier"), source: node("Literal"), ...ATTRIBUTES,
-    importKind: OF_VALUES,
+    importKind: ofValues(),
   },
-  ImportSpecifier: { imported: node(...NAME), local: node("Identifier"), importKind: OF_VALUES },
+  ImportSpecifier: { imported: node(...NAME), local: node("Identifier"), importKind: ofValues() },
   ImportDefaultSpecifier: { local: node("Identifier") },
   ImportNamespaceSpecifier: { local: node("Identifier") },
   ImportAttribute: { key: node(...NAME), value: node("Literal") },
   ExportNamedDeclaration: {
-    declaration: maybe(), specifiers: list("ExportSpecifier"), source: maybe("Literal"), ...ATTRIBUTES, exportKind: OF_VALUES,
+    declaration: maybe(), specifiers: list("ExportSpecifier"), source: maybe("Literal"), ...ATTRIBUTES, exportKind: ofValues(),
   },
-  ExportSpecifier: { local: node(...NAME), exported: node(...NAME), exportKind: OF_VALUES },
-  ExportAllDeclaration: { exported: maybe(...NAME), source: node("Literal"), ...ATTRIBUTES, exportKind: OF_VALUES },
-  ExportDefaultDeclaration: { declaration: node(), exportKind: OF_VALUES },
+  ExportSpecifier: { local: node(...NAME), exported: node(...NAME), exportKind: ofValues() },
+  ExportAllDeclaration: { exported: maybe(...NAME), source: node("Literal"), ...ATTRIBUTES, exportKind: ofValues() },
+  ExportDefaultDeclaration: { declaration: node(), exportKind: ofValues() },
 
   ObjectPattern: { properties: list("Property", "RestElement") },
-  ArrayPattern: { elements: HOLES },
+  ArrayPattern: { elements: holes() },
   AssignmentPattern: { left: node(), right: node() },
   RestElement: { argument: node() },
 
-  Identifier: { name: TEXT },
-  PrivateIdentifier: { name: TEXT },
-  Literal: { value: ANY, raw: MAYBE_TEXT, regex: ANY, bigint: MAYBE_TEXT },
+  Identifier: { name: text() },
+  PrivateIdentifier: { name: text() },
+  Literal: { value: any(), raw: maybeText(), regex: any(), bigint: maybeText() },
   ThisExpression: {},
   Super: {},
   MetaProperty: { meta: node("Identifier"), property: node("Identifier") },
-  MemberExpression: { object: node(), property: node(), computed: FLAG, optional: FLAG },
-  CallExpression: { callee: node(), arguments: list(), optional: FLAG },
+  MemberExpression: { object: node(), property: node(), computed: maybeFlag(), optional: maybeFlag() },
+  CallExpression: { callee: node(), arguments: list(), optional: maybeFlag() },
   NewExpression: { callee: node(), arguments: list() },
   ParenthesizedExpression: { expression: node() },
   ChainExpression: { expression: node() },
   BinaryExpression: OPERATION,
   LogicalExpression: OPERATION,
   AssignmentExpression: OPERATION,
-  UnaryExpression: { operator: TEXT, prefix: FLAG, argument: node() },
-  UpdateExpression: { operator: TEXT, prefix: NEEDED_FLAG, argument: node() },
+  UnaryExpression: { operator: text(), prefix: maybeFlag(), argument: node() },
+  UpdateExpression: { operator: text(), prefix: flag(), argument: node() },
   AwaitExpression: { argument: node() },
-  YieldExpression: { delegate: FLAG, argument: maybe() },
+  YieldExpression: { delegate: maybeFlag(), argument: maybe() },
   ConditionalExpression: { test: node(), consequent: node(), alternate: node() },
   SequenceExpression: { expressions: list() },
-  ArrayExpression: { elements: HOLES },
+  ArrayExpression: { elements: holes() },
   ObjectExpression: { properties: list("Property", "SpreadElement") },
   SpreadElement: { argument: node() },
-  Property: { kind: TEXT, key: node(), value: node(), method: FLAG, shorthand: FLAG, computed: FLAG },
-  ArrowFunctionExpression: { params: list(), body: node(), async: FLAG, expression: FLAG },
+  Property: { kind: text(), key: node(), value: node(), method: maybeFlag(), shorthand: maybeFlag(), computed: maybeFlag() },
+  ArrowFunctionExpression: { params: list(), body: node(), async: maybeFlag(), expression: maybeFlag() },
   ImportExpression: { source: node(), options: maybe(), attributes: maybe() },
   TemplateLiteral: { quasis: list("TemplateElement"), expressions: list() },
-  TemplateElement: { value: ANY, tail: FLAG },
+  TemplateElement: { value: any(), tail: maybeFlag() },
   TaggedTemplateExpression: { tag: node(), quasi: node("TemplateLiteral") },
 
   FunctionDeclaration: FUNCTION,
@@ -119,8 +128,8 @@ const TYPES = {
   ClassDeclaration: CLASS,
   ClassExpression: CLASS,
   ClassBody: { body: list("MethodDefinition", "PropertyDefinition", "StaticBlock") },
-  MethodDefinition: { kind: TEXT, key: node(), value: node("FunctionExpression"), computed: FLAG, static: FLAG },
-  PropertyDefinition: { key: node(), value: maybe(), computed: FLAG, static: FLAG },
+  MethodDefinition: { kind: text(), key: node(), value: node("FunctionExpression"), computed: maybeFlag(), static: maybeFlag() },
+  PropertyDefinition: { key: node(), value: maybe(), computed: maybeFlag(), static: maybeFlag() },
   StaticBlock: { body: list() },
 };
 
@@ -129,38 +138,24 @@ export function membersOf(type) {
   return MEMBERS.get(type);
 }
 
-/** The members `byName`, and the names of those that are `needed` and of those that hold nodes, `children`. */
+/** The members `byName`, the names of those that hold nodes, `children`, the type's `number`, and the look at a node of it, `first`. */
 class Members {
-  constructor(members) {
-    this.byName = new Map([...NOTES.map((name) => [name, NOTE]), ...Object.entries(members)]);
-    this.needed = Object.keys(members).filter((name) => members[name].isNeeded);
+  constructor(members, number) {
+    this.byName = new Map([...NOTES.map((name) => [name, member(NOTE, false)]), ...Object.entries(members)]);
     this.children = Object.keys(members).filter((name) => HOLD_NODES.includes(members[name].holds));
-    // of nodes that were met
-    this.looks = [];
-  }
-
-  /** What is looked at in a node that has these names, in their order. A parser gives nodes of one type few orders, so they are kept. */
-  lookAt(names) {
-    for (let at = 0; at < this.looks.length; at += 1) if (areSame(this.looks[at].names, names)) return this.looks[at];
-    const look = this.newLook(names);
-    if (this.looks.length < MOST_LOOKS) this.looks.push(look);
-    return look;
-  }
-
-  // The members that are no notes, each with its name; null for one that isn't known, and apart those that are needed and aren't there.
-  newLook(names) {
-    const all = names.map((name) => ({ name, member: this.byName.get(name) ?? null }));
-    const missing = this.needed.filter((name) => !names.includes(name)).map((name) => ({ name, member: this.byName.get(name) }));
-    return { names, given: all.filter(({ member }) => member !== NOTE), missing };
+    this.number = number;
+    const needed = Object.keys(members).filter((name) => members[name].isNeeded);
+    this.first = firstLook(this.byName, needed);
   }
 }
 
-const MEMBERS = new Map(Object.entries(TYPES).map(([type, members]) => [type, new Members(members)]));
+const MEMBERS = new Map(Object.entries(TYPES).map(([type, members], number) => [type, new Members(members, number)]));
 
-function areSame(names, others) {
-  if (names.length !== others.length) return false;
-  for (let at = 0; at < names.length; at += 1) if (names[at] !== others[at]) return false;
-  return true;
+for (const { byName } of MEMBERS.values()) for (const member of byName.values()) member.areAllowed = areAllowed(member.types);
+
+// By the numbers of the types, whether a node of that type may stand there; null where any may.
+function areAllowed(types) {
+  return types && Uint8Array.from(MEMBERS.keys(), (type) => Number(types.includes(type)));
 }
 
 /** The nodes that stand in a node, in the order of the text. */
@@ -172,5 +167,5 @@ export function childrenOf(node) {
 export function insidesOf(value) {
   if (Array.isArray(value)) return value.map((inside, at) => [`[${at}]`, inside]);
   const { byName } = MEMBERS.get(value.type) ?? { byName: [] };
-  return [...byName].filter(([, { holds }]) => holds !== "note").map(([name]) => [`.${name}`, value[name]]);
+  return [...byName].filter(([, { holds }]) => holds !== NOTE).map(([name]) => [`.${name}`, value[name]]);
 }

@@ -1,5 +1,5 @@
 // A tree is validated before it is converted: what isn't in the list of members is refused, since what nobody reads would be lost.
-import { membersOf } from "./members.mjs";
+import { FLAG, HOLES, LIST, NODE, NOTE, TEXT, VALUE, membersOf } from "./members.mjs";
 import { MalformedTree, wayTo } from "./refusals.mjs";
 
 // The types that Babel gives without its plugin `estree`, beside those that ESTree has too.
@@ -8,6 +8,7 @@ const OF_BABEL = new Set([
   "ObjectMethod", "ObjectProperty", "ClassMethod", "ClassPrivateMethod", "ClassProperty", "ClassPrivateProperty", "PrivateName", "Import",
   "OptionalMemberExpression", "OptionalCallExpression", "ExportNamespaceSpecifier",
 ]);
+const { hasOwnProperty } = Object.prototype;
 const SCRIPT = 'ask the parser for sourceType: "module", since the default of acorn and espree is a script';
 const BABEL = 'the tree is of Babel\'s own kind; its plugin ["estree", { classFeatures: true }] makes an ESTree tree';
 
@@ -43,59 +44,74 @@ class Validator {
     this.refuse = refuse;
   }
 
-  // It is called for each node of a large tree, with the members of its type.
+  // It is called for each node of a large tree, with the members of its type. A loop over the names itself is the fastest way to the values;
+  // names that a node inherits come last in it.
   node(node, members) {
     if (members === undefined) this.refuse(node.type, node, OF_BABEL.has(node.type) ? BABEL : "");
-    const { given, missing } = members.lookAt(Object.keys(node));
-    for (let at = 0; at < given.length; at += 1) {
-      const { name, member } = given[at];
-      if (member === null) this.unknown(node, name);
-      else this.member(node, name, member);
+    let look = members.first;
+    for (const name in node) {
+      if (!hasOwnProperty.call(node, name)) break;
+      look = look.after(name);
+      const { holds } = look;
+      if (holds === NOTE) continue;
+      const value = node[name];
+      if (holds === NODE && isNode(value)) this.child(node, name, value, look.member);
+      else if (holds === LIST && Array.isArray(value)) this.list(node, name, value, look.member);
+      else if (!(holds === TEXT ? typeof value === "string" : holds === FLAG && typeof value === "boolean")) this.other(node, name, value, look.member);
     }
-    for (const { name, member } of missing) if (!Object.hasOwn(node, name)) this.member(node, name, member);
+    if (look.missing.length > 0) this.missing(node, members, look.missing);
   }
 
-  unknown(node, name) {
-    if (!isGiven(node[name])) return;
+  missing(node, { byName }, names) {
+    for (const name of names) if (!Object.hasOwn(node, name)) this.other(node, name, node[name], byName.get(name));
+  }
+
+  // What isn't as most are: it is absent, or unknown, or of a kind that is rare, or it is refused.
+  other(node, name, value, member) {
+    if (member === null) return this.unknown(node, name, value);
+    if (!member.isNeeded && (value === undefined || value === null)) return;
+    switch (member.holds) {
+      case NODE:
+        if (!isNode(value)) this.fail(node, `.${name}${faultOf(value)}`);
+        return this.child(node, name, value, member);
+      case LIST:
+      case HOLES:
+        if (!Array.isArray(value)) this.fail(node, `.${name} is no list`);
+        return this.list(node, name, value, member);
+      case TEXT:
+        if (typeof value !== "string") this.fail(node, `.${name} is no text`);
+        return;
+      case FLAG:
+        if (typeof value !== "boolean") this.fail(node, `.${name} is neither true nor false`);
+        return;
+      case VALUE:
+        if (value !== "value") this.refuse(`${name} ${String(value)} of ${node.type}`, node, "");
+    }
+  }
+
+  unknown(node, name, value) {
+    if (!isGiven(value)) return;
     this.refuse(`${name} of ${node.type}`, node, name === "directives" ? BABEL : "");
   }
 
-  member(node, name, { holds, isNeeded, types }) {
-    const value = node[name];
-    if (!isNeeded && (value === undefined || value === null)) return;
-    switch (holds) {
-      case "node":
-        if (!isNode(value)) this.fail(node, `.${name}${faultOf(value)}`);
-        this.child(node, name, value, types);
-        break;
-      case "list":
-      case "holes":
-        if (!Array.isArray(value)) this.fail(node, `.${name} is no list`);
-        for (let at = 0; at < value.length; at += 1) {
-          if (value[at] === null && holds === "holes") continue;
-          if (!isNode(value[at])) this.fail(node, `.${name}[${at}]${faultOf(value[at])}`);
-          this.child(node, name, value[at], types);
-        }
-        break;
-      case "text":
-        if (typeof value !== "string") this.fail(node, `.${name} is no text`);
-        break;
-      case "flag":
-        if (typeof value !== "boolean") this.fail(node, `.${name} is neither true nor false`);
-        break;
-      case "value":
-        if (value !== "value") this.refuse(`${name} ${String(value)} of ${node.type}`, node, "");
-        break;
-      default:
+  child(node, name, value, { areAllowed }) {
+    const members = membersOf(value.type);
+    if (areAllowed !== null) this.allowed(node, name, value, members, areAllowed);
+    this.node(value, members);
+  }
+
+  list(node, name, values, member) {
+    for (let at = 0; at < values.length; at += 1) {
+      const value = values[at];
+      if (value === null && member.holds === HOLES) continue;
+      if (!isNode(value)) this.fail(node, `.${name}[${at}]${faultOf(value)}`);
+      this.child(node, name, value, member);
     }
   }
 
   // Types that nothing is known of are told as such.
-  child(node, name, value, types) {
-    const { type } = value;
-    const members = membersOf(type);
-    if (types !== null && members !== undefined && !types.includes(type)) this.fail(value, ` is of type ${type}, which can't be the ${name} of ${node.type}`);
-    this.node(value, members);
+  allowed(node, name, value, members, areAllowed) {
+    if (members !== undefined && areAllowed[members.number] === 0) this.fail(value, ` is of type ${value.type}, which can't be the ${name} of ${node.type}`);
   }
 
   fail(node, what) {
