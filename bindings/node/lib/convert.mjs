@@ -26,7 +26,7 @@ export function jobOf(program, settings) {
 export function jobAndNodes(program, settings) {
   const sink = new JsonRows();
   const head = converted(program, settings, sink);
-  return { job: { ...head, rows: sink.rows }, nodes: sink.nodes };
+  return { job: { ...head, rows: sink.rows() }, nodes: sink.nodes };
 }
 
 /** The bytes of the same job in its flat form (docs/FORMAT.md, "Flat jobs"). It takes and refuses the same, and throws the same. */

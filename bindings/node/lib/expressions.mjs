@@ -1,7 +1,18 @@
 // The part of the converter for expressions, patterns, functions and classes.
+import * as forms from "./forms.mjs";
 import { literalOf } from "./literals.mjs";
 import { isWholeNumber, withoutParentheses } from "./texts.mjs";
 import { Walk } from "./walk.mjs";
+import { flag } from "./words.mjs";
+
+const DECLARATION = forms.FUNCTION.word("kind", "declaration");
+const EXPRESSION = forms.FUNCTION.word("kind", "expression");
+const WHOLE = forms.WHOLE_NUMBER.word("kind", "whole");
+const RAW = forms.RAW_NUMBER.word("kind", "raw");
+const MINUS = forms.UNARY.word("operator", "-");
+// The value of a BooleanLiteral, which is given whatever it says.
+const FALSE = 1;
+const TRUE = 2;
 
 // Whether a property says its key again as its value, which may have been changed since.
 function isShorthand({ key, computed, value }) {
@@ -25,19 +36,21 @@ export class Expressions extends Walk {
   binding(node) {
     switch (node.type) {
       case "Identifier":
-        return this.add("BindingIdentifier", node, "name", node.name, "symbol", this.numberOf(node, "symbolOf"));
+        return this.addName(forms.BINDING, node, "symbolOf", "symbol");
       case "ObjectPattern":
         return this.add(
-          node.type, node,
-          "properties", this.beforeRest(node.properties, this.bindingProperty),
-          "rest", this.rest(node.properties, this.bindingRest),
+          forms.OBJECT_PATTERN, node,
+          this.beforeRest(node.properties, this.bindingProperty),
+          this.rest(node.properties, this.bindingRest),
         );
       case "ArrayPattern":
         return this.add(
-          node.type, node, "elements", this.beforeRest(node.elements, this.binding), "rest", this.rest(node.elements, this.bindingRest),
+          forms.ARRAY_PATTERN, node,
+          this.beforeRest(node.elements, this.binding),
+          this.rest(node.elements, this.bindingRest),
         );
       case "AssignmentPattern":
-        return this.add(node.type, node, "left", this.binding(node.left), "right", this.expression(node.right));
+        return this.add(forms.ASSIGNMENT_PATTERN, node, this.binding(node.left), this.expression(node.right));
       default:
         return this.misplaced(node, "binding pattern");
     }
@@ -45,7 +58,7 @@ export class Expressions extends Walk {
 
   bindingProperty(node) {
     this.onlyInit(node);
-    return this.add("BindingProperty", node, "key", this.key(node), "value", this.binding(node.value), "computed", node.computed);
+    return this.add(forms.BINDING_PROPERTY, node, this.key(node), this.binding(node.value), flag(node.computed));
   }
 
   onlyInit(node) {
@@ -53,7 +66,7 @@ export class Expressions extends Walk {
   }
 
   bindingRest(node) {
-    return this.add("BindingRestElement", node, "argument", this.binding(node.argument));
+    return this.add(forms.BINDING_REST, node, this.binding(node.argument));
   }
 
   // The list of what stands before what takes the rest.
@@ -67,7 +80,7 @@ export class Expressions extends Walk {
 
   // What takes the rest, where that stands last.
   rest(nodes, convert) {
-    return countBeforeRest(nodes) < nodes.length ? convert.call(this, nodes.at(-1)) : null;
+    return countBeforeRest(nodes) < nodes.length ? convert.call(this, nodes.at(-1)) : 0;
   }
 
   // What is assigned to. Parentheses round it are no node.
@@ -88,45 +101,42 @@ export class Expressions extends Walk {
 
   objectTarget(node) {
     return this.add(
-      "ObjectAssignmentTarget", node,
-      "properties", this.beforeRest(node.properties, this.targetProperty),
-      "rest", this.rest(node.properties, this.targetRest),
+      forms.OBJECT_TARGET, node,
+      this.beforeRest(node.properties, this.targetProperty),
+      this.rest(node.properties, this.targetRest),
     );
   }
 
   arrayTarget(node) {
     return this.add(
-      "ArrayAssignmentTarget", node,
-      "elements", this.beforeRest(node.elements, this.targetOrDefault),
-      "rest", this.rest(node.elements, this.targetRest),
+      forms.ARRAY_TARGET, node,
+      this.beforeRest(node.elements, this.targetOrDefault),
+      this.rest(node.elements, this.targetRest),
     );
   }
 
   targetOrDefault(node) {
     if (node.type !== "AssignmentPattern") return this.target(node);
-    return this.add("AssignmentTargetWithDefault", node, "binding", this.target(node.left), "init", this.expression(node.right));
+    return this.add(forms.TARGET_WITH_DEFAULT, node, this.target(node.left), this.expression(node.right));
   }
 
   targetProperty(node) {
     this.onlyInit(node);
     if (node.shorthand && isShorthand(node)) return this.targetIdentifier(node, node.value);
-    return this.add(
-      "AssignmentTargetPropertyProperty", node,
-      "name", this.key(node), "binding", this.targetOrDefault(node.value), "computed", node.computed,
-    );
+    return this.add(forms.TARGET_PROPERTY, node, this.key(node), this.targetOrDefault(node.value), flag(node.computed));
   }
 
   targetIdentifier(node, value) {
     const isDefault = value.type === "AssignmentPattern";
     return this.add(
-      "AssignmentTargetPropertyIdentifier", node,
-      "binding", this.expression(isDefault ? value.left : value),
-      "init", isDefault ? this.expression(value.right) : null,
+      forms.TARGET_IDENTIFIER, node,
+      this.expression(isDefault ? value.left : value),
+      isDefault ? this.expression(value.right) : 0,
     );
   }
 
   targetRest(node) {
-    return this.add("AssignmentTargetRest", node, "target", this.target(node.argument));
+    return this.add(forms.TARGET_REST, node, this.target(node.argument));
   }
 
   // ---- expressions
@@ -135,78 +145,88 @@ export class Expressions extends Walk {
     if (this.annotations.size > 0) this.annotateExpression(node);
     switch (node.type) {
       case "Identifier":
-        return this.add("IdentifierReference", node, "name", node.name, "reference", this.numberOf(node, "referenceOf"));
+        return this.addName(forms.REFERENCE, node, "referenceOf", "reference");
       case "Literal":
         return this.literal(node);
       case "ThisExpression":
+        return this.add(forms.THIS, node);
       case "Super":
-        return this.add(node.type, node);
+        return this.add(forms.SUPER, node);
       case "MetaProperty":
-        return this.add(this.metaType(node), node);
+        return this.add(this.metaForm(node), node);
       case "MemberExpression":
         return this.member(node);
       case "CallExpression":
-        return this.add(
-          node.type, node,
-          "callee", this.expression(node.callee), "arguments", this.several(node.arguments, this.element),
-          "optional", node.optional, "pure", this.pure.has(node),
-        );
+        return this.call(node);
       case "NewExpression":
         return this.add(
-          node.type, node,
-          "callee", this.expression(node.callee), "arguments", this.several(node.arguments, this.element), "pure", this.pure.has(node),
+          forms.NEW, node,
+          this.expression(node.callee), this.several(node.arguments, this.element), flag(this.pure.has(node)),
         );
       case "ParenthesizedExpression":
+        return this.add(forms.PARENTHESES, node, this.expression(node.expression));
       case "ChainExpression":
-        return this.add(node.type, node, "expression", this.expression(node.expression));
+        return this.add(forms.CHAIN, node, this.expression(node.expression));
       case "BinaryExpression":
         if (node.left.type === "PrivateIdentifier" && node.operator === "in") return this.privateIn(node);
-      // falls through: the same fields
+        return this.operation(forms.BINARY, node, this.expression(node.left), this.expression(node.right));
       case "LogicalExpression":
-        return this.add(node.type, node, "operator", node.operator, "left", this.expression(node.left), "right", this.expression(node.right));
+        return this.operation(forms.LOGICAL, node, this.expression(node.left), this.expression(node.right));
       case "UnaryExpression":
         return this.unary(node);
       case "AwaitExpression":
-        return this.add(node.type, node, "argument", this.expression(node.argument));
+        return this.add(forms.AWAIT, node, this.expression(node.argument));
       case "YieldExpression":
-        return this.add(node.type, node, "delegate", node.delegate, "argument", this.maybe(node.argument, this.expression));
+        return this.add(forms.YIELD, node, flag(node.delegate), this.maybe(node.argument, this.expression));
       case "UpdateExpression":
-        return this.add(node.type, node, "operator", node.operator, "prefix", node.prefix, "argument", this.target(node.argument));
+        return this.operation(forms.UPDATE, node, flag(node.prefix), this.target(node.argument));
       case "ConditionalExpression":
         return this.add(
-          node.type, node,
-          "test", this.expression(node.test),
-          "consequent", this.expression(node.consequent),
-          "alternate", this.expression(node.alternate),
+          forms.CONDITIONAL, node,
+          this.expression(node.test),
+          this.expression(node.consequent),
+          this.expression(node.alternate),
         );
       case "AssignmentExpression":
-        return this.add(node.type, node, "operator", node.operator, "left", this.target(node.left), "right", this.expression(node.right));
+        return this.operation(forms.ASSIGNMENT, node, this.target(node.left), this.expression(node.right));
       case "SequenceExpression":
-        return this.add(node.type, node, "expressions", this.several(node.expressions, this.expression));
+        return this.add(forms.SEQUENCE, node, this.several(node.expressions, this.expression));
       case "ArrayExpression":
-        return this.add(node.type, node, "elements", this.several(node.elements, this.element));
+        return this.add(forms.ARRAY, node, this.several(node.elements, this.element));
       case "ObjectExpression":
-        return this.add(node.type, node, "properties", this.several(node.properties, this.property));
+        return this.add(forms.OBJECT, node, this.several(node.properties, this.property));
       case "ArrowFunctionExpression":
         return this.arrow(node);
       case "FunctionExpression":
-        return this.function(node, "expression");
+        return this.function(node, EXPRESSION);
       case "ClassExpression":
-        return this.class(node, "expression");
+        return this.class(node, EXPRESSION);
       case "ImportExpression":
         return this.importExpression(node);
       case "TemplateLiteral":
         return this.template(node);
       case "TaggedTemplateExpression":
-        return this.add(node.type, node, "tag", this.expression(node.tag), "quasi", this.template(node.quasi));
+        return this.add(forms.TAGGED_TEMPLATE, node, this.expression(node.tag), this.template(node.quasi));
       default:
         return this.misplaced(node, "expression");
     }
   }
 
-  metaType({ meta, property }) {
-    if (meta.name === "new" && property.name === "target") return "NewTarget";
-    if (meta.name === "import" && property.name === "meta") return "ImportMeta";
+  // A row whose operator stands before the other fields, and is looked at behind what stands in them.
+  operation(form, node, word2, word3) {
+    return this.add(form, node, this.word(form, node, node.operator), word2, word3);
+  }
+
+  call(node) {
+    return this.add(
+      forms.CALL, node,
+      this.expression(node.callee), this.several(node.arguments, this.element), flag(node.optional), flag(this.pure.has(node)),
+    );
+  }
+
+  metaForm({ meta, property }) {
+    if (meta.name === "new" && property.name === "target") return forms.NEW_TARGET;
+    if (meta.name === "import" && property.name === "meta") return forms.IMPORT_META;
     return this.fail(property, `is ${property.name}, of which ${meta.name} has none`);
   }
 
@@ -214,26 +234,25 @@ export class Expressions extends Walk {
   importExpression(node) {
     const options = node.options ?? node.attributes;
     if ((node.attributes ?? options) !== options) this.fail(node, "has options and other attributes");
-    return this.add(node.type, node, "source", this.expression(node.source), "options", this.maybe(options, this.expression));
+    return this.add(forms.DYNAMIC_IMPORT, node, this.expression(node.source), this.maybe(options, this.expression));
   }
 
   template(node) {
-    return this.add(
-      node.type, node, "quasis", this.several(node.quasis, this.piece), "expressions", this.several(node.expressions, this.expression),
-    );
+    return this.add(forms.TEMPLATE, node, this.several(node.quasis, this.piece), this.several(node.expressions, this.expression));
   }
 
   // A piece of a template: its text as it is written, with plain line ends, and what that stands for.
   piece(node) {
     const { raw, cooked = null } = node.value ?? {};
     if (typeof raw !== "string" || !(cooked === null || typeof cooked === "string")) this.fail(node, "has no texts raw and cooked in its value");
-    return this.add(node.type, node, "raw", raw, "cooked", cooked);
+    const form = forms.TEMPLATE_ELEMENT;
+    return this.add(form, node, this.text(form, node, "raw", raw), cooked === null ? 0 : this.sink.string(cooked));
   }
 
   literal(node) {
     const literal = this.said(node);
     const row = this.unsigned(node, literal);
-    return literal.isNegative ? this.add("UnaryExpression", node, "operator", "-", "argument", row) : row;
+    return literal.isNegative ? this.add(forms.UNARY, node, MINUS, row) : row;
   }
 
   said(node) {
@@ -245,70 +264,64 @@ export class Expressions extends Walk {
   unsigned(node, { type, text, value, pattern, flags }) {
     switch (type) {
       case "NumericLiteral":
-        return this.number(node, text, false);
+        return this.numeric(node, text, false);
       case "BigIntLiteral":
-        return this.add(type, node, "value", text);
+        return this.bigInt(node, text);
       case "StringLiteral":
-        return this.add(type, node, "value", value);
+        return this.add(forms.STRING, node, this.sink.string(value));
       case "BooleanLiteral":
-        return this.boolean(node, value);
+        return this.add(forms.BOOLEAN, node, value ? TRUE : FALSE);
       case "NullLiteral":
-        return this.add(type, node);
+        return this.add(forms.NULL, node);
       default:
-        return this.add(type, node, "pattern", pattern, "flags", flags);
+        return this.add(
+          forms.REG_EXP, node, this.text(forms.REG_EXP, node, "pattern", pattern), this.text(forms.REG_EXP, node, "flags", flags),
+        );
     }
   }
 
-  // Its value is given, be it true or false.
-  boolean(node, value) {
-    this.open("BooleanLiteral", node);
-    this.give("value", value);
-    return this.sink.close();
+  numeric(node, text, isNegative) {
+    if (isWholeNumber(text)) return this.add(forms.WHOLE_NUMBER, node, WHOLE, flag(isNegative), this.sink.digits(text));
+    return this.add(forms.RAW_NUMBER, node, RAW, this.text(forms.RAW_NUMBER, node, "text", text));
   }
 
-  number(node, text, negative) {
-    if (!isWholeNumber(text)) return this.add("NumericLiteral", node, "kind", "raw", "text", text);
-    return this.add("NumericLiteral", node, "kind", "whole", "negative", negative, "digits", text);
+  bigInt(node, text) {
+    return this.add(forms.BIG_INT, node, this.text(forms.BIG_INT, node, "value", text));
   }
 
   unary(node) {
     const inside = node.argument;
     if (this.negative && node.operator === "-" && inside.type === "Literal") {
       const { type, text, isNegative } = this.said(inside);
-      if (type === "BigIntLiteral" && !isNegative) return this.add(type, node, "value", `-${text}`);
-      if (type === "NumericLiteral" && !isNegative && isWholeNumber(text)) return this.number(node, text, true);
+      if (type === "BigIntLiteral" && !isNegative) return this.bigInt(node, `-${text}`);
+      if (type === "NumericLiteral" && !isNegative && isWholeNumber(text)) return this.numeric(node, text, true);
     }
-    return this.add(node.type, node, "operator", node.operator, "argument", this.expression(inside));
+    return this.operation(forms.UNARY, node, this.expression(inside));
   }
 
   member(node) {
     const object = this.expression(node.object);
-    const { optional, property } = node;
-    if (node.computed) {
-      return this.add("ComputedMemberExpression", node, "object", object, "optional", optional, "expression", this.expression(property));
-    }
+    const optional = flag(node.optional);
+    const { property } = node;
+    if (node.computed) return this.add(forms.COMPUTED_MEMBER, node, object, optional, this.expression(property));
     return property.type === "PrivateIdentifier"
-      ? this.add("PrivateFieldExpression", node, "object", object, "optional", optional, "field", this.privateName(property))
-      : this.add("StaticMemberExpression", node, "object", object, "optional", optional, "property", this.name(property));
+      ? this.add(forms.PRIVATE_FIELD, node, object, optional, this.ownName(forms.PRIVATE_NAME, property))
+      : this.add(forms.STATIC_MEMBER, node, object, optional, this.name(property));
   }
 
   privateIn(node) {
-    return this.add("PrivateInExpression", node, "left", this.privateName(node.left), "right", this.expression(node.right));
+    return this.add(forms.PRIVATE_IN, node, this.ownName(forms.PRIVATE_NAME, node.left), this.expression(node.right));
   }
 
   name(node) {
     if (node.type !== "Identifier") this.misplaced(node, "name");
-    return this.add("IdentifierName", node, "name", node.name);
-  }
-
-  privateName(node) {
-    return this.add("PrivateIdentifier", node, "name", node.name);
+    return this.ownName(forms.NAME, node);
   }
 
   // The key of a property, of a class's member too.
   key({ key, computed }) {
     if (computed) return this.expression(key);
-    if (key.type === "PrivateIdentifier") return this.privateName(key);
+    if (key.type === "PrivateIdentifier") return this.ownName(forms.PRIVATE_NAME, key);
     if (key.type !== "Literal") return this.name(key);
     if (this.said(key).isNegative) this.refuse("a negative number as a key", key);
     return this.literal(key);
@@ -317,20 +330,22 @@ export class Expressions extends Walk {
   // An argument, or an element of an array.
   element(node) {
     if (node.type !== "SpreadElement") return this.expression(node);
-    return this.add(node.type, node, "argument", this.expression(node.argument));
+    return this.add(forms.SPREAD, node, this.expression(node.argument));
   }
 
   property(node) {
     if (node.type === "SpreadElement") return this.element(node);
     if (node.method && node.kind !== "init") this.fail(node, `is of kind ${node.kind} and a method`);
+    const key = this.key(node);
+    const value = this.expression(node.value);
     return this.add(
-      "ObjectProperty", node,
-      "kind", node.kind,
-      "key", this.key(node),
-      "value", this.expression(node.value),
-      "method", node.method,
-      "shorthand", node.shorthand,
-      "computed", node.computed,
+      forms.PROPERTY, node,
+      this.word(forms.PROPERTY, node, node.kind),
+      key,
+      value,
+      flag(node.method),
+      flag(node.shorthand),
+      flag(node.computed),
     );
   }
 
@@ -338,74 +353,83 @@ export class Expressions extends Walk {
 
   arrow(node) {
     return this.add(
-      node.type, node,
-      "is_async", node.async,
-      "pure", this.pure.has(node),
-      "params", this.parameters(node.params),
-      "body", node.body.type === "BlockStatement" ? this.functionBody(node.body) : this.expression(node.body),
+      forms.ARROW, node,
+      flag(node.async),
+      flag(this.pure.has(node)),
+      this.parameters(node.params),
+      node.body.type === "BlockStatement" ? this.functionBody(node.body) : this.expression(node.body),
     );
+  }
+
+  functionDeclaration(node) {
+    return this.function(node, DECLARATION);
   }
 
   function(node, kind) {
     return this.add(
-      "Function", node,
-      "kind", kind,
-      "id", this.maybe(node.id, this.binding),
-      "is_async", node.async,
-      "generator", node.generator,
-      "pure", this.pure.has(node),
-      "params", this.parameters(node.params),
-      "body", this.functionBody(node.body),
+      forms.FUNCTION, node,
+      kind,
+      this.maybe(node.id, this.binding),
+      flag(node.async),
+      flag(node.generator),
+      flag(this.pure.has(node)),
+      this.parameters(node.params),
+      this.functionBody(node.body),
     );
   }
 
   functionBody(node) {
-    return this.add("FunctionBody", node, "directives", this.directives(node.body), "statements", this.statements(node.body));
+    return this.add(forms.FUNCTION_BODY, node, this.directives(node.body), this.statements(node.body));
   }
 
   parameters(nodes) {
-    return this.add("FormalParameters", null, "items", this.beforeRest(nodes, this.parameter), "rest", this.rest(nodes, this.restParameter));
+    return this.add(forms.PARAMETERS, null, this.beforeRest(nodes, this.parameter), this.rest(nodes, this.restParameter));
   }
 
   parameter(node) {
     const isDefault = node.type === "AssignmentPattern";
     const pattern = isDefault ? node.left : node;
-    return this.add(
-      "FormalParameter", node, "pattern", this.binding(pattern), "initializer", isDefault ? this.expression(node.right) : null,
-    );
+    return this.add(forms.PARAMETER, node, this.binding(pattern), isDefault ? this.expression(node.right) : 0);
   }
 
   restParameter(node) {
-    return this.add("FormalParameterRest", node, "argument", this.binding(node.argument));
+    return this.add(forms.REST_PARAMETER, node, this.binding(node.argument));
   }
 
   // ---- classes
 
+  classDeclaration(node) {
+    return this.class(node, DECLARATION);
+  }
+
   class(node, kind) {
     return this.add(
-      "Class", node,
-      "kind", kind,
-      "id", this.maybe(node.id, this.binding),
-      "heritage", this.maybe(node.superClass, this.expression),
-      "body", this.add("ClassBody", node.body, "body", this.several(node.body.body, this.classElement)),
+      forms.CLASS, node,
+      kind,
+      this.maybe(node.id, this.binding),
+      this.maybe(node.superClass, this.expression),
+      this.add(forms.CLASS_BODY, node.body, this.several(node.body.body, this.classElement)),
     );
   }
 
   classElement(node) {
     switch (node.type) {
       case "StaticBlock":
-        return this.add(node.type, node, "body", this.several(node.body, this.statement));
+        return this.add(forms.STATIC_BLOCK, node, this.several(node.body, this.statement));
       case "MethodDefinition":
         if ((node.kind === "constructor") !== isConstructor(node)) this.fail(node, `is of kind ${node.kind}, which its key contradicts`);
-        return this.add(
-          node.type, node,
-          "kind", node.kind, "key", this.key(node), "value", this.expression(node.value), "computed", node.computed, "is_static", node.static,
-        );
+        return this.method(node);
       default:
         return this.add(
-          node.type, node,
-          "key", this.key(node), "computed", node.computed, "is_static", node.static, "value", this.maybe(node.value, this.expression),
+          forms.FIELD, node,
+          this.key(node), flag(node.computed), flag(node.static), this.maybe(node.value, this.expression),
         );
     }
+  }
+
+  method(node) {
+    const key = this.key(node);
+    const value = this.expression(node.value);
+    return this.add(forms.METHOD, node, this.word(forms.METHOD, node, node.kind), key, value, flag(node.computed), flag(node.static));
   }
 }

@@ -2,6 +2,7 @@
 // texts into one heap, as they come.
 import { TABLE_NUMBER } from "./table.mjs";
 import { unitsOf } from "./texts.mjs";
+import { Rows, Words } from "./words.mjs";
 
 const MAGIC = 0x4647534a;
 const HEAD_WORDS = 8;
@@ -23,28 +24,6 @@ function roomFor(length) {
   if (typeof length !== "number") return room;
   while (room < length && room < MOST_ROOM) room *= 2;
   return room;
-}
-
-/** Words in order, which grow by doubling; those behind the last are 0. */
-class Words {
-  constructor(room) {
-    this.words = new Uint32Array(room);
-    this.length = 0;
-  }
-
-  // Makes room for so many more, and gives the place of the first of them.
-  take(count) {
-    const at = this.length;
-    this.length += count;
-    if (this.length > this.words.length) this.grow();
-    return at;
-  }
-
-  grow() {
-    const words = new Uint32Array(Math.max(2 * this.words.length, this.length));
-    words.set(this.words);
-    this.words = words;
-  }
 }
 
 /**
@@ -106,63 +85,21 @@ class Texts {
 /** A number that no word of a flat job can say: only tables of names that `renaming` didn't make have one. In JSON it is a fault of the job. */
 export class NoWord extends TypeError {}
 
-/** The sections of a flat job. `length` is about that of the source, or anything where it isn't known. */
-export class FlatRows {
+/** The sections of a flat job, of which it is the rows itself. `length` is about that of the source, or anything where it isn't known. */
+export class FlatRows extends Rows {
   constructor(length) {
     const room = roomFor(length);
-    this.rows = new Words(room);
+    super(room);
     this.lists = new Words(room / 8);
     this.texts = new Texts(room);
-    this.count = 0;
-    // where the row begins that is open
-    this.row = 0;
   }
 
-  open(type, node, start, end) {
-    this.row = this.rows.take(type.length);
-    const { words } = this.rows;
-    words[this.row] = type.number;
-    words[this.row + 1] = start;
-    words[this.row + 2] = end;
+  text(text) {
+    return this.texts.add(text) + 1;
   }
 
-  close() {
-    this.count += 1;
-    return this.count - 1;
-  }
-
-  // The place of a list that is written.
-  listOf(stack, from, to) {
-    let at = this.lists.take(1 + to - from);
-    const place = at;
-    const { words } = this.lists;
-    words[at] = to - from;
-    for (let item = from; item < to; item += 1) {
-      at += 1;
-      words[at] = stack[item] === null ? 0 : stack[item] + 1;
-    }
-    return place;
-  }
-
-  set(field, word) {
-    this.rows.words[this.row + field.place] = word;
-  }
-
-  child(field, row) {
-    this.set(field, row + 1);
-  }
-
-  list(field, place) {
-    this.set(field, place + 1);
-  }
-
-  text(field, text) {
-    this.set(field, this.texts.add(text) + 1);
-  }
-
-  string(field, text) {
-    if (text.isWellFormed()) this.set(field, 2 * (this.texts.add(text) + 1));
-    else this.set(field, 2 * this.unitsList(unitsOf(text)) + 1);
+  string(text) {
+    return text.isWellFormed() ? 2 * (this.texts.add(text) + 1) : 2 * this.unitsList(unitsOf(text)) + 1;
   }
 
   // The place of a list of units.
@@ -173,35 +110,35 @@ export class FlatRows {
     return place;
   }
 
-  digits(field, text) {
+  digits(text) {
     const value = Number(text);
-    this.set(field, value < DIGITS_LIMIT ? 2 * value + 1 : 2 * (this.texts.add(text) + 1));
+    return value < DIGITS_LIMIT ? 2 * value + 1 : 2 * (this.texts.add(text) + 1);
   }
 
-  number(field, number) {
-    if (number >>> 0 !== number || number === MOST_WORD) throw new NoWord(`the ${field.name} ${number} is no whole number below ${MOST_WORD}`);
-    this.set(field, number + 1);
+  number(name, number) {
+    if (number >>> 0 !== number || number === MOST_WORD) throw new NoWord(`the ${name} ${number} is no whole number below ${MOST_WORD}`);
+    return number + 1;
   }
 
-  flag(field, flag) {
-    this.set(field, flag ? 2 : 1);
-  }
-
-  word(field, word, number) {
-    this.set(field, number);
+  list(stack, from, to) {
+    const place = this.lists.take(1 + to - from);
+    const { words } = this.lists;
+    words[place] = to - from;
+    for (let at = from; at < to; at += 1) words[place + 1 + at - from] = stack[at];
+    return place + 1;
   }
 
   /** The bytes of the job that has these rows and the other members of its head. */
   job(head) {
     this.texts.encode();
-    const { rows, lists, texts } = this;
+    const { lists, texts } = this;
     const json = Buffer.from(JSON.stringify(head));
-    const numbers = [MAGIC, TABLE_NUMBER, this.count, rows.length, lists.length, texts.places.length / 2, texts.end, json.length];
-    const words = HEAD_WORDS + rows.length + lists.length + texts.places.length;
+    const numbers = [MAGIC, TABLE_NUMBER, this.count, this.length, lists.length, texts.places.length / 2, texts.end, json.length];
+    const words = HEAD_WORDS + this.length + lists.length + texts.places.length;
     const bytes = Buffer.allocUnsafeSlow(4 * words + texts.end + json.length);
     const written = new Uint32Array(bytes.buffer, bytes.byteOffset, words);
     let at = 0;
-    for (const part of [numbers, ...[rows, lists, texts.places].map((section) => section.words.subarray(0, section.length))]) {
+    for (const part of [numbers, ...[this, lists, texts.places].map((section) => section.words.subarray(0, section.length))]) {
       written.set(part, at);
       at += part.length;
     }

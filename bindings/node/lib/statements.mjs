@@ -1,9 +1,16 @@
 // The part of the converter for programs, statements, imports and exports.
 import { Expressions } from "./expressions.mjs";
+import * as forms from "./forms.mjs";
 import { stringIn } from "./literals.mjs";
 import { endOf, startOf } from "./refusals.mjs";
 import { bytesAt } from "./texts.mjs";
 import { validate } from "./validate.mjs";
+import { flag } from "./words.mjs";
+
+const MODULE = forms.PROGRAM.word("kind", "module");
+const WITH = forms.WITH.word("keyword", "with");
+// The kind of imports and exports in code without types.
+const VALUE = forms.IMPORT.word("import_kind", "value");
 
 function isDirective(node) {
   return node.type === "ExpressionStatement" && typeof node.directive === "string";
@@ -27,10 +34,10 @@ export class Statements extends Expressions {
     const statements = this.statements(node.body);
     // Comments behind the last token belong to the text's end, where some trees don't end.
     const place = comments.length > 0 ? { start: startOf(node), end: this.source.length } : node;
-    const source = hasSource ? this.source?.toWellFormed() : null;
+    const source = hasSource ? this.source?.toWellFormed() : undefined;
     this.add(
-      "Program", place,
-      "source", source, "kind", "module", "comments", rows, "hashbang", hashbang, "directives", directives, "body", statements,
+      forms.PROGRAM, place,
+      source === undefined ? 0 : this.sink.text(source), MODULE, rows, hashbang, directives, statements,
     );
   }
 
@@ -38,16 +45,20 @@ export class Statements extends Expressions {
   hashbang(node) {
     const said = node.interpreter === undefined ? node.hashbang : node.interpreter;
     if (said === undefined) return this.hashbangOfSource();
-    return said === null ? null : this.add("Hashbang", said, "value", said.value);
+    return said === null ? 0 : this.addHashbang(said, said.value);
   }
 
   hashbangOfSource() {
     const [line, value] = /^#!(.*)/.exec(this.source ?? "") ?? [];
-    return line === undefined ? null : this.add("Hashbang", { start: 0, end: line.length }, "value", value);
+    return line === undefined ? 0 : this.addHashbang({ start: 0, end: line.length }, value);
+  }
+
+  addHashbang(node, value) {
+    return this.add(forms.HASHBANG, node, this.text(forms.HASHBANG, node, "value", value));
   }
 
   comments(comments) {
-    if (comments.length === 0) return null;
+    if (comments.length === 0) return 0;
     const byteAt = this.byteAt ?? bytesAt(this.source);
     const bottom = this.top;
     for (const comment of comments) this.push(this.comment(comment, byteAt));
@@ -57,14 +68,11 @@ export class Statements extends Expressions {
   // Comments have their spans in any case.
   comment({ start, end, comment, kind, content, leading, attached_to, preceded_by_newline, followed_by_newline }, byteAt) {
     if (leading && /^(pure|nosideeffects)$/.test(content)) this.annotations.set(attached_to, content);
-    this.openAt("Comment", comment, byteAt(start), byteAt(end));
-    this.put("kind", kind);
-    this.put("content", content);
-    this.put("leading", leading);
-    this.put("attached_to", byteAt(attached_to));
-    this.put("preceded_by_newline", preceded_by_newline);
-    this.put("followed_by_newline", followed_by_newline);
-    return this.sink.close();
+    const at = this.openAt(forms.COMMENT, comment, byteAt(start), byteAt(end));
+    const kindWord = forms.COMMENT.word("kind", kind);
+    const contentWord = forms.COMMENT.word("content", content);
+    const attached = this.sink.number("attached_to", byteAt(attached_to));
+    return this.fill(forms.COMMENT, at, kindWord, contentWord, flag(leading), attached, flag(preceded_by_newline), flag(followed_by_newline));
   }
 
   // The directives at the front of a body.
@@ -79,7 +87,7 @@ export class Statements extends Expressions {
 
   directive(node) {
     if (node.expression.value !== stringIn(node.directive)) this.refuse("a directive that isn't what its expression says", node);
-    return this.add("Directive", node, "directive", node.directive);
+    return this.add(forms.DIRECTIVE, node, this.text(forms.DIRECTIVE, node, "directive", node.directive));
   }
 
   // ---- statements
@@ -89,42 +97,44 @@ export class Statements extends Expressions {
     switch (node.type) {
       case "ExpressionStatement":
         if (typeof node.directive === "string") this.refuse("a directive that doesn't stand at the front of a body", node);
-        return this.add(node.type, node, "expression", this.expression(node.expression));
+        return this.add(forms.EXPRESSION_STATEMENT, node, this.expression(node.expression));
       case "BlockStatement":
-        return this.add(node.type, node, "body", this.several(node.body, this.statement));
+        return this.add(forms.BLOCK, node, this.several(node.body, this.statement));
       case "IfStatement":
         return this.add(
-          node.type, node,
-          "test", this.expression(node.test),
-          "consequent", this.statement(node.consequent),
-          "alternate", this.maybe(node.alternate, this.statement),
+          forms.IF, node,
+          this.expression(node.test),
+          this.statement(node.consequent),
+          this.maybe(node.alternate, this.statement),
         );
       case "EmptyStatement":
+        return this.add(forms.EMPTY, node);
       case "DebuggerStatement":
-        return this.add(node.type, node);
+        return this.add(forms.DEBUGGER, node);
       case "VariableDeclaration":
-        return this.add(node.type, node, "kind", node.kind, "declarations", this.several(node.declarations, this.declarator));
+        return this.variables(node);
       case "FunctionDeclaration":
-        return this.function(node, "declaration");
+        return this.functionDeclaration(node);
       case "ClassDeclaration":
-        return this.class(node, "declaration");
+        return this.classDeclaration(node);
       case "ReturnStatement":
-        return this.add(node.type, node, "argument", this.maybe(node.argument, this.expression));
+        return this.add(forms.RETURN, node, this.maybe(node.argument, this.expression));
       case "ThrowStatement":
-        return this.add(node.type, node, "argument", this.expression(node.argument));
+        return this.add(forms.THROW, node, this.expression(node.argument));
       case "BreakStatement":
+        return this.add(forms.BREAK, node, this.maybe(node.label, this.label));
       case "ContinueStatement":
-        return this.add(node.type, node, "label", this.maybe(node.label, this.label));
+        return this.add(forms.CONTINUE, node, this.maybe(node.label, this.label));
       case "LabeledStatement":
-        return this.add(node.type, node, "label", this.label(node.label), "body", this.statement(node.body));
+        return this.add(forms.LABELED, node, this.label(node.label), this.statement(node.body));
       case "SwitchStatement":
-        return this.add(node.type, node, "discriminant", this.expression(node.discriminant), "cases", this.several(node.cases, this.switchCase));
+        return this.add(forms.SWITCH, node, this.expression(node.discriminant), this.several(node.cases, this.switchCase));
       case "TryStatement":
         return this.add(
-          node.type, node,
-          "block", this.statement(node.block),
-          "handler", this.maybe(node.handler, this.handler),
-          "finalizer", this.maybe(node.finalizer, this.statement),
+          forms.TRY, node,
+          this.statement(node.block),
+          this.maybe(node.handler, this.handler),
+          this.maybe(node.finalizer, this.statement),
         );
       case "ImportDeclaration":
         return this.importDeclaration(node);
@@ -137,28 +147,34 @@ export class Statements extends Expressions {
     }
   }
 
+  variables(node) {
+    const declarations = this.several(node.declarations, this.declarator);
+    return this.add(forms.DECLARATION, node, this.word(forms.DECLARATION, node, node.kind), declarations);
+  }
+
   loop(node) {
     switch (node.type) {
       case "WhileStatement":
-        return this.add(node.type, node, "test", this.expression(node.test), "body", this.statement(node.body));
+        return this.add(forms.WHILE, node, this.expression(node.test), this.statement(node.body));
       case "DoWhileStatement":
-        return this.add(node.type, node, "body", this.statement(node.body), "test", this.expression(node.test));
+        return this.add(forms.DO_WHILE, node, this.statement(node.body), this.expression(node.test));
       case "ForStatement":
         return this.add(
-          node.type, node,
-          "init", this.maybe(node.init, this.declarationOrExpression),
-          "test", this.maybe(node.test, this.expression),
-          "update", this.maybe(node.update, this.expression),
-          "body", this.statement(node.body),
+          forms.FOR, node,
+          this.maybe(node.init, this.declarationOrExpression),
+          this.maybe(node.test, this.expression),
+          this.maybe(node.update, this.expression),
+          this.statement(node.body),
         );
       case "ForInStatement":
+        return this.add(forms.FOR_IN, node, this.declarationOrTarget(node.left), this.expression(node.right), this.statement(node.body));
       case "ForOfStatement":
         return this.add(
-          node.type, node,
-          "is_await", node.await,
-          "left", this.declarationOrTarget(node.left),
-          "right", this.expression(node.right),
-          "body", this.statement(node.body),
+          forms.FOR_OF, node,
+          flag(node.await),
+          this.declarationOrTarget(node.left),
+          this.expression(node.right),
+          this.statement(node.body),
         );
       default:
         return this.misplaced(node, "statement");
@@ -175,45 +191,38 @@ export class Statements extends Expressions {
   }
 
   switchCase(node) {
-    return this.add(
-      node.type, node, "test", this.maybe(node.test, this.expression), "consequent", this.several(node.consequent, this.statement),
-    );
+    return this.add(forms.CASE, node, this.maybe(node.test, this.expression), this.several(node.consequent, this.statement));
   }
 
   handler(node) {
-    return this.add(node.type, node, "param", this.maybe(node.param, this.binding), "body", this.statement(node.body));
+    return this.add(forms.CATCH, node, this.maybe(node.param, this.binding), this.statement(node.body));
   }
 
   label(node) {
-    return this.add("LabelIdentifier", node, "name", node.name);
+    return this.ownName(forms.LABEL, node);
   }
 
   declarator(node) {
-    return this.add(node.type, node, "id", this.binding(node.id), "init", this.maybe(node.init, this.expression));
+    return this.add(forms.DECLARATOR, node, this.binding(node.id), this.maybe(node.init, this.expression));
   }
 
   // ---- imports and exports
 
   importDeclaration(node) {
-    return this.add(
-      node.type, node,
-      "import_kind", "value",
-      "specifiers", this.importSpecifiers(node),
-      "source", this.string(node.source),
-      "with_clause", this.withClause(node),
-    );
+    return this.add(forms.IMPORT, node, VALUE, this.importSpecifiers(node), this.string(node.source), this.withClause(node));
   }
 
   // An import with an empty list is told from one without any by the source alone.
   importSpecifiers(node) {
     if (node.specifiers.length > 0) return this.several(node.specifiers, this.importSpecifier);
-    return this.isBraceBetween(node, node.source) ? this.listFrom(this.top) : null;
+    return this.isBraceBetween(node, node.source) ? this.listFrom(this.top) : 0;
   }
 
   importSpecifier(node) {
     const local = this.binding(node.local);
-    if (node.type !== "ImportSpecifier") return this.add(node.type, node, "local", local);
-    return this.add(node.type, node, "import_kind", "value", "imported", this.moduleName(node.imported), "local", local);
+    if (node.type === "ImportDefaultSpecifier") return this.add(forms.IMPORT_DEFAULT, node, local);
+    if (node.type === "ImportNamespaceSpecifier") return this.add(forms.IMPORT_NAMESPACE, node, local);
+    return this.add(forms.IMPORT_SPECIFIER, node, VALUE, this.moduleName(node.imported), local);
   }
 
   // The attributes of an import or an export. An empty clause is found in the source alone.
@@ -223,11 +232,11 @@ export class Statements extends Expressions {
     const isAssert = assertions?.length > 0 || node.extra?.deprecatedAssertSyntax || /^\s*assert\s*\{/.test(written);
     if (isAssert) this.refuse(`the keyword assert of ${node.type}`, node);
     const isGiven = attributes?.length > 0 || written.includes("{");
-    return isGiven ? this.add("WithClause", null, "keyword", "with", "entries", this.several(attributes ?? [], this.attribute)) : null;
+    return isGiven ? this.add(forms.WITH, null, WITH, this.several(attributes ?? [], this.attribute)) : 0;
   }
 
   attribute(node) {
-    return this.add(node.type, node, "key", this.moduleName(node.key), "value", this.string(node.value));
+    return this.add(forms.ATTRIBUTE, node, this.moduleName(node.key), this.string(node.value));
   }
 
   isBraceBetween(from, to) {
@@ -241,37 +250,31 @@ export class Statements extends Expressions {
   }
 
   exported(node) {
-    if (node.type === "ExportDefaultDeclaration") return this.add(node.type, node, "declaration", this.defaultExport(node.declaration));
+    if (node.type === "ExportDefaultDeclaration") return this.add(forms.EXPORT_DEFAULT, node, this.defaultExport(node.declaration));
     if (node.declaration) return this.exportDeclaration(node);
     if (node.type === "ExportAllDeclaration") return this.exportAll(node);
     if (node.source) return this.exportFrom(node);
     if (node.attributes?.length > 0 || node.assertions?.length > 0) this.fail(node, "has attributes without a source");
-    return this.add(node.type, node, "export_kind", "value", "specifiers", this.several(node.specifiers, this.specifierOfOwn));
+    return this.add(forms.EXPORT_NAMED, node, VALUE, this.several(node.specifiers, this.specifierOfOwn));
   }
 
   exportDeclaration(node) {
     const others = [...node.specifiers, ...(node.attributes ?? []), ...(node.assertions ?? [])];
     if (others.length > 0 || node.source) this.fail(node, "has more than its declaration");
-    return this.add("ExportDeclaration", node, "declaration", this.statement(node.declaration));
+    return this.add(forms.EXPORT_DECLARATION, node, this.statement(node.declaration));
   }
 
   exportAll(node) {
     return this.add(
-      node.type, node,
-      "export_kind", "value",
-      "exported", this.maybe(node.exported, this.moduleName),
-      "source", this.string(node.source),
-      "with_clause", this.withClause(node),
+      forms.EXPORT_ALL, node,
+      VALUE, this.maybe(node.exported, this.moduleName), this.string(node.source), this.withClause(node),
     );
   }
 
   exportFrom(node) {
     return this.add(
-      "ExportFromDeclaration", node,
-      "export_kind", "value",
-      "specifiers", this.several(node.specifiers, this.specifierFrom),
-      "source", this.string(node.source),
-      "with_clause", this.withClause(node),
+      forms.EXPORT_FROM, node,
+      VALUE, this.several(node.specifiers, this.specifierFrom), this.string(node.source), this.withClause(node),
     );
   }
 
@@ -289,7 +292,7 @@ export class Statements extends Expressions {
   }
 
   exportSpecifier(node, local) {
-    return this.add(node.type, node, "export_kind", "value", "local", local, "exported", this.moduleName(node.exported));
+    return this.add(forms.EXPORT_SPECIFIER, node, VALUE, local, this.moduleName(node.exported));
   }
 
   // A name of an import, an export or an attribute: as it is written, or a string.

@@ -1,14 +1,13 @@
 // What the parts of the converter have in common: how a row is written, and how a tree is refused.
 import { callIn, functionIn, isFunction } from "./annotations.mjs";
 import { MalformedTree, NotRead, endOf, placeOf, startOf, wayTo } from "./refusals.mjs";
-import { rowType } from "./reads.mjs";
 import { bytesAt, withoutParentheses } from "./texts.mjs";
 
 /**
- * Goes through a tree, and gives what it finds to a sink (JsonRows, FlatRows), row by row. A sink is told that a row begins, `open(type, node,
- * start, end)`, and each of its fields that is given, by a function that has the name of its sort in docs/FORMAT.md: `child`, `list`, `text`,
- * `string`, `digits`, `number`, `flag` and `word`. `close()` ends the row and gives its number, by which its parent names it. What `list` takes
- * is made by `listOf(stack, from, to)`, of the numbers that stand there, and null for a hole.
+ * Goes through a tree, and writes what it finds into a sink, which is the Rows of a job (JsonRows, FlatRows), row by row. Each part of the
+ * converter gives the word by which the row that it wrote is named where its parent has it. What a field holds that is no flag, no row and no
+ * word of its own is put into the sink by a function that has the name of the field's sort in docs/FORMAT.md and gives the field's word: `text`,
+ * `string`, `digits`, `number` and `list`, which takes the part of a stack where the words of its rows stand, and 0 for a hole.
  */
 export class Walk {
   constructor(sink, root, { source, spans, negative, names }) {
@@ -18,10 +17,6 @@ export class Walk {
     this.negative = negative;
     this.names = names;
     this.byteAt = spans && source !== undefined ? bytesAt(source) : null;
-    // the row that is written: its type, its node, and the place of the field behind the last that was given
-    this.type = null;
-    this.node = null;
-    this.next = 0;
     // the rows of lists that aren't at their ends yet
     this.stack = [];
     this.top = 0;
@@ -48,122 +43,130 @@ export class Walk {
   // ---- rows
 
   /**
-   * Adds a row with up to seven fields, each by its name and its value, and gives its number. A value that says nothing (absent, null or
-   * false) is left out. Names and values are parameters, and no object, since this is called for each row of a large tree.
+   * Adds a row with the words of its form's fields (forms.mjs), 0 for what is absent, and gives the word that names it. These are parameters,
+   * and no list, since this is called for each row of a large tree.
    */
-  add(type, node, name1, value1, name2, value2, name3, value3, name4, value4, name5, value5, name6, value6, name7, value7) {
-    this.open(type, node);
-    if (name1 !== undefined) this.put(name1, value1);
-    if (name2 !== undefined) this.put(name2, value2);
-    if (name3 !== undefined) this.put(name3, value3);
-    if (name4 !== undefined) this.put(name4, value4);
-    if (name5 !== undefined) this.put(name5, value5);
-    if (name6 !== undefined) this.put(name6, value6);
-    if (name7 !== undefined) this.put(name7, value7);
-    return this.sink.close();
+  add(form, node, word1, word2, word3, word4, word5, word6, word7) {
+    return this.fill(form, this.open(form, node), word1, word2, word3, word4, word5, word6, word7);
   }
 
-  open(type, node) {
-    if (this.byteAt === null) return this.openAt(type, node, 0, 0);
+  // The fields of the row that begins there.
+  fill(form, at, word1, word2, word3, word4, word5, word6, word7) {
+    const { words } = this.sink;
+    switch (form.count) {
+      case 7:
+        words[at + form.place7] = word7;
+      // falls through: the fields before it
+      case 6:
+        words[at + form.place6] = word6;
+      // falls through
+      case 5:
+        words[at + form.place5] = word5;
+      // falls through
+      case 4:
+        words[at + form.place4] = word4;
+      // falls through
+      case 3:
+        words[at + form.place3] = word3;
+      // falls through
+      case 2:
+        words[at + form.place2] = word2;
+      // falls through
+      case 1:
+        words[at + form.place1] = word1;
+      // falls through
+      default:
+        return this.sink.count;
+    }
+  }
+
+  // Begins the row of a node, and gives its place.
+  open(form, node) {
+    if (this.byteAt === null) return this.sink.open(form, node, 0, 0);
     const start = startOf(node);
     const end = endOf(node);
-    return start >= 0 && end > start ? this.openAt(type, node, this.byteAt(start), this.byteAt(end)) : this.openAt(type, node, 0, 0);
+    return start >= 0 && end > start ? this.openAt(form, node, this.byteAt(start), this.byteAt(end)) : this.sink.open(form, node, 0, 0);
   }
 
-  // The same by offsets in bytes, 0 and 0 where the row has none.
-  openAt(type, node, start, end) {
-    this.type = rowType(type);
-    if (this.type === undefined) this.refuse(type, node);
+  // The same by offsets in bytes.
+  openAt(form, node, start, end) {
     if (start >>> 0 !== start || end >>> 0 !== end) this.fail(node, "begins or ends at no place of the source");
-    this.node = node;
-    this.next = 0;
-    this.sink.open(this.type, node, start, end);
+    return this.sink.open(form, node, start, end);
   }
 
-  put(name, value) {
-    if (value !== null && value !== undefined && value !== false) this.give(name, value);
-  }
-
-  // A field that is given whatever its value says.
-  give(name, value) {
-    const { sink } = this;
-    const field = this.field(name);
-    switch (field.sort) {
-      case "child":
-        return sink.child(field, value);
-      case "text":
-        return sink.text(field, this.whole(field, value));
-      case "word":
-        return sink.word(field, value, this.wordNumber(field, value));
-      case "list":
-        return sink.list(field, value);
-      case "flag":
-        return sink.flag(field, value);
-      case "string":
-        return sink.string(field, value);
-      case "digits":
-        return sink.digits(field, value);
-      default:
-        return sink.number(field, value);
-    }
-  }
-
-  // Fields are mostly given in their order, so each is looked for behind the one before it.
-  field(name) {
-    const { fields } = this.type;
-    for (let at = this.next; at < fields.length; at += 1) {
-      if (fields[at].name === name) {
-        this.next = at + 1;
-        return fields[at];
-      }
-    }
-    return this.type.field(name) ?? this.refuse(`${name} of ${this.type.name}`, this.node);
-  }
+  // ---- what the fields of a row hold. What is wrong with the place of its node is told before what is wrong with them.
 
   // A text, which has no surrogate without its partner.
-  whole(field, text) {
-    if (!text.isWellFormed()) this.refuse(`half a surrogate pair in the ${field.name} of ${this.type.name}`, this.node);
-    return text;
+  text(form, node, name, text) {
+    if (!text.isWellFormed()) this.refuseHalf(form, node, name);
+    return this.sink.text(text);
   }
 
-  wordNumber(field, word) {
-    return field.numbers.get(word) ?? this.refuse(`${field.name} ${this.whole(field, word)} of ${this.type.name}`, this.node);
+  refuseHalf(form, node, name) {
+    this.open(form, node);
+    this.refuse(`half a surrogate pair in the ${name} of ${form.type.name}`, node);
+  }
+
+  /** The word of a form's first field, which is one of those that the field may hold. */
+  word(form, node, word) {
+    return form.numbers.get(word) ?? this.refuseWord(form, node, word);
+  }
+
+  refuseWord(form, node, word) {
+    this.open(form, node);
+    if (!word.isWellFormed()) this.refuseHalf(form, node, form.first);
+    this.refuse(`${form.first} ${word} of ${form.type.name}`, node);
   }
 
   // ---- lists, and what may be absent
 
   /** The list of what stands in a part of a list of nodes, each converted; absent where that is empty. */
   several(nodes, convert, from = 0, to = nodes.length) {
-    if (from >= to) return null;
+    if (from >= to) return 0;
     const bottom = this.top;
-    for (let at = from; at < to; at += 1) this.push(nodes[at] === null ? null : convert.call(this, nodes[at]));
+    for (let at = from; at < to; at += 1) this.push(nodes[at] === null ? 0 : convert.call(this, nodes[at]));
     return this.listFrom(bottom);
   }
 
-  push(row) {
-    this.stack[this.top] = row;
+  push(word) {
+    this.stack[this.top] = word;
     this.top += 1;
   }
 
   // The list of the rows on the stack from there on, which are taken off.
   listFrom(bottom) {
-    const list = this.sink.listOf(this.stack, bottom, this.top);
+    const list = this.sink.list(this.stack, bottom, this.top);
     this.top = bottom;
     return list;
   }
 
   maybe(node, convert) {
-    return node ? convert.call(this, node) : null;
+    return node ? convert.call(this, node) : 0;
   }
 
   // ---- names
 
-  // The number of a name in the tables of new names, where there are any.
-  numberOf(node, table) {
-    if (this.names === null) return undefined;
+  // A name that is printed as it is.
+  ownName(form, node) {
+    return this.add(form, node, this.text(form, node, "name", node.name));
+  }
+
+  // A name that is in the tables of new names, where there are any: in `table` by its number, which the field of that name holds.
+  addName(form, node, table, name) {
+    if (this.names === null) return this.add(form, node, this.text(form, node, "name", node.name), 0);
     const number = this.names[table].get(node);
     if (number === undefined) this.fail(node, "isn't in the tables of new names, which are of another tree, or of this one before it was changed");
-    return number;
+    return this.add(form, node, this.text(form, node, "name", node.name), this.number(form, node, name, number));
+  }
+
+  number(form, node, name, number) {
+    if (number === null || number === false) return 0;
+    try {
+      return this.sink.number(name, number);
+    } catch (error) {
+      this.open(form, node);
+      throw error;
+    }
   }
 
   // ---- annotations
