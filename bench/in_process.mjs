@@ -1,12 +1,13 @@
 // `node bench/in_process.mjs`: what printing costs in node's own process, by the addon that bindings/node/build.mjs makes. Its tables
 // have the memory of the process after many calls, the time of a small module beside that of starting the program, the time of
-// three.js beside that of other printers, by flat jobs and by jobs in JSON, and that of its text with a map, by one call beside two.
+// three.js beside that of other printers, by flat jobs and by jobs in JSON, that of its text with a map, by one call beside two, and the
+// times of three.js with a map and of small modules, each from tree to text, beside those of Babel.
 // Everything is printed pretty and without comments. The packages of the other printers are found as those of tools/estree are, or in the folder that the variable NODE_PATH names;
 // what isn't there is left out, and a line says so.
 import assert from "node:assert/strict";
 import { spawnSync } from "node:child_process";
 import { existsSync, readFileSync } from "node:fs";
-import { buildJob, mapJob, printJob } from "../bindings/node/index.mjs";
+import { buildJob, mapJob, print, printJob } from "../bindings/node/index.mjs";
 import { flatJobOf, jobOf } from "../bindings/node/lib/convert.mjs";
 import { packageOrNull } from "../bindings/node/lib/packages.mjs";
 import { addon } from "../bindings/node/lib/printer.mjs";
@@ -14,9 +15,12 @@ import { parsed } from "../tools/estree/parser.mjs";
 import { program, unbuilt } from "../tools/estree/program.mjs";
 
 const SMALL = ["hello.mjs", "modules.js"].map((name) => new URL(`../examples/${name}`, import.meta.url));
+const MODULES = ["tools/estree/program.mjs", "examples/planets.js"].map((name) => new URL(`../${name}`, import.meta.url));
 const THREE = ["/usr/share/javascript/three/three.module.js", "/usr/share/nodejs/three/build/three.module.js"];
 const STARTED_LIMIT = 0.1;
 const BABEL = "@babel/generator";
+const MAP_LIMIT = 0.75;
+const MODULE_LIMIT = 0.7;
 const LIMITS = { "flat": 0.75, "flat, with spans": 0.75, "in JSON": 3, "in JSON, with spans": 3 };
 const CALLS = [100, 10_000, 100_000];
 
@@ -172,6 +176,32 @@ function compareCalls(source) {
   show("with a map, by buildJob", bestOfFive(() => buildJob(bytes)).toFixed(0), code.length + map.length);
 }
 
+// ---- from tree to text by `print`, beside Babel
+
+// Gives two functions that print the source, parsed already, by each; with a map where that is wanted. null where Babel isn't there.
+function bothPrinters(source, sourceMap) {
+  const parser = packageOrNull("@babel/parser");
+  const generator = packageOrNull(BABEL);
+  if (parser === null || generator === null) return null;
+  const tree = parsed(source);
+  const other = parser.parse(source, { sourceType: "module", sourceFilename: "source.js" });
+  const settings = { comments: false, compact: false, sourceMaps: sourceMap, sourceFileName: "source.js" };
+  const options = sourceMap ? { source_map_path: "source.js" } : {};
+  return {
+    ours: () => print(tree, { ...(sourceMap ? { source, sourceMap } : {}), options, comments: false }),
+    babels: () => generator.default(other, settings, source).map,
+  };
+}
+
+function compareBoth(title, source, { sourceMap = false, calls = 1, limit }) {
+  const both = bothPrinters(source, sourceMap);
+  if (both === null) return show(`${title} is left out: ${BABEL} isn't installed`);
+  const timeOf = (work) => bestOfFive(() => { for (let call = 0; call < calls; call += 1) work(); }) / calls;
+  const times = { ours: timeOf(both.ours), babels: timeOf(both.babels) };
+  show(`${title}, jsgen and Babel`, times.ours.toFixed(3), times.babels.toFixed(3));
+  showRatio(`${title}, over ${BABEL}`, times.ours / times.babels, limit);
+}
+
 if (addon === null) throw new Error("the addon isn't built; `node bindings/node/build.mjs` builds it");
 if (unbuilt) throw new Error(unbuilt);
 const small = SMALL.map((file) => readFileSync(file, "utf8")).join("");
@@ -190,4 +220,9 @@ if (path === undefined) {
   const source = readFileSync(path, "utf8");
   await compareWithOthers(source);
   compareCalls(source);
+  compareBoth("three.js with a map", source, { sourceMap: true, limit: MAP_LIMIT });
+}
+for (const file of MODULES) {
+  const source = readFileSync(file, "utf8");
+  compareBoth(`a module of ${source.length} bytes`, source, { calls: 200, limit: MODULE_LIMIT });
 }
