@@ -128,7 +128,7 @@ export class JsgenError extends Error {
   field?: number;
   /** Of a tree: the name of the field. */
   fieldName?: string;
-  /** Of a tree: the ESTree node at which the fault is. */
+  /** Of a tree: the node at which the fault is. */
   node?: object;
   /** The line of that node, counted from 1, by `source` or by the node's member `loc`. */
   line?: number;
@@ -138,12 +138,18 @@ export class JsgenError extends Error {
 
 /** A part of a program that jsgen doesn't read yet. */
 export class NotRead extends Error {
-  /** The ESTree node. */
+  /** The node of the tree. */
   node?: object;
 }
 
-/** Prints an ESTree tree of a module. Throws a JsgenError, a NotRead, or a TypeError for wrong arguments. */
-export function print(program: object, settings?: Settings): Printed;
+/**
+ * The tree of a module: the `Program` of ESTree (acorn, espree, meriyah, or `@babel/parser` with its plugin `estree`), or Babel's own
+ * `Program` or `File`, as `@babel/parser`, `@babel/traverse`, `@babel/types` and recast have them.
+ */
+export type Tree = object;
+
+/** Prints the tree of a module. Throws a JsgenError, a NotRead, or a TypeError for wrong arguments. */
+export function print(program: Tree, settings?: Settings): Printed;
 
 /** The code of a job (docs/FORMAT.md): JSON as a string, or as bytes of UTF-8, or the bytes of a flat job. */
 export function printJob(job: string | Uint8Array): string;
@@ -166,11 +172,11 @@ export function buildJob(job: string | Uint8Array): Built;
 /** Throws the JsgenError of a job that wouldn't be printed. */
 export function checkJob(job: string | Uint8Array): void;
 
-/** The job of an ESTree tree of a module. Throws a NotRead, or a JsgenError for a tree that is nested too deeply. */
-export function jobOf(program: object, settings?: JobSettings): Job;
+/** The job of the tree of a module. Throws a NotRead, or a JsgenError for a tree that is nested too deeply. */
+export function jobOf(program: Tree, settings?: JobSettings): Job;
 
 /**
  * Tables of new names for the bindings and the private names of a tree, made of these letters. They hold for the tree as it is then. Throws as
  * `jobOf` does.
  */
-export function renaming(program: object, letters?: string[]): Renaming;
+export function renaming(program: Tree, letters?: string[]): Renaming;

@@ -1,4 +1,4 @@
-// Prints ESTree trees and jobs, by the addon that build.mjs makes, in this process, or by the program where there is no addon.
+// Prints trees of ESTree and of Babel, and jobs, by the addon that build.mjs makes, in this process, or by the program where there is no addon.
 import { flatJobOf, jobAndNodes, jobOf as jobOfTree, NotRead } from "./lib/convert.mjs";
 import { NoWord } from "./lib/flat_rows.mjs";
 import { licencesOf } from "./lib/licences.mjs";
@@ -37,19 +37,19 @@ export function checkJob(job) {
   answered("check", job);
 }
 
-/** The job of an ESTree tree, as `jobOf` of lib/convert.mjs makes it. */
+/** The job of a tree, as `jobOf` of lib/convert.mjs makes it. */
 export function jobOf(program, settings) {
   return unlessTooDeep(() => jobOfTree(program, settings));
 }
 
-/** The tables of new names of an ESTree tree, as `renaming` of lib/scopes.mjs makes them. */
+/** The tables of new names of a tree, as `renaming` of lib/scopes.mjs makes them. */
 export function renaming(...given) {
   return unlessTooDeep(() => renamingOfTree(...given));
 }
 
-/** Prints an ESTree tree of a module. */
+/** Prints the tree of a module. */
 export function print(program, settings = {}) {
-  if (program === null || typeof program !== "object") throw new TypeError("a program is an ESTree node");
+  if (program === null || typeof program !== "object") throw new TypeError("a program is a node of a tree");
   if (settings === null || typeof settings !== "object") throw new TypeError("settings are an object");
   const { source } = settings;
   const options = optionsOf(settings);

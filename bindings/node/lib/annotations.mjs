@@ -11,6 +11,7 @@ export function callIn(node) {
   switch (node.type) {
     case "CallExpression":
     case "NewExpression":
+    case "OptionalCallExpression":
       return node;
     case "ParenthesizedExpression":
     case "ChainExpression":

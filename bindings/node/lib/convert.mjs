@@ -1,32 +1,38 @@
-// From an ESTree tree (acorn, espree, meriyah; Babel's with its plugin `estree`) to a job of jsgen (docs/FORMAT.md).
+// From a tree of ESTree (acorn, espree, meriyah) or of Babel's own kind to a job of jsgen (docs/FORMAT.md).
+import { Trees } from "./babel.mjs";
+import { nodeOf } from "./babel_views.mjs";
 import { commentsOf } from "./comments.mjs";
 import { FlatRows } from "./flat_rows.mjs";
 import { JsonRows } from "./json_rows.mjs";
 import { isOption } from "./reads.mjs";
 import { MalformedTree, NotRead, causeOf, endOf, rootOf, startOf } from "./refusals.mjs";
-import { Statements } from "./statements.mjs";
 
 export { MalformedTree, NotRead };
 
 /**
- * The job that prints a program. `program` is the ESTree node of a module, or Babel's `File` of one. Of the members of the second
+ * The job that prints a program. `program` is the node `Program` of a module, or Babel's `File` of one. Of the members of the second
  * argument, all of which may be left out, `source` is the text that the program was parsed from, by which spans are counted in bytes;
  * `options` are the options of the job; `spans: false` leaves spans out; `negative: true` takes `-1` for a negative
  * number in place of an operation on 1; `comments` are the comments of the source in order, as acorn's `onComment` lists them,
  * and are left out where they aren't given; `keepSourceMappingUrl: true` prints the one among them that names the source map
  * of the source; and `names` are the tables by which names are printed, as `renaming` (./scopes.mjs) makes them of this tree.
  * The source is put into the job where something asks for it: comments, or the option `source_map_path`. Throws `NotRead`
- * where the program has what jsgen doesn't read yet, and `MalformedTree`, a TypeError, where it is no ESTree tree.
+ * where the program has what jsgen doesn't read yet, and `MalformedTree`, a TypeError, where it is no tree.
  */
 export function jobOf(program, settings) {
-  return jobAndNodes(program, settings).job;
+  return jobAndSink(program, settings).job;
 }
 
 /** The same job, and beside it `nodes`: for each row the node or the comment that it stands for, or null where it stands for none. */
 export function jobAndNodes(program, settings) {
+  const { job, sink } = jobAndSink(program, settings);
+  return { job, nodes: sink.nodes.map(nodeOf) };
+}
+
+function jobAndSink(program, settings) {
   const sink = new JsonRows();
   const head = converted(program, settings, sink);
-  return { job: { ...head, rows: sink.rows() }, nodes: sink.nodes };
+  return { job: { ...head, rows: sink.rows() }, sink };
 }
 
 /** The bytes of the same job in its flat form (docs/FORMAT.md, "Flat jobs"). It takes and refuses the same, and throws the same. */
@@ -47,7 +53,7 @@ function converted(program, settings = {}, sink) {
   if (names !== null && !isRenaming(names)) throw new TypeError("names are what `renaming` gives of the tree");
   const root = rootOf(program);
   const printed = printedComments(comments, source, keepSourceMappingUrl);
-  const walk = new Statements(sink, root, { source, spans, negative, names });
+  const walk = new Trees(sink, root, { source, spans, negative, names });
   try {
     walk.program(root, printed, printed.length > 0 || (options.source_map_path ?? null) !== null);
   } catch (error) {

@@ -1,4 +1,5 @@
 // The part of the converter for expressions, patterns, functions and classes.
+import { isLiteral, isPrivateName, privateNameIn } from "./babel_views.mjs";
 import * as forms from "./forms.mjs";
 import { literalOf } from "./literals.mjs";
 import { isWholeNumber, withoutParentheses } from "./texts.mjs";
@@ -22,7 +23,7 @@ function isShorthand({ key, computed, value }) {
 
 // Whether a method is written as the constructor of its class.
 function isConstructor({ kind, key, computed, static: isStatic }) {
-  return (key.name ?? key.value) === "constructor" && key.type !== "PrivateIdentifier" && !computed && !isStatic && kind !== "get" && kind !== "set";
+  return (key.name ?? key.value) === "constructor" && !isPrivateName(key) && !computed && !isStatic && kind !== "get" && kind !== "set";
 }
 
 // How many nodes of a list stand before what takes the rest.
@@ -168,7 +169,7 @@ export class Expressions extends Walk {
       case "ChainExpression":
         return this.add(forms.CHAIN, node, this.expression(node.expression));
       case "BinaryExpression":
-        if (node.left.type === "PrivateIdentifier" && node.operator === "in") return this.privateIn(node);
+        if (node.operator === "in" && isPrivateName(node.left)) return this.privateIn(node);
         return this.operation(forms.BINARY, node, this.expression(node.left), this.expression(node.right));
       case "LogicalExpression":
         return this.operation(forms.LOGICAL, node, this.expression(node.left), this.expression(node.right));
@@ -208,8 +209,12 @@ export class Expressions extends Walk {
       case "TaggedTemplateExpression":
         return this.add(forms.TAGGED_TEMPLATE, node, this.expression(node.tag), this.template(node.quasi));
       default:
-        return this.misplaced(node, "expression");
+        return this.otherExpression(node);
     }
+  }
+
+  otherExpression(node) {
+    return this.misplaced(node, "expression");
   }
 
   // A row whose operator stands before the other fields, and is looked at behind what stands in them.
@@ -220,8 +225,13 @@ export class Expressions extends Walk {
   call(node) {
     return this.add(
       forms.CALL, node,
-      this.expression(node.callee), this.several(node.arguments, this.element), flag(node.optional), flag(this.pure.has(node)),
+      this.expression(node.callee), this.several(node.arguments, this.element), flag(this.isOptional(node)), flag(this.pure.has(node)),
     );
+  }
+
+  // Whether a member or a call is a link by `?.`.
+  isOptional(node) {
+    return node.optional;
   }
 
   metaForm({ meta, property }) {
@@ -291,7 +301,7 @@ export class Expressions extends Walk {
 
   unary(node) {
     const inside = node.argument;
-    if (this.negative && node.operator === "-" && inside.type === "Literal") {
+    if (this.negative && node.operator === "-" && isLiteral(inside)) {
       const { type, text, isNegative } = this.said(inside);
       if (type === "BigIntLiteral" && !isNegative) return this.bigInt(node, `-${text}`);
       if (type === "NumericLiteral" && !isNegative && isWholeNumber(text)) return this.numeric(node, text, true);
@@ -301,16 +311,16 @@ export class Expressions extends Walk {
 
   member(node) {
     const object = this.expression(node.object);
-    const optional = flag(node.optional);
+    const optional = flag(this.isOptional(node));
     const { property } = node;
     if (node.computed) return this.add(forms.COMPUTED_MEMBER, node, object, optional, this.expression(property));
-    return property.type === "PrivateIdentifier"
-      ? this.add(forms.PRIVATE_FIELD, node, object, optional, this.ownName(forms.PRIVATE_NAME, property))
+    return property.type !== "Identifier" && isPrivateName(property)
+      ? this.add(forms.PRIVATE_FIELD, node, object, optional, this.privateName(property))
       : this.add(forms.STATIC_MEMBER, node, object, optional, this.name(property));
   }
 
   privateIn(node) {
-    return this.add(forms.PRIVATE_IN, node, this.ownName(forms.PRIVATE_NAME, node.left), this.expression(node.right));
+    return this.add(forms.PRIVATE_IN, node, this.privateName(node.left), this.expression(node.right));
   }
 
   name(node) {
@@ -318,11 +328,16 @@ export class Expressions extends Walk {
     return this.ownName(forms.NAME, node);
   }
 
+  privateName(node) {
+    return this.ownName(forms.PRIVATE_NAME, node, privateNameIn(node));
+  }
+
   // The key of a property, of a class's member too.
   key({ key, computed }) {
     if (computed) return this.expression(key);
-    if (key.type === "PrivateIdentifier") return this.ownName(forms.PRIVATE_NAME, key);
-    if (key.type !== "Literal") return this.name(key);
+    if (key.type === "Identifier") return this.name(key);
+    if (isPrivateName(key)) return this.privateName(key);
+    if (!isLiteral(key)) return this.name(key);
     if (this.said(key).isNegative) this.refuse("a negative number as a key", key);
     return this.literal(key);
   }
@@ -379,7 +394,13 @@ export class Expressions extends Walk {
   }
 
   functionBody(node) {
-    return this.add(forms.FUNCTION_BODY, node, this.directives(node.body), this.statements(node.body));
+    const nodes = this.bodyOf(node);
+    return this.add(forms.FUNCTION_BODY, node, this.directives(nodes), this.statements(nodes));
+  }
+
+  // The statements of a body, with the directives among them.
+  bodyOf(node) {
+    return node.body;
   }
 
   parameters(nodes) {

@@ -1,4 +1,4 @@
-// What the literals of an ESTree tree say.
+// What the literals of a tree say.
 import { types } from "node:util";
 import { numberText } from "./texts.mjs";
 

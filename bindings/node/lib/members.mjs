@@ -1,4 +1,5 @@
-// The members of the nodes of an ESTree tree, by their types: what the converter reads, and what each of them holds.
+// The members of the nodes of a tree, by their types: what the converter reads, and what each of them holds.
+import { membersOfBabel } from "./babel_members.mjs";
 import { firstLook } from "./looks.mjs";
 
 /** What a member may hold: a node, a list of nodes, or one that has holes too, a text, true or false, or the word `value` alone. */
@@ -36,23 +37,31 @@ const NOTES = [
   "sourceFile",
   // comments too, as rollup's parser notes them
   "_rollupAnnotations", "_rollupRemoved",
+  // what Babel's transformations note of the order and the layout of statements
+  "_blockHoist", "_compact",
 ];
 
 const FUNCTION = { id: maybe("Identifier"), params: list(), body: node("BlockStatement"), async: maybeFlag(), generator: maybeFlag() };
+// Babel's transformations make a function of a method by changing its type, and leave what the method had.
+const OF_METHOD = Object.fromEntries(["key", "kind", "computed", "static", "method"].map((name) => [name, member(NOTE, false)]));
 const CLASS = { id: maybe("Identifier"), superClass: maybe(), body: node("ClassBody") };
 const OPERATION = { operator: text(), left: node(), right: node() };
-const NAME = ["Identifier", "Literal"];
+const STRING = ["Literal", "StringLiteral"];
+const NAME = ["Identifier", ...STRING];
+const DIRECTIVES = { directives: maybeList("Directive") };
 const ATTRIBUTES = { attributes: maybeList("ImportAttribute"), assertions: maybeList("ImportAttribute") };
 const LOOP_OVER = { left: node(), right: node(), body: node() };
 
 // The members of a type stand in the order of the text.
 const TYPES = {
-  Program: { body: list(), sourceType: maybeText(), interpreter: maybe("InterpreterDirective"), hashbang: maybe("Hashbang") },
+  Program: {
+    ...DIRECTIVES, body: list(), sourceType: maybeText(), interpreter: maybe("InterpreterDirective"), hashbang: maybe("Hashbang"),
+  },
   InterpreterDirective: { value: text() },
   Hashbang: { value: text() },
 
   ExpressionStatement: { expression: node(), directive: maybeText() },
-  BlockStatement: { body: list() },
+  BlockStatement: { ...DIRECTIVES, body: list() },
   EmptyStatement: {},
   DebuggerStatement: {},
   IfStatement: { test: node(), consequent: node(), alternate: maybe() },
@@ -74,21 +83,22 @@ const TYPES = {
   ForOfStatement: { ...LOOP_OVER, await: maybeFlag() },
 
   ImportDeclaration: {
-    specifiers: list("ImportSpecifier", "ImportDefaultSpecifier", "ImportNamespaceSpecifier"), source: node("Literal"), ...ATTRIBUTES,
+    specifiers: list("ImportSpecifier", "ImportDefaultSpecifier", "ImportNamespaceSpecifier"), source: node(...STRING), ...ATTRIBUTES,
     importKind: ofValues(),
   },
   ImportSpecifier: { imported: node(...NAME), local: node("Identifier"), importKind: ofValues() },
   ImportDefaultSpecifier: { local: node("Identifier") },
   ImportNamespaceSpecifier: { local: node("Identifier") },
-  ImportAttribute: { key: node(...NAME), value: node("Literal") },
+  ImportAttribute: { key: node(...NAME), value: node(...STRING) },
   ExportNamedDeclaration: {
-    declaration: maybe(), specifiers: list("ExportSpecifier"), source: maybe("Literal"), ...ATTRIBUTES, exportKind: ofValues(),
+    declaration: maybe(), specifiers: list("ExportSpecifier", "ExportNamespaceSpecifier"), source: maybe(...STRING), ...ATTRIBUTES,
+    exportKind: ofValues(),
   },
   ExportSpecifier: { local: node(...NAME), exported: node(...NAME), exportKind: ofValues() },
-  ExportAllDeclaration: { exported: maybe(...NAME), source: node("Literal"), ...ATTRIBUTES, exportKind: ofValues() },
+  ExportAllDeclaration: { exported: maybe(...NAME), source: node(...STRING), ...ATTRIBUTES, exportKind: ofValues() },
   ExportDefaultDeclaration: { declaration: node(), exportKind: ofValues() },
 
-  ObjectPattern: { properties: list("Property", "RestElement") },
+  ObjectPattern: { properties: list("Property", "RestElement", "ObjectProperty") },
   ArrayPattern: { elements: holes() },
   AssignmentPattern: { left: node(), right: node() },
   RestElement: { argument: node() },
@@ -114,7 +124,7 @@ const TYPES = {
   ConditionalExpression: { test: node(), consequent: node(), alternate: node() },
   SequenceExpression: { expressions: list() },
   ArrayExpression: { elements: holes() },
-  ObjectExpression: { properties: list("Property", "SpreadElement") },
+  ObjectExpression: { properties: list("Property", "SpreadElement", "ObjectProperty", "ObjectMethod") },
   SpreadElement: { argument: node() },
   Property: { kind: text(), key: node(), value: node(), method: maybeFlag(), shorthand: maybeFlag(), computed: maybeFlag() },
   ArrowFunctionExpression: { params: list(), body: node(), async: maybeFlag(), expression: maybeFlag() },
@@ -124,13 +134,19 @@ const TYPES = {
   TaggedTemplateExpression: { tag: node(), quasi: node("TemplateLiteral") },
 
   FunctionDeclaration: FUNCTION,
-  FunctionExpression: FUNCTION,
+  FunctionExpression: { ...FUNCTION, ...OF_METHOD },
   ClassDeclaration: CLASS,
   ClassExpression: CLASS,
-  ClassBody: { body: list("MethodDefinition", "PropertyDefinition", "StaticBlock") },
+  ClassBody: {
+    body: list(
+      "MethodDefinition", "PropertyDefinition", "StaticBlock", "ClassMethod", "ClassPrivateMethod", "ClassProperty", "ClassPrivateProperty",
+    ),
+  },
   MethodDefinition: { kind: text(), key: node(), value: node("FunctionExpression"), computed: maybeFlag(), static: maybeFlag() },
   PropertyDefinition: { key: node(), value: maybe(), computed: maybeFlag(), static: maybeFlag() },
   StaticBlock: { body: list() },
+
+  ...membersOfBabel({ node, maybe, list, text, flag, maybeFlag, any }),
 };
 
 /** The members of nodes of a type (Members); undefined where the type isn't read. */

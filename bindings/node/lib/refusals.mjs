@@ -2,7 +2,7 @@
 import { insidesOf } from "./members.mjs";
 import { placeAt } from "./places.mjs";
 
-/** A part of a program that jsgen doesn't read yet. `node` is the ESTree node, `place` where that is, and `hint` what to do then. */
+/** A part of a program that jsgen doesn't read yet. `node` is the node of the tree, `place` where that is, and `hint` what to do then. */
 export class NotRead extends Error {
   constructor(what, node, place = "", hint = "") {
     super(`${what}${place} is not read yet${hint && `: ${hint}`}`);

@@ -1,6 +1,8 @@
 // Which binding each name of a program stands for, in what jsgen reads by now: declarations of the module, of functions and of
 // blocks, parameters, what a handler catches, and the own names of functions and classes. Each binding is a symbol, and gets a
 // new name. A label is none. A private name is one of the innermost class round it that has a member of that name.
+import { isOfBabel, isOptional, isPrivateName, privateNameIn } from "./babel_views.mjs";
+import { boundIn, declaredBy, namesOf, variablesIn } from "./declared.mjs";
 import { childrenOf } from "./members.mjs";
 import { NotRead, causeOf, placeOf, rootOf } from "./refusals.mjs";
 import { withoutParentheses } from "./texts.mjs";
@@ -45,7 +47,7 @@ export function renaming(program, letters = LETTERS) {
 }
 
 function tablesOf(program, letters) {
-  const scopes = new Scopes(letters);
+  const scopes = new Scopes(letters, isOfBabel(program));
   scopes.body(program.body, null);
   const protos = scopes.protos.map((node) => scopes.symbolBehind(node));
   const exported = scopes.exported.map((node) => scopes.symbolOf.get(node));
@@ -116,8 +118,9 @@ function* freshNames(letters, taken) {
 }
 
 class Scopes {
-  constructor(letters) {
+  constructor(letters, isBabels) {
     this.letters = letters;
+    this.isBabels = isBabels;
     this.symbols = []; // their own names
     this.symbolOf = new Map();
     this.references = []; // each with its name and its symbol, or null
@@ -207,7 +210,8 @@ class Scopes {
       case "Identifier":
         return this.reference(node, scope);
       case "CallExpression":
-        if (isDirectEval(node)) this.directEval(scope);
+      case "OptionalCallExpression":
+        if (isDirectEval(node, this.isBabels)) this.directEval(scope);
         return this.children(node, scope);
       case "BlockStatement":
         return this.block(node.body, scope);
@@ -227,7 +231,8 @@ class Scopes {
       case "StaticBlock":
         return this.body(node.body, scope);
       case "PrivateIdentifier":
-        return this.privateOf.set(node, newPrivateName(node.name, scope));
+      case "PrivateName":
+        return this.privateOf.set(node, newPrivateName(privateNameIn(node), scope));
       case "ForStatement":
         return this.loop([node.init], [node.test, node.update, node.body], scope);
       case "ForInStatement":
@@ -255,13 +260,22 @@ class Scopes {
         this.visit(node.source, scope);
         return this.visit(node.options ?? node.attributes, scope);
       case "MemberExpression":
+      case "OptionalMemberExpression":
         this.visit(node.object, scope);
         return this.key(node.property, node, scope);
       case "MethodDefinition":
       case "PropertyDefinition":
+      case "ClassProperty":
+      case "ClassPrivateProperty":
         this.key(node.key, node, scope);
         return this.visit(node.value, scope);
+      case "ObjectMethod":
+      case "ClassMethod":
+      case "ClassPrivateMethod":
+        this.key(node.key, node, scope);
+        return this.function(node, this.scope([], scope));
       case "Property":
+      case "ObjectProperty":
         this.property(node, scope);
         return this.visit(node.value, scope);
       case "ObjectExpression":
@@ -292,7 +306,7 @@ class Scopes {
 
   // A name that isn't private is no reference there.
   key(key, { computed }, scope) {
-    if (computed || key.type === "PrivateIdentifier") this.visit(key, scope);
+    if (computed || isPrivateName(key)) this.visit(key, scope);
   }
 
   property({ key, value, computed, shorthand }, scope) {
@@ -310,6 +324,7 @@ class Scopes {
         for (const element of node.elements) this.pattern(element, scope);
         return;
       case "Property":
+      case "ObjectProperty":
         this.property(node, scope);
         this.pattern(node.value, scope);
         return;
@@ -379,8 +394,8 @@ class Scopes {
   newPrivateNames(body, outer) {
     const taken = tablesRound(outer).flatMap((table) => [...table.values()]);
     const fresh = freshNames(this.letters, new Set(taken));
-    const names = body.body.filter(({ key }) => key?.type === "PrivateIdentifier").map(({ key }) => key.name);
-    const areKept = names.length > 0 && holdsEval(body);
+    const names = body.body.filter(({ key }) => key && isPrivateName(key)).map(({ key }) => privateNameIn(key));
+    const areKept = names.length > 0 && holdsEval(body, this.isBabels);
     return new Map([...new Set(names)].map((name) => [name, areKept ? name : fresh.next().value]));
   }
 
@@ -400,57 +415,10 @@ function newPrivateName(name, scope) {
 }
 
 // A call of `eval` by its name, which may be in parentheses, and not in an optional call.
-function isDirectEval({ type, callee, optional }) {
-  return type === "CallExpression" && !optional && withoutParentheses(callee).name === "eval";
+function isDirectEval(node, isBabels) {
+  return /^(Optional)?CallExpression$/.test(node.type) && !isOptional(node, isBabels) && withoutParentheses(node.callee).name === "eval";
 }
 
-function holdsEval(node) {
-  return isDirectEval(node) || childrenOf(node).some(holdsEval);
-}
-
-// The names that a pattern binds.
-function boundIn(pattern) {
-  switch (pattern?.type) {
-    case "Identifier":
-      return [pattern];
-    case "ObjectPattern":
-      return pattern.properties.flatMap((property) => boundIn(property.value ?? property));
-    case "ArrayPattern":
-      return pattern.elements.flatMap(boundIn);
-    case "AssignmentPattern":
-      return boundIn(pattern.left);
-    case "RestElement":
-      return boundIn(pattern.argument);
-    default:
-      return [];
-  }
-}
-
-function namesOf({ declarations }) {
-  return declarations.flatMap(({ id }) => boundIn(id));
-}
-
-// The names that a statement declares in the block that it stands in. A default export may declare none.
-function declaredBy(node) {
-  switch (node?.type) {
-    case "FunctionDeclaration":
-    case "ClassDeclaration":
-      return node.id ? [node.id] : [];
-    case "ImportDeclaration":
-      return node.specifiers.map(({ local }) => local);
-    case "ExportNamedDeclaration":
-    case "ExportDefaultDeclaration":
-      return declaredBy(node.declaration);
-    case "VariableDeclaration":
-      return node.kind === "var" ? [] : namesOf(node);
-    default:
-      return [];
-  }
-}
-
-// The names that it declares by `var`, in whatever block within it, but in no function and no static block.
-function variablesIn(node) {
-  if (/Function|StaticBlock/.test(node.type)) return [];
-  const own = node.type === "VariableDeclaration" && node.kind === "var" ? namesOf(node) : [];
-  return [...own, ...childrenOf(node).flatMap(variablesIn)];
+function holdsEval(node, isBabels) {
+  return isDirectEval(node, isBabels) || childrenOf(node).some((child) => holdsEval(child, isBabels));
 }

@@ -1,4 +1,5 @@
 // The part of the converter for programs, statements, imports and exports.
+import { nodeOf } from "./babel_views.mjs";
 import { Expressions } from "./expressions.mjs";
 import * as forms from "./forms.mjs";
 import { stringIn } from "./literals.mjs";
@@ -30,8 +31,9 @@ export class Statements extends Expressions {
     validate(node, (what, part, hint) => this.refuse(what, part, hint));
     const rows = this.comments(comments);
     const hashbang = this.hashbang(node);
-    const directives = this.directives(node.body);
-    const statements = this.statements(node.body);
+    const nodes = this.bodyOf(node);
+    const directives = this.directives(nodes);
+    const statements = this.statements(nodes);
     // Comments behind the last token belong to the text's end, where some trees don't end.
     const place = comments.length > 0 ? { start: startOf(node), end: this.source.length } : node;
     const source = hasSource ? this.source?.toWellFormed() : undefined;
@@ -99,7 +101,7 @@ export class Statements extends Expressions {
         if (typeof node.directive === "string") this.refuse("a directive that doesn't stand at the front of a body", node);
         return this.add(forms.EXPRESSION_STATEMENT, node, this.expression(node.expression));
       case "BlockStatement":
-        return this.add(forms.BLOCK, node, this.several(node.body, this.statement));
+        return this.add(forms.BLOCK, node, this.several(this.bodyOf(node), this.statement));
       case "IfStatement":
         return this.add(
           forms.IF, node,
@@ -230,7 +232,7 @@ export class Statements extends Expressions {
     const { attributes, assertions } = node;
     const written = this.textBetween({ start: endOf(node.source) }, { start: endOf(node) });
     const isAssert = assertions?.length > 0 || node.extra?.deprecatedAssertSyntax || /^\s*assert\s*\{/.test(written);
-    if (isAssert) this.refuse(`the keyword assert of ${node.type}`, node);
+    if (isAssert) this.refuse(`the keyword assert of ${nodeOf(node).type}`, node);
     const isGiven = attributes?.length > 0 || written.includes("{");
     return isGiven ? this.add(forms.WITH, null, WITH, this.several(attributes ?? [], this.attribute)) : 0;
   }

@@ -2,15 +2,8 @@
 import { FLAG, HOLES, LIST, NODE, NOTE, TEXT, VALUE, membersOf } from "./members.mjs";
 import { MalformedTree, wayTo } from "./refusals.mjs";
 
-// The types that Babel gives without its plugin `estree`, beside those that ESTree has too.
-const OF_BABEL = new Set([
-  "StringLiteral", "NumericLiteral", "BooleanLiteral", "NullLiteral", "RegExpLiteral", "BigIntLiteral", "DecimalLiteral", "Directive", "DirectiveLiteral",
-  "ObjectMethod", "ObjectProperty", "ClassMethod", "ClassPrivateMethod", "ClassProperty", "ClassPrivateProperty", "PrivateName", "Import",
-  "OptionalMemberExpression", "OptionalCallExpression", "ExportNamespaceSpecifier",
-]);
 const { hasOwnProperty } = Object.prototype;
 const SCRIPT = 'ask the parser for sourceType: "module", since the default of acorn and espree is a script';
-const BABEL = 'the tree is of Babel\'s own kind; its plugin ["estree", { classFeatures: true }] makes an ESTree tree';
 
 /**
  * Validates a program. `refuse(what, node, hint)` is called for a type or a member that isn't read, and throws. Throws a
@@ -47,7 +40,7 @@ class Validator {
   // It is called for each node of a large tree, with the members of its type. A loop over the names itself is the fastest way to the values;
   // names that a node inherits come last in it.
   node(node, members) {
-    if (members === undefined) this.refuse(node.type, node, OF_BABEL.has(node.type) ? BABEL : "");
+    if (members === undefined) this.refuse(node.type, node, "");
     let look = members.first;
     for (const name in node) {
       if (!hasOwnProperty.call(node, name)) break;
@@ -91,7 +84,7 @@ class Validator {
 
   unknown(node, name, value) {
     if (!isGiven(value)) return;
-    this.refuse(`${name} of ${node.type}`, node, name === "directives" ? BABEL : "");
+    this.refuse(`${name} of ${node.type}`, node, "");
   }
 
   child(node, name, value, { areAllowed }) {

@@ -147,8 +147,8 @@ export class Walk {
   // ---- names
 
   // A name that is printed as it is.
-  ownName(form, node) {
-    return this.add(form, node, this.text(form, node, "name", node.name));
+  ownName(form, node, name = node.name) {
+    return this.add(form, node, this.text(form, node, "name", name));
   }
 
   // A name that is in the tables of new names, where there are any: in `table` by its number, which the field of that name holds.

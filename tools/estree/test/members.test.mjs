@@ -168,15 +168,7 @@ test("the options of import() are those of either member, and not two", () => {
   assert.throws(() => options({ options: NAME, attributes: { ...NAME } }), /^TypeError: program\.body\[0\]\.expression has options and other attributes$/);
 });
 
-test("a tree of Babel's own kind, and a script, say how the parser is to be called", () => {
-  const babel = /: the tree is of Babel's own kind; its plugin \["estree", \{ classFeatures: true \}\] makes an ESTree tree$/;
-  const kinds = [
-    "StringLiteral", "NumericLiteral", "BooleanLiteral", "NullLiteral", "RegExpLiteral", "BigIntLiteral", "ObjectMethod", "ObjectProperty",
-    "ClassMethod", "ClassPrivateMethod", "ClassProperty", "ClassPrivateProperty", "PrivateName", "Import", "OptionalCallExpression",
-  ];
-  for (const type of kinds) assert.match(refusedBy("a", (node) => (node.expression = { type })), babel);
-  assert.match(refusedBy("a", (node, program) => (program.directives = [{ type: "Directive" }])), babel);
-  assert.doesNotMatch(refusedBy("a", (node) => (node.expression = { type: "JSXElement" })), babel);
+test("a script says how the parser is to be called", () => {
   const script = "a script at 0 is not read yet: ask the parser for sourceType: \"module\", since the default of acorn and espree is a script";
   assert.equal(refusedBy("a", (node, program) => (program.sourceType = "script")), script);
   assert.match(refusedBy("a", (node, program) => (program.sourceType = "commonjs")), /^sourceType commonjs of Program at 0 is not read yet: ask /);

@@ -1,5 +1,5 @@
-// The trees of acorn, of espree (Debian's node-espree) and of Babel's parser with its plugin `estree` (node-babel7) give the same jobs
-// and the same text, over the sources of d3 (node-d3) and lodash-es (node-lodash). Where a package isn't there its test is skipped.
+// The trees of acorn, of espree (Debian's node-espree) and of Babel's parser, with its plugin `estree` and without (node-babel7), give the same
+// jobs and the same text, over the sources of d3 (node-d3) and lodash-es (node-lodash). Where a package isn't there its test is skipped.
 import assert from "node:assert/strict";
 import { spawnSync } from "node:child_process";
 import { existsSync, readFileSync, readdirSync } from "node:fs";
@@ -24,7 +24,8 @@ const babel = packageOrNull("@babel/parser");
 
 const PARSERS = {
   espree: espree && ((text) => espree.parse(text, { ecmaVersion: "latest", sourceType: "module", comment: true, tokens: true, loc: true, range: true })),
-  "@babel/parser": babel && ((text) => babel.parse(text, { sourceType: "module", tokens: true, ranges: true, plugins: [["estree", { classFeatures: true }]] })),
+  "@babel/parser with its plugin estree": babel && ((text) => babel.parse(text, { sourceType: "module", tokens: true, ranges: true, plugins: [["estree", { classFeatures: true }]] })),
+  "@babel/parser": babel && ((text) => babel.parse(text, { sourceType: "module", tokens: true, ranges: true })),
 };
 
 function foldersOf(library) {
@@ -72,17 +73,6 @@ for (const [name, parse] of Object.entries(PARSERS)) {
     assert.equal(jobText(parse(SOURCE), { spans: false }), jobText(parsed(SOURCE), { spans: false }));
   });
 }
-
-test("Babel's own trees say how its parser is to be called", { skip: !babel && "@babel/parser isn't there" }, () => {
-  const hint = /: the tree is of Babel's own kind; its plugin \["estree", \{ classFeatures: true \}\] makes an ESTree tree$/;
-  const refused = [
-    "'use client'", "a = 'b'", "a = 1", "a = true", "a = null", "a = /b/", "a = 1n", "({ a })", "({ a() {} })", "class A { a() {} }", "class A { a }",
-    "class A { #a }", "import('a')", "a?.b", "a?.()", "import 'a'", "export * as a from 'b'", "function f() { 'use strict' }",
-  ];
-  for (const source of refused) assert.throws(() => jobOf(babel.parse(source, { sourceType: "module" }), { source }), hint, source);
-  const [own, withPlugin] = [{}, { plugins: ["estree"] }].map((options) => babel.parse("f(a, b)", { sourceType: "module", ...options }));
-  assert.deepEqual(jobOf(own), jobOf(withPlugin));
-});
 
 test("what Babel's plugins read is refused by its place", { skip: !babel && "@babel/parser isn't there" }, () => {
   const refusalOf = (source, ...plugins) => {
