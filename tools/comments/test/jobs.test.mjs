@@ -7,6 +7,7 @@ import { join } from "node:path";
 import { after, test } from "node:test";
 import { fileURLToPath } from "node:url";
 import { parsed } from "../../estree/parser.mjs";
+import { decoded } from "../../flat/decode.mjs";
 
 const folder = mkdtempSync(join(tmpdir(), "jsgen-"));
 after(() => rmSync(folder, { recursive: true }));
@@ -19,7 +20,7 @@ const { addon } = await import("../../../bindings/node/lib/printer.mjs");
 const skip = addon !== null && "the addon prints, not the program";
 
 const SOURCE = "/*! é */\na; // b";
-const given = (word) => JSON.parse(readFileSync(join(folder, word), "utf8"));
+const given = (word) => decoded(readFileSync(join(folder, word)));
 
 // The options of the job, and how many comments it has.
 function jobFor(tree, settings) {
